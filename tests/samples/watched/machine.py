@@ -1,6 +1,8 @@
 """A machine of namespaces whose process 1 is a systemd of its own, with the counter, nginx, copies, an archive, node exporter and Prometheus: for tests/samples/watching.
 
 Its root lies in memory and has this machine's /usr. Nothing outside is touched but a cgroup, loop devices and a folder, which are gone at the end."""
+from __future__ import annotations
+
 import ctypes
 import os
 import shutil
@@ -8,6 +10,7 @@ import stat
 import subprocess
 import sys
 import time
+from typing import Any, NoReturn
 
 HERE = os.path.dirname(os.path.abspath(__file__))
 TOP = os.path.join(HERE, "..", "..", "..")
@@ -23,11 +26,11 @@ DEVICES = ["null", "zero", "full", "random", "urandom", "tty"]
 CLONE_NEWNET = 0x40000000
 
 
-def run(*words, **more):
+def run(*words: str, **more: Any) -> subprocess.CompletedProcess[str]:
     return subprocess.run(words, stdout=subprocess.PIPE, stderr=subprocess.STDOUT, text=True, **more)
 
 
-def done(*words):
+def done(*words: str) -> str:
     ran = run(*words)
     if ran.returncode != 0:
         sys.exit(f"WRONG: {' '.join(words)} ended with status {ran.returncode}\n{ran.stdout}")
@@ -37,7 +40,7 @@ def done(*words):
 # ---- within the namespaces, until systemd is process 1
 
 
-def make_root(root, program, folder):
+def make_root(root: str, program: str, folder: str) -> None:
     done("mount", "--make-rprivate", "/")
     done("mount", "-t", "tmpfs", "-o", "mode=755", "root", root)
     for path in FOLDERS:
@@ -61,7 +64,7 @@ def make_root(root, program, folder):
         done("mount", "--bind", os.path.join(TOP, name), f"{root}/root/{name}")
 
 
-def mount_kernel(root):
+def mount_kernel(root: str) -> None:
     done("mount", "-t", "proc", "proc", f"{root}/proc")
     done("mount", "-t", "sysfs", "sysfs", f"{root}/sys")
     done("mount", "-t", "cgroup2", "cgroup2", f"{root}/sys/fs/cgroup")
@@ -78,7 +81,7 @@ def mount_kernel(root):
     os.symlink("pts/ptmx", f"{root}/dev/ptmx")
 
 
-def mount_disks(root, folder):
+def mount_disks(root: str, folder: str) -> None:
     """The disks of samples/snapshots/README.md, and small ones for the archive, its second folder and the log of requests."""
     for name in ("books", "copies"):
         with open(f"{folder}/{name}.disk", "w", encoding="ascii") as disk:
@@ -94,7 +97,7 @@ def mount_disks(root, folder):
         done("mount", "-t", "tmpfs", "-o", "size=64m,mode=755", name, f"{root}/srv/{name}")
 
 
-def inside(program, folder):
+def inside(program: str, folder: str) -> None:
     root = f"{folder}/root"
     make_root(root, program, folder)
     done("ip", "link", "set", "lo", "up")
@@ -113,7 +116,7 @@ def inside(program, folder):
 class Machine:
     """The machine while it runs. `on` runs words in it, and `follow` a line that has to succeed."""
 
-    def __init__(self, program, folder):
+    def __init__(self, program: str, folder: str) -> None:
         self.group, self.told = make_group(), f"{folder}/told"
         os.mkdir(f"{folder}/root")
         words = ["unshare", "--mount", "--pid", "--fork", "--uts", "--ipc", "--net", "--cgroup", "--kill-child", sys.executable, os.path.abspath(__file__), program, folder]
@@ -127,11 +130,11 @@ class Machine:
             raise
         self.root = f"/proc/{self.process}/root"
 
-    def fail(self, what):
+    def fail(self, what: str) -> NoReturn:
         with open(self.told, encoding="utf-8") as told:
             sys.exit(f"WRONG: {what}\n{told.read()}")
 
-    def first_process(self):
+    def first_process(self) -> int:
         children = f"/proc/{self.outer.pid}/task/{self.outer.pid}/children"
         for _ in range(300):
             if self.outer.poll() is not None:
@@ -143,36 +146,36 @@ class Machine:
             time.sleep(0.1)
         self.fail("systemd didn't become process 1")
 
-    def wait_until_up(self):
+    def wait_until_up(self) -> None:
         for _ in range(600):
             if self.on("systemctl", "is-system-running").stdout.strip() in ("running", "degraded"):
                 return
             time.sleep(0.1)
         self.fail("systemd doesn't come up")
 
-    def on(self, *words, **more):
+    def on(self, *words: str, **more: Any) -> subprocess.CompletedProcess[str]:
         return run("nsenter", "-t", str(self.process), "--mount", "--pid", "--net", "--uts", "--ipc", "--cgroup", "--root", "--wd", *words, **more)
 
-    def follow(self, line):
+    def follow(self, line: str) -> str:
         ran = self.on("sh", "-c", f"cd /root && {line}")
         if ran.returncode != 0:
             sys.exit(f"WRONG: {line} ended with status {ran.returncode}\n{ran.stdout}")
         return ran.stdout
 
-    def enter_network(self):
+    def enter_network(self) -> None:
         """This process goes into the machine's network."""
         handle = os.open(f"/proc/{self.process}/ns/net", os.O_RDONLY)
         if ctypes.CDLL(None, use_errno=True).setns(handle, CLONE_NEWNET) != 0:
             sys.exit("the machine's network can't be entered")
         os.close(handle)
 
-    def end(self):
+    def end(self) -> None:
         self.outer.kill()
         self.outer.wait()
         remove_group(self.group)
 
 
-def make_group():
+def make_group() -> str:
     with open("/proc/mounts", encoding="utf-8") as mounts:
         top = next((line.split()[1] for line in mounts if line.split()[2] == "cgroup2"), None)
     if top is None:
@@ -182,7 +185,7 @@ def make_group():
     return group
 
 
-def remove_group(group):
+def remove_group(group: str) -> None:
     for _ in range(100):
         for path, _, _ in os.walk(group, topdown=False):
             try:

@@ -1,4 +1,6 @@
 """The metrics of logs: each line counted once through rotations and kills, the figures by hand, no customer or serial number: for tests/samples/watching."""
+from __future__ import annotations
+
 import gzip
 import json
 import os
@@ -10,6 +12,7 @@ import threading
 import time
 
 from counter_calls import right
+from world import World
 
 #: A log as samples/nginx writes it for restoring, with customers and serial numbers in it; what it has to give is counted by hand below.
 ENTRIES = [
@@ -50,34 +53,34 @@ PRIVATE = ("123456789", "987654321", "L7777", "K8888", "M9999", "7777", "8888", 
 class Watched:
     """A log, and the metrics of it."""
 
-    def __init__(self, watch, folder):
+    def __init__(self, watch: str, folder: str) -> None:
         self.program, self.folder = os.path.join(watch, "metrics"), folder
         shutil.rmtree(folder, ignore_errors=True)
         os.makedirs(folder)
         self.log, self.prom, self.state = f"{folder}/x.log", f"{folder}/x.prom", f"{folder}/state.json"
 
-    def words(self, program=None):
+    def words(self, program: str | None = None) -> list[str]:
         return [sys.executable, program or self.program, "--to", self.prom, "--state", self.state, "--log", self.log]
 
-    def run(self, program=None):
+    def run(self, program: str | None = None) -> dict[str, float]:
         ran = subprocess.run(self.words(program), stdout=subprocess.PIPE, stderr=subprocess.STDOUT, text=True)
         if ran.returncode != 0:
             sys.exit(f"WRONG: metrics ended with status {ran.returncode}\n{ran.stdout}")
         return self.read()
 
-    def read(self):
+    def read(self) -> dict[str, float]:
         with open(self.prom, encoding="utf-8") as file:
             return {name: float(value) for name, value in (line.rstrip("\n").rsplit(" ", 1) for line in file if not line.startswith("#"))}
 
-    def requests(self, program=None):
+    def requests(self, program: str | None = None) -> float:
         return sum(value for name, value in self.run(program).items() if name.startswith("ladwenpik_requests_total"))
 
 
-def line_of(route, status, body, reply, at):
+def line_of(route: str, status: str, body: str, reply: str, at: float) -> str:
     return json.dumps({"time": "x", "entry": "y", "user": "anna", "address": "10.0.0.5", "route": route, "status": status, "counter": status, "at": f"{at:.3f}", "body": body, "reply": reply}, separators=(",", ":")) + "\n"
 
 
-def by_hand(watch, folder):
+def by_hand(watch: str, folder: str) -> None:
     one = Watched(watch, folder)
     with open(one.log, "w", encoding="utf-8") as file:
         file.writelines(line_of(*entry, 1328523300 + at) for at, entry in enumerate(ENTRIES))
@@ -92,7 +95,7 @@ def by_hand(watch, folder):
     right(one.run() == {**found, **{name: value for name, value in one.read().items() if "_watch_" in name}}, "a second run counts nothing twice")
 
 
-def nested(watch, folder):
+def nested(watch: str, folder: str) -> None:
     """A body, a line and an archive's end.json that are nested 100,000 deep."""
     deep, copy = "[" * 100_000, f"{folder}-broken"
     lines = {"a body": line_of("/bonds", "400", deep, '{"code":64,"fault":"BadJson"}', time.time()), "a line": '{"status":' + deep + "\n"}
@@ -113,7 +116,7 @@ def nested(watch, folder):
     shutil.rmtree(copy)
 
 
-def read_behind(files, folder, line):
+def read_behind(files: str, folder: str, line: str) -> tuple[float, float, int]:
     """Whether the log could be read, how many requests were counted, and how `page` ended, over this line and an entry behind it."""
     one = Watched(files, folder)
     with open(one.log, "w", encoding="utf-8") as file:
@@ -123,7 +126,7 @@ def read_behind(files, folder, line):
     return found['ladwenpik_source_read{source="log"}'], sum(value for name, value in found.items() if name.startswith("ladwenpik_requests_total")), page.returncode
 
 
-def changed(path, old, new):
+def changed(path: str, old: str, new: str) -> None:
     """Puts another text in the place of one that has to be in the file."""
     with open(path, encoding="utf-8") as file:
         text = file.read()
@@ -135,16 +138,16 @@ def changed(path, old, new):
 class Writer:
     """Writes entries, and rotates the log in one of three ways."""
 
-    def __init__(self, one, chance):
+    def __init__(self, one: Watched, chance: random.Random) -> None:
         self.one, self.chance, self.written = one, chance, 0
 
-    def write(self, count):
+    def write(self, count: int) -> None:
         with open(self.one.log, "a", encoding="utf-8") as file:
             for _ in range(count):
                 self.written += 1
                 file.write(line_of("/redeem", "200", json.dumps({"number": self.written}), "", 1328523300 + self.written))
 
-    def rotate(self):
+    def rotate(self) -> None:
         log, way = self.one.log, self.chance.choice(["rename", "truncate", "pack"])
         for nth in range(5, 0, -1):
             for end in ("", ".gz"):
@@ -163,7 +166,7 @@ class Writer:
             os.unlink(f"{log}.1")
 
 
-def rotations(watch, folder, chance, turns=60):
+def rotations(watch: str, folder: str, chance: random.Random, turns: int = 60) -> None:
     """Entries, rotations, runs and killed runs by chance; in the end each entry was counted once."""
     one = Watched(watch, folder)
     writer, kills, rotated, since = Writer(one, chance), 0, 0, 0
@@ -192,7 +195,7 @@ def rotations(watch, folder, chance, turns=60):
     right(one.requests() == writer.written and one.read()["ladwenpik_log_gaps_total"] == 1, "a rotated file that is gone before it was read is told as a gap")
 
 
-def broken(watch, folder, chance):
+def broken(watch: str, folder: str, chance: random.Random) -> None:
     """Control: a follower that takes no notice of rotated files miscounts."""
     copy = f"{folder}-broken"
     shutil.copytree(watch, copy)
@@ -209,7 +212,7 @@ def broken(watch, folder, chance):
     shutil.rmtree(copy)
 
 
-def check(watch, folder):
+def check(watch: str, folder: str) -> None:
     chance = random.Random(54)
     by_hand(watch, f"{folder}/log")
     nested(watch, f"{folder}/log")
@@ -220,14 +223,14 @@ def check(watch, folder):
 # ---- through nginx
 
 
-def private_logs(world):
+def private_logs(world: World) -> None:
     """By the commands of the pages, nginx's logs can be read by root and adm alone."""
     logs = ["/var/log/nginx/counter.log", "/var/log/nginx/counter-watch.log", "/srv/requests/requests.log"]
     found = world.machine.follow(f"stat -c '%U:%G %a' {' '.join(logs)}").splitlines()
     right(found == ["root:adm 640"] * 3, "nginx's logs can be read by root and adm alone", found)
 
 
-def null_desk(world):
+def null_desk(world: World) -> None:
     """A desk of null is desk 0: the same request with desk 0 is a retry."""
     request, retries = {**world.redemption(world.bond, world.today), "desk": None}, 'ladwenpik_retries_total{route="/redeem"}'
     world.bond += 1
@@ -241,17 +244,17 @@ def null_desk(world):
     right(logged == "2", "and nginx's log for watching has desk 0 for both", logged)
 
 
-def through_nginx(world):
+def through_nginx(world: World) -> None:
     private_logs(world)
     null_desk(world)
     rotated_by_nginx(world)
 
 
-def rotated_by_nginx(world):
+def rotated_by_nginx(world: World) -> None:
     """nginx's own log is rotated three times while clients ask: each request is counted once, and the store is opened by nobody."""
     log, done = "/var/log/nginx/counter-watch.log", threading.Event()
 
-    def rotate():
+    def rotate() -> None:
         while not done.wait(2):
             world.machine.on("sh", "-c", f"for n in 4 3 2 1; do [ -e {log}.$n ] && mv {log}.$n {log}.$((n + 1)); done; mv {log} {log}.1; nginx -s reopen")
 

@@ -1,4 +1,6 @@
 """The rules by promtool and broken ones beside them, the dashboard's queries over a real Prometheus, and the page: for tests/samples/watching."""
+from __future__ import annotations
+
 import html.parser
 import json
 import os
@@ -8,7 +10,8 @@ import subprocess
 import sys
 import tempfile
 
-from counter_calls import right
+from counter_calls import matched, right
+from world import World
 
 
 #: A test of the alert of a host that is gone, by hours.
@@ -27,14 +30,14 @@ tests:
 """.replace("FIRING", 'ALERTS{alertname="LadwenpikHostGone", alertstate="firing"}')
 
 
-def promtool(*words):
+def promtool(*words: str) -> subprocess.CompletedProcess[str]:
     return subprocess.run(["promtool", *words], stdout=subprocess.PIPE, stderr=subprocess.STDOUT, text=True)
 
 
 # ---- rules
 
 
-def rules(watch):
+def rules(watch: str) -> None:
     """promtool accepts the rules and their tests. A rule whose comparison is turned round, that waits for hours, or that takes two hosts for one, fails the tests."""
     ran = promtool("check", "rules", f"{watch}/alerts.yml")
     right(ran.returncode == 0, "promtool accepts the rules", ran.stdout)
@@ -52,17 +55,17 @@ def rules(watch):
     right(not missed, f"control: of {sum(len(mutants(block)) for block in blocks[1:])} broken rules the tests find each", missed)
 
 
-def name_of(block):
-    return re.search("alert: Ladwenpik(.*)", block)[1]
+def name_of(block: str) -> str:
+    return matched("alert: Ladwenpik(.*)", block)[1]
 
 
-def of_alert(tests, name):
+def of_alert(tests: str, name: str) -> str:
     """The file of tests with those of one alert alone."""
     head, *parts = re.split(r"(?=- name: )", tests)
     return head + "".join(part for part in parts if part.startswith(f'- name: "{name}: '))
 
 
-def mutants(block):
+def mutants(block: str) -> list[tuple[str, str]]:
     """Broken rules of one: a comparison turned round, a wait of hours, hosts that are taken for one."""
     head, end = block.split("    labels:", 1)
     turned = re.sub(r" (>=?|<|==|unless) ", lambda sign: {">": " <= ", ">=": " < ", "<": " >= ", "==": " != ", "unless": " and "}[sign[1]], head, count=1)
@@ -73,7 +76,7 @@ def mutants(block):
     return [(what, other + "    labels:" + end) for what, other in found]
 
 
-def passes(text, tests):
+def passes(text: str, tests: str) -> bool:
     folder = tempfile.mkdtemp()
     for name, content in (("alerts.yml", text), ("alerts_test.yml", tests)):
         with open(f"{folder}/{name}", "w", encoding="utf-8") as file:
@@ -86,7 +89,7 @@ def passes(text, tests):
 # ---- the dashboard
 
 
-def dashboard(world, path):
+def dashboard(world: World, path: str) -> None:
     """Its structure as Grafana's import wants it, and data for each query."""
     with open(path, encoding="utf-8") as file:
         board = json.load(file)
@@ -101,7 +104,7 @@ def dashboard(world, path):
     right(not has_data(world, "ladwenpik_no_such_metric"), "control: a metric that isn't there has none")
 
 
-def has_data(world, expression):
+def has_data(world: World, expression: str) -> bool:
     return any(item["value"][1] != "NaN" for item in world.query(expression))
 
 
@@ -111,29 +114,32 @@ def has_data(world, expression):
 class Page(html.parser.HTMLParser):
     """The elements of a page that are counted: open ones are named to see that each is closed."""
 
-    def __init__(self):
+    def __init__(self) -> None:
         super().__init__()
-        self.open, self.pictures, self.tables, self.ids, self.labels = [], 0, 0, [], []
+        self.open: list[str] = []
+        self.ids: list[str | None] = []
+        self.labels: list[str] = []
+        self.pictures, self.tables = 0, 0
 
-    def handle_starttag(self, tag, attrs):
+    def handle_starttag(self, tag: str, attrs: list[tuple[str, str | None]]) -> None:
         named = dict(attrs)
         self.ids += [named["id"]] if "id" in named else []
         self.pictures += tag == "svg"
         self.tables += tag == "table"
         if tag == "svg":
-            self.labels.append(named.get("aria-label", "") if named.get("role") == "img" else "")
+            self.labels.append(named.get("aria-label") or "" if named.get("role") == "img" else "")
         if tag != "meta":
             self.open.append(tag)
 
-    def handle_startendtag(self, tag, attrs):
+    def handle_startendtag(self, tag: str, attrs: list[tuple[str, str | None]]) -> None:
         pass
 
-    def handle_endtag(self, tag):
+    def handle_endtag(self, tag: str) -> None:
         if not self.open or self.open.pop() != tag:
             sys.exit(f"WRONG: the page's element {tag} isn't closed where it was opened")
 
 
-def page(world, keep):
+def page(world: World, keep: str | None) -> None:
     """Made on the machine, by the log and the snapshot; its figures are those of the books."""
     m = world.machine
     m.follow("/opt/counter/watch/page --to /tmp/counter.html --log /var/log/nginx/counter-watch.log --snapshots /srv/counter/snapshots")
@@ -152,7 +158,7 @@ def page(world, keep):
             shutil.copy(f"{m.root}/{name}", keep)
 
 
-def with_data(world, watch, keep):
+def with_data(world: World, watch: str, keep: str | None) -> None:
     world.watched()
     with open(f"{world.machine.root}/var/lib/counter-watch/counter.prom", encoding="utf-8") as file:
         ran = subprocess.run(["promtool", "check", "metrics"], stdin=file, stdout=subprocess.PIPE, stderr=subprocess.STDOUT, text=True)

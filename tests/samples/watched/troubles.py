@@ -1,25 +1,33 @@
 """Troubles for the alerts of samples/watch/alerts.yml: a generator that makes one, waits until its alert fires, and mends it."""
+from __future__ import annotations
+
 import contextlib
 import datetime
 import threading
 import time
+from typing import Callable, Iterator
 
 from counter_calls import right
-from world import STORE
+from machine import Machine
+from world import STORE, World
 
-TROUBLES = {}
+#: Makes a trouble, waits until its alert fires, and mends it.
+Making = Callable[[World], Iterator[None]]
+
+#: Each trouble, and the other alerts that may fire too.
+TROUBLES: dict[str, tuple[Making, set[str]]] = {}
 NEW = "/var/lib/new"
 
 
-def trouble(alert, *companions):
+def trouble(alert: str, *companions: str) -> Callable[[Making], Making]:
     """Registers a trouble under its alert, `ALERT: WHAT` for a further one, with the other alerts that may fire too since the trouble is theirs as well."""
-    def register(make):
+    def register(make: Making) -> Making:
         TROUBLES[alert] = (make, set(companions))
         return make
     return register
 
 
-def day_after(days):
+def day_after(days: int) -> str:
     return (datetime.date.today() + datetime.timedelta(days)).isoformat()
 
 
@@ -27,7 +35,7 @@ def day_after(days):
 
 
 @trouble("DayLeftOpen")
-def day_left_open(w):
+def day_left_open(w: World) -> Iterator[None]:
     w.open_day(day_after(-3))
     yield
     w.close_day(day_after(-3))
@@ -35,14 +43,14 @@ def day_left_open(w):
 
 
 @trouble("DayNearlyFull")
-def day_nearly_full(w):
+def day_nearly_full(w: World) -> Iterator[None]:
     w.watched()
     w.pay(900 - w.paid_today(), w.today)
     yield
 
 
 @trouble("DayFull", "DayNearlyFull")
-def day_full(w):
+def day_full(w: World) -> Iterator[None]:
     w.watched()
     w.pay(1000 - w.paid_today(), w.today)
     w.ask("POST", "/redeem", w.redemption(w.bond, w.today))
@@ -53,7 +61,7 @@ def day_full(w):
 
 
 @trouble("DayInFuture")
-def day_in_future(w):
+def day_in_future(w: World) -> Iterator[None]:
     w.close_day(w.today)
     w.open_day(day_after(365))
     yield
@@ -63,14 +71,14 @@ def day_in_future(w):
 
 
 @trouble("ManyRefusals")
-def many_refusals(w):
+def many_refusals(w: World) -> Iterator[None]:
     for _ in range(40):
         w.ask("POST", "/redeem", {"desk": 1, "number": w.next_number(), "day": w.today, "payee": 7, "serials": ["Z999EE"]})
     yield
 
 
 @trouble("NumberReused")
-def number_reused(w):
+def number_reused(w: World) -> Iterator[None]:
     first = w.redemption(0, w.today)
     for payee in (7, 8):
         w.ask("POST", "/redeem", {**first, "payee": payee})
@@ -78,14 +86,14 @@ def number_reused(w):
 
 
 @trouble("PaidAgain")
-def paid_again(w):
+def paid_again(w: World) -> Iterator[None]:
     for _ in range(10):
         w.ask("POST", "/redeem", w.redemption(0, w.today))
     yield
 
 
 @trouble("ManyRetries", "ManyRefusals")
-def many_retries(w):
+def many_retries(w: World) -> Iterator[None]:
     request = w.redemption(w.bond, w.today)
     w.bond += 1
     for _ in range(50):
@@ -93,7 +101,7 @@ def many_retries(w):
     yield
 
 
-def together(one, count):
+def together(one: Callable[[], object], count: int) -> None:
     """Runs a function in so many threads at once."""
     threads = [threading.Thread(target=one) for _ in range(count)]
     for thread in threads:
@@ -103,7 +111,7 @@ def together(one, count):
 
 
 @trouble("ManyForbidden")
-def many_forbidden(w):
+def many_forbidden(w: World) -> Iterator[None]:
     together(lambda: [w.ask("GET", "/ticket/1", user=None) for _ in range(10)], 20)
     yield
 
@@ -112,11 +120,11 @@ def many_forbidden(w):
 
 
 @contextlib.contextmanager
-def running(*loops):
+def running(*loops: Callable[[], object]) -> Iterator[None]:
     """Runs each function again and again beside this thread."""
     is_over = threading.Event()
 
-    def repeat(one):
+    def repeat(one: Callable[[], object]) -> None:
         while not is_over.is_set():
             with contextlib.suppress(OSError):
                 one()
@@ -133,9 +141,9 @@ def running(*loops):
 
 
 @trouble("Slow", "NotAnswering")
-def slow(w):
+def slow(w: World) -> Iterator[None]:
     """Beside payments, a client past nginx is silent for three seconds, again and again."""
-    def hold():
+    def hold() -> None:
         with w.connected():
             time.sleep(3)
 
@@ -144,7 +152,7 @@ def slow(w):
 
 
 @trouble("Queue", "NotAnswering", "ArchiveOld", "WatchOld", "Slow")
-def queue(w):
+def queue(w: World) -> Iterator[None]:
     with contextlib.ExitStack() as held:
         for _ in range(100):
             held.enter_context(w.connected())
@@ -153,7 +161,7 @@ def queue(w):
 
 
 @trouble("Queue: at the socket", "NotAnswering", "ArchiveOld", "WatchOld", "Slow", "Unanswered", "CertificateEnds")
-def queue_at_socket(w):
+def queue_at_socket(w: World) -> Iterator[None]:
     """The service behind the socket hangs, so connections wait there."""
     w.machine.follow("systemctl kill --signal=STOP counter-http.service")
     with contextlib.ExitStack() as held:
@@ -169,20 +177,20 @@ def queue_at_socket(w):
 # ---- the service
 
 
-def started(w):
+def started(w: World) -> None:
     w.machine.follow("systemctl start counter.service")
     w.wait_for_counter()
 
 
 @trouble("NotAnswering")
-def not_answering(w):
+def not_answering(w: World) -> Iterator[None]:
     w.machine.follow("systemctl stop counter.service")
     yield
     started(w)
 
 
 @trouble("NotAnswering: the socket")
-def no_socket(w):
+def no_socket(w: World) -> Iterator[None]:
     """The counter runs, and its socket is closed."""
     w.machine.follow("systemctl stop counter-http.socket")
     yield
@@ -191,7 +199,7 @@ def no_socket(w):
 
 
 @trouble("NotAnswering: nginx", "CertificateEnds")
-def no_nginx(w):
+def no_nginx(w: World) -> Iterator[None]:
     """The counter answers, and the check doesn't reach it."""
     w.machine.follow("systemctl stop nginx.service")
     yield
@@ -199,7 +207,7 @@ def no_nginx(w):
 
 
 @trouble("PortTaken")
-def port_taken(w):
+def port_taken(w: World) -> Iterator[None]:
     """A program of nobody listens where the counter did before it had a network of its own. It gets no request."""
     m = w.machine
     m.follow("systemd-run -q --unit stranger --uid nobody /usr/bin/python3 -u -m http.server --bind 127.0.0.1 8377")
@@ -210,7 +218,7 @@ def port_taken(w):
 
 
 @trouble("Unanswered", "NotAnswering")
-def unanswered(w):
+def unanswered(w: World) -> Iterator[None]:
     w.machine.follow("systemctl stop counter.service")
     for _ in range(20):
         w.ask("POST", "/redeem", {"desk": 2, "number": w.next_number(), "day": w.today, "payee": 7, "serials": ["Z997EE"]})
@@ -219,7 +227,7 @@ def unanswered(w):
 
 
 @trouble("Restarting", "NotAnswering")
-def restarting(w):
+def restarting(w: World) -> Iterator[None]:
     for _ in range(8):
         w.machine.follow("systemctl kill --signal=KILL counter.service")
         time.sleep(1.6)
@@ -228,7 +236,7 @@ def restarting(w):
 
 
 @trouble("UnitFailed", "NotAnswering", "ArchiveOld")
-def unit_failed(w):
+def unit_failed(w: World) -> Iterator[None]:
     """A store of an earlier moment in the place of the counter's: the guard refuses it, and systemd doesn't start it again."""
     m = w.machine
     m.follow(f"systemctl stop counter.service counter-archive.service; mkdir {NEW}; mv {STORE} {STORE}-wal {NEW}/")
@@ -243,14 +251,14 @@ def unit_failed(w):
 
 
 @trouble("DiskFull")
-def disk_full(w):
+def disk_full(w: World) -> Iterator[None]:
     w.machine.follow("dd if=/dev/zero of=/srv/archive/fill bs=1M count=59 2> /dev/null")
     yield
     w.machine.follow("rm /srv/archive/fill")
 
 
 @trouble("Unserved", "DiskFull", "SnapshotOld", "ArchiveOld", "NotAnswering", "WatchOld", "SourceUnread", "ManyRefusals")
-def unserved(w):
+def unserved(w: World) -> Iterator[None]:
     """The store's disk has no room: requests are answered 503."""
     m = w.machine
     m.on("sh", "-c", "dd if=/dev/zero of=/srv/counter/fill bs=64k; dd if=/dev/zero of=/srv/counter/more bs=1k; sync; dd if=/dev/zero of=/srv/counter/last bs=512")
@@ -270,22 +278,22 @@ def unserved(w):
     right(w.ask("POST", "/redeem", request)[0] == 200, "with room again, the request that was answered 503 is sent again, and acts")
 
 
-def wait_for_room(m):
+def wait_for_room(m: Machine) -> None:
     """Waits until btrfs has room for its own tables too: it gives the room of removed files back in the background, up to half a minute later."""
     room = "/srv/counter/snapshots/room"
     m.follow(f"for n in $(seq 120); do btrfs -q subvolume snapshot /var/lib/counter {room} && break; sleep 1; done; btrfs -q subvolume delete {room}")
 
 
-def away(m, path):
+def away(m: Machine, path: str) -> None:
     """Unmounts a disk, and keeps what is on it at another path."""
     m.follow(f"mount --bind {path} /mnt/away; umount -l {path}")
 
 
-def back(m, path):
+def back(m: Machine, path: str) -> None:
     m.follow(f"mount --bind /mnt/away {path}; umount /mnt/away")
 
 
-def sources_gone(w, wanted, seconds=60):
+def sources_gone(w: World, wanted: set[str], seconds: int = 60) -> set[str | None]:
     """What the alert `Gone` names, once it names these sources alone: a source of the trouble before may be named a while longer."""
     for _ in range(seconds * 2):
         if w.labels_of("Gone", "source") == wanted:
@@ -295,7 +303,7 @@ def sources_gone(w, wanted, seconds=60):
 
 
 @trouble("Gone")
-def archive_gone(w):
+def archive_gone(w: World) -> Iterator[None]:
     away(w.machine, "/srv/archive")
     yield
     wanted = {"archive /srv/archive/counter", "disk /srv/archive"}
@@ -305,7 +313,7 @@ def archive_gone(w):
 
 
 @trouble("Gone: the log of requests")
-def requests_gone(w):
+def requests_gone(w: World) -> Iterator[None]:
     """After its disk was unmounted nginx opens its logs anew, as each night: then the log lies on the disk below."""
     m = w.machine
     away(m, "/srv/requests")
@@ -318,7 +326,7 @@ def requests_gone(w):
 
 
 @trouble("Gone: the witness")
-def witness_gone(w):
+def witness_gone(w: World) -> Iterator[None]:
     w.drop_in("counter-witness.service", "zzz", "Environment=WITNESS=false")
     yield
     wanted = {"archive /run/counter-witness"}
@@ -328,8 +336,8 @@ def witness_gone(w):
 
 
 @trouble("RequestsLogBehind", "DiskFull")
-def requests_full(w):
-    def refused():
+def requests_full(w: World) -> Iterator[None]:
+    def refused() -> None:
         w.ask("POST", "/day/open", {"desk": 9, "number": 1, "day": w.today})
         time.sleep(1)
 
@@ -341,7 +349,7 @@ def requests_full(w):
 
 
 @trouble("CopyOld")
-def copy_old(w):
+def copy_old(w: World) -> Iterator[None]:
     earlier = (datetime.datetime.now(datetime.timezone.utc) - datetime.timedelta(hours=27)).strftime("%Y-%m-%dT%H-%M-%S")
     w.machine.follow(f"cd /srv/copies; for copy in 2*; do mv $copy {earlier}.000000001Z; done")
     yield
@@ -349,7 +357,7 @@ def copy_old(w):
 
 
 @trouble("CopyRefused")
-def copy_refused(w):
+def copy_refused(w: World) -> Iterator[None]:
     """A copy that doesn't open: here since the program that should open it is another."""
     w.machine.on("/opt/counter/snapshot_copy", "/var/lib/counter", "/srv/counter/snapshots", "/srv/copies", "30", "/bin/false")
     yield
@@ -357,14 +365,14 @@ def copy_refused(w):
 
 
 @trouble("ArchiveOld")
-def archive_old(w):
+def archive_old(w: World) -> Iterator[None]:
     w.machine.follow("systemctl stop counter-archive.service")
     yield
     w.machine.follow("systemctl start counter-archive.service")
 
 
 @trouble("ArchiveOld: its second folder")
-def second_folder_old(w):
+def second_folder_old(w: World) -> Iterator[None]:
     """The second folder can't be written. The archive itself goes on."""
     w.machine.follow("mount -o remount,ro /srv/elsewhere")
     yield
@@ -374,7 +382,7 @@ def second_folder_old(w):
 
 
 @trouble("LogLarge")
-def log_large(w):
+def log_large(w: World) -> Iterator[None]:
     """Files of another store are looked at, whose log is only large: the program's own was never seen above 1.4 MB."""
     m = w.machine
     starts = m.follow(f"mkdir -p {NEW}; chmod 755 {NEW}; truncate -s 20M {NEW}/day.db-wal; grep ^ExecStart= /etc/systemd/system/counter-watch.service")
@@ -388,7 +396,7 @@ def log_large(w):
 
 
 @trouble("ClockBack")
-def clock_back(w):
+def clock_back(w: World) -> Iterator[None]:
     w.drop_in("counter-watch.service", "clock", f"Environment=LD_PRELOAD={w.faketime} FAKETIME=+1h")
     time.sleep(6)
     w.drop_in("counter-watch.service", "clock")
@@ -396,21 +404,21 @@ def clock_back(w):
 
 
 @trouble("SnapshotOld", "ArchiveOld")
-def snapshot_old(w):
+def snapshot_old(w: World) -> Iterator[None]:
     w.machine.follow("mount --bind /srv/counter/snapshots /srv/counter/snapshots; mount -o remount,bind,ro /srv/counter/snapshots")
     yield
     w.machine.follow("umount /srv/counter/snapshots")
 
 
 @trouble("SourceUnread")
-def source_unread(w):
+def source_unread(w: World) -> Iterator[None]:
     w.machine.follow("chmod 700 /srv/copies")
     yield
     w.machine.follow("chmod 755 /srv/copies")
 
 
 @trouble("LogGap")
-def log_gap(w):
+def log_gap(w: World) -> Iterator[None]:
     m, log = w.machine, "/var/log/nginx/counter-watch.log"
     m.follow("systemctl stop counter-watch.timer")
     w.ask("GET", "/ticket/1")
@@ -421,14 +429,14 @@ def log_gap(w):
 
 
 @trouble("WatchOld", "SnapshotOld", "ArchiveOld")
-def watch_old(w):
+def watch_old(w: World) -> Iterator[None]:
     w.machine.follow("systemctl stop counter-watch.timer")
     yield
     w.machine.follow("systemctl start counter-watch.timer")
 
 
 @trouble("HostGone")
-def host_gone(w):
+def host_gone(w: World) -> Iterator[None]:
     w.machine.follow("systemctl stop second-exporter.service")
     yield
     gone = w.labels_of("HostGone", "instance")
@@ -439,20 +447,20 @@ def host_gone(w):
 # ---- nginx's certificate
 
 
-def new_certificate(w, days):
+def new_certificate(w: World, days: int) -> None:
     w.make_certificate(days)
     w.machine.follow("systemctl reload nginx.service")
 
 
 @trouble("CertificateEnds")
-def certificate_ends(w):
+def certificate_ends(w: World) -> Iterator[None]:
     new_certificate(w, 20)
     yield
     new_certificate(w, 60)
 
 
 @trouble("CertificateEnds: no days")
-def no_days(w):
+def no_days(w: World) -> Iterator[None]:
     """A check that sees no certificate."""
     w.drop_in("counter-watch.service", "probe", "Environment=PROBE=/bin/true")
     yield
@@ -460,7 +468,7 @@ def no_days(w):
 
 
 @trouble("CertificateEndsSoon", "CertificateEnds")
-def certificate_ends_soon(w):
+def certificate_ends_soon(w: World) -> Iterator[None]:
     new_certificate(w, 2)
     yield
     new_certificate(w, 60)

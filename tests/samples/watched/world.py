@@ -1,4 +1,6 @@
 """The counter on its machine, set up by the commands of the samples' pages, with a day of today open and a user of each group."""
+from __future__ import annotations
+
 import base64
 import contextlib
 import datetime
@@ -10,9 +12,10 @@ import ssl
 import time
 import urllib.parse
 import urllib.request
+from typing import Any, Iterator
 
-from counter_calls import bond, get, post, read_answer, right
-from machine import TOP
+from counter_calls import Answer, bond, get, post, read_answer, right
+from machine import TOP, Machine
 
 STORE = "/var/lib/counter/day.db"
 USERS = {"anna": "teller", "bert": "supervisor", "cleo": "office"}
@@ -27,7 +30,7 @@ scrape_configs:
 """
 
 
-def commands(page, nth):
+def commands(page: str, nth: int) -> list[str]:
     """Those of one block of a page of samples."""
     with open(os.path.join(TOP, "samples", page, "README.md"), encoding="utf-8") as file:
         lines = file.read().split("```\n")[2 * nth + 1].splitlines()
@@ -37,14 +40,14 @@ def commands(page, nth):
 class World:
     """The machine with the counter, and what its clients ask."""
 
-    def __init__(self, machine):
+    def __init__(self, machine: Machine) -> None:
         self.machine, self.number, self.today = machine, 0, datetime.date.today().isoformat()
         self.bond, self.socket = 0, f"{machine.root}/run/counter-http.sock"
         self.faketime = "/usr/lib/x86_64-linux-gnu/faketime/libfaketime.so.1"
 
     # ---- set up
 
-    def set_up(self):
+    def set_up(self) -> None:
         m = self.machine
         for line in commands("systemd", 0):
             if " import rates " in line or line.startswith("systemctl enable"):
@@ -62,7 +65,7 @@ class World:
         m.follow("systemctl start counter-copy.service")
         self.wait_for_nginx()
 
-    def make_store(self):
+    def make_store(self) -> None:
         """Rates and bonds, as the bank's first import brings them."""
         rates = [{"from": "2010-05", "rate": "2.00"}, {"from": "2010-11", "rate": "3.50"}]
         bonds = [post("/bonds", {"number": 2 + first // 500, "bonds": [bond(turn) for turn in range(first, min(first + 500, BONDS))]}, b"") for first in range(0, BONDS, 500)]
@@ -71,7 +74,7 @@ class World:
         made = self.machine.follow(f"setpriv --reuid counter --regid counter --clear-groups /opt/counter/ee_cli apply --db {STORE} < /tmp/first | grep -c '200 OK'")
         right(made.strip() == str(1 + len(bonds)), f"a store of {BONDS} bonds is made", made)
 
-    def set_up_archive(self):
+    def set_up_archive(self) -> None:
         """The archive, a second folder of it on a disk of its own, and a witness that has what is there."""
         m = self.machine
         for line in commands("restore", 0):
@@ -84,7 +87,7 @@ class World:
         self.drop_in("counter-witness.timer", "quick", "OnActiveSec=", "OnUnitInactiveSec=", "OnActiveSec=1", "OnUnitInactiveSec=2", "AccuracySec=50ms")
         m.follow("systemctl restart counter-archive.service counter.service; systemctl start counter-witness.timer")
 
-    def drop_in(self, unit, name, *lines):
+    def drop_in(self, unit: str, name: str, *lines: str) -> None:
         """Puts a drop-in beside a unit. Without lines it takes it away."""
         folder = f"/etc/systemd/system/{unit}.d"
         os.makedirs(f"{self.machine.root}{folder}", exist_ok=True)
@@ -92,11 +95,11 @@ class World:
             file.write("\n".join([f"[{'Timer' if unit.endswith('.timer') else 'Service'}]", *lines, ""]))
         self.machine.follow(f"{'' if lines else f'rm {folder}/{name}.conf; '}systemctl daemon-reload")
 
-    def make_certificate(self, days):
+    def make_certificate(self, days: int) -> None:
         names = "-subj /CN=counter.bank.example -addext subjectAltName=DNS:counter.bank.example"
         self.machine.follow(f"openssl req -x509 -newkey rsa:2048 -nodes -days {days} {names} -keyout /etc/counter/key.pem -out /etc/counter/certificate.pem")
 
-    def set_up_nginx(self):
+    def set_up_nginx(self) -> None:
         m = self.machine
         self.make_certificate(60)
         for name, group in USERS.items():
@@ -109,14 +112,14 @@ class World:
         for line in commands("nginx", requests):
             m.follow(line)
 
-    def watch_quickly(self, period):
+    def watch_quickly(self, period: str) -> None:
         """Metrics each two seconds and alerts by seconds, in the place of minutes."""
         self.drop_in("counter-watch.timer", "quick", "OnUnitActiveSec=", f"OnUnitActiveSec={period}", "AccuracySec=50ms")
         self.drop_in("counter-watch.service", "quick", "[Unit]", "StartLimitIntervalSec=0")
         # The empty setting takes away the first run after a boot too, and the others count from a first one.
         self.machine.follow("systemctl start counter-watch.service; systemctl restart counter-watch.timer")
 
-    def set_up_prometheus(self, rules):
+    def set_up_prometheus(self, rules: str) -> None:
         m = self.machine
         m.follow("mkdir -p /etc/prometheus /etc/default /var/lib/prometheus/node-exporter /var/lib/prometheus/metrics2")
         m.follow("touch /etc/default/prometheus; echo 'ARGS=\"--collector.disable-defaults --collector.textfile\"' > /etc/default/prometheus-node-exporter")
@@ -128,11 +131,11 @@ class World:
         self.start_second_exporter()
         self.wait_for_prometheus()
 
-    def start_second_exporter(self):
+    def start_second_exporter(self) -> None:
         """Stands for another host of the bank. It has the same metrics under another instance."""
         self.machine.follow("systemd-run -q --unit second-exporter prometheus-node-exporter --web.listen-address localhost:9101 --collector.disable-defaults --collector.textfile")
 
-    def wait_for_prometheus(self):
+    def wait_for_prometheus(self) -> None:
         """Waits until Prometheus has metrics of both hosts. It looks for its targets only 5 seconds after its start."""
         for _ in range(600):
             with contextlib.suppress(OSError):
@@ -143,7 +146,7 @@ class World:
 
     # ---- asking
 
-    def ask(self, method, path, value=None, user="anna", password=PASSWORD):
+    def ask(self, method: str, path: str, value: object = None, user: str | None = "anna", password: str = PASSWORD) -> Answer:
         """Status and body by nginx, as a client of the bank."""
         context = ssl.create_default_context(cafile=f"{self.machine.root}/etc/counter/certificate.pem")
         context.check_hostname = False
@@ -158,7 +161,8 @@ class World:
         finally:
             connection.close()
 
-    def wait_for_nginx(self):
+    def wait_for_nginx(self) -> None:
+        met: Answer | OSError | None = None
         for _ in range(300):
             try:
                 met = self.ask("GET", "/ticket/1")
@@ -169,56 +173,56 @@ class World:
             time.sleep(0.1)
         raise SystemExit(f"WRONG: nginx doesn't answer: {met}\n{self.machine.on('sh', '-c', 'tail -n 20 /var/log/nginx/error.log /etc/counter/groups; journalctl -n 10 --no-pager').stdout}")
 
-    def next_number(self):
+    def next_number(self) -> int:
         self.number += 1
         return self.number
 
-    def open_day(self, day):
+    def open_day(self, day: str) -> Answer:
         return self.ask("POST", "/day/open", {"desk": 9, "number": self.next_number(), "day": day}, "bert")
 
-    def close_day(self, day):
+    def close_day(self, day: str) -> Answer:
         return self.ask("POST", "/day/close", {"desk": 9, "number": self.next_number(), "day": day}, "bert")
 
-    def redemption(self, turn, day, payee=7):
+    def redemption(self, turn: int, day: str, payee: int = 7) -> dict[str, Any]:
         return {"desk": 1, "number": self.next_number(), "day": day, "payee": payee, "serials": [bond(turn)["serial"]]}
 
-    def pay(self, count, day):
+    def pay(self, count: int, day: str) -> None:
         """Pays the next bonds, one on a ticket, at the counter's own socket: quicker than by nginx."""
         for _ in range(count):
-            status, body = self.ask_counter(post("/redeem", self.redemption(self.bond, day)))
+            status, body = self.ask_counter(post("/redeem", self.redemption(self.bond, day))) or (0, "no answer")
             if status != 200:
                 raise SystemExit(f"WRONG: {body}")
             self.bond += 1
 
     @contextlib.contextmanager
-    def connected(self):
+    def connected(self) -> Iterator[socket.socket]:
         """A connection to the counter past nginx, as root."""
         with socket.socket(socket.AF_UNIX) as line:
             line.settimeout(60)
             line.connect(self.socket)
             yield line
 
-    def ask_counter(self, message):
+    def ask_counter(self, message: bytes) -> Answer | None:
         """Status and body, or None without an answer."""
         with contextlib.suppress(OSError), self.connected() as line:
             line.sendall(message)
             return read_answer(line)
         return None
 
-    def wait_for_counter(self):
+    def wait_for_counter(self) -> None:
         for _ in range(3000):
             if self.ask_counter(get("/ticket/1")) is not None:
                 return
             time.sleep(0.1)
         raise SystemExit("WRONG: the counter doesn't answer at its socket\n" + self.machine.on("systemctl", "status", "--no-pager", "counter.service", "counter-http.socket", "counter-http.service").stdout)
 
-    def paid_today(self):
+    def paid_today(self) -> int:
         """Tickets of the open day, as the snapshot's metric has them."""
         return int(self.metric("ladwenpik_open_day_tickets"))
 
     # ---- metrics and alerts
 
-    def metrics(self):
+    def metrics(self) -> dict[str, str]:
         """The metrics as they were written last, none before the first time: each sample's name with its labels, and its value."""
         path = f"{self.machine.root}/var/lib/counter-watch/counter.prom"
         if not os.path.exists(path):
@@ -226,13 +230,13 @@ class World:
         with open(path, encoding="utf-8") as file:
             return dict(line.rstrip("\n").rsplit(" ", 1) for line in file if not line.startswith("#"))
 
-    def metric(self, name):
+    def metric(self, name: str) -> float:
         return float(self.metrics().get(name, "nan"))
 
-    def sum_of(self, name):
+    def sum_of(self, name: str) -> float:
         return sum(float(value) for sample, value in self.metrics().items() if sample.partition("{")[0] == name)
 
-    def watched(self):
+    def watched(self) -> None:
         """Waits for metrics that were begun after now."""
         now = time.time()
         for _ in range(600):
@@ -241,27 +245,28 @@ class World:
             time.sleep(0.1)
         raise SystemExit("WRONG: no metrics are written\n" + self.machine.on("journalctl", "-o", "cat", "--no-pager", "-n", "30", "-u", "counter-watch.service").stdout)
 
-    def prometheus(self, path):
+    def prometheus(self, path: str) -> Any:
         with urllib.request.urlopen(f"http://127.0.0.1:9090/api/v1/{path}", timeout=30) as response:
             return json.load(response)["data"]
 
-    def firing(self):
+    def firing(self) -> set[str]:
         """The names of the alerts that fire."""
         return {alert["labels"]["alertname"].removeprefix("Ladwenpik") for alert in self.prometheus("alerts")["alerts"] if alert["state"] == "firing"}
 
-    def labels_of(self, alert, name):
+    def labels_of(self, alert: str, name: str) -> set[str | None]:
         """What a label of an alert says, of each one that fires."""
         return {found["labels"].get(name) for found in self.prometheus("alerts")["alerts"] if found["state"] == "firing" and found["labels"]["alertname"] == f"Ladwenpik{alert}"}
 
-    def state(self):
+    def state(self) -> str:
         """What is to be looked at if an alert doesn't fire."""
         shown = "\n".join(f"{name} {value}" for name, value in self.metrics().items() if float(value) != 0 and "_bucket" not in name)
         return shown + "\n" + self.machine.on("journalctl", "-o", "cat", "--no-pager", "-n", "12", "-u", "counter-watch.service").stdout
 
-    def query(self, expression):
-        return self.prometheus("query?" + urllib.parse.urlencode({"query": expression}))["result"]
+    def query(self, expression: str) -> list[dict[str, Any]]:
+        found: list[dict[str, Any]] = self.prometheus("query?" + urllib.parse.urlencode({"query": expression}))["result"]
+        return found
 
-    def opened_files(self):
+    def opened_files(self) -> list[str]:
         """What one more run of the metrics opens, by Python's own events."""
         hook = "import os, runpy, sys; sys.argv.pop(0); sys.path.insert(0, os.path.dirname(sys.argv[0])); sys.addaudithook(lambda event, words: event in ('open', 'sqlite3.connect') and print('OPENED', words[0])); runpy.run_path(sys.argv[0], run_name='__main__')"
         words = f"--to /tmp/more.prom --state /tmp/more.json --store {STORE} --snapshots /srv/counter/snapshots --copies /srv/copies --archive /srv/archive/counter --disk /var/lib/counter"
