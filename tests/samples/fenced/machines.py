@@ -1,6 +1,7 @@
 """A fresh Debian on which the first day of docs/INSTALL.md was done, and what asks its counter: users at addresses of their own, who pay."""
+from __future__ import annotations
+
 import argparse
-import collections
 import contextlib
 import ctypes
 import http.client
@@ -16,15 +17,18 @@ import tempfile
 import threading
 import time
 from pathlib import Path
+from typing import Callable, Generic, Iterable, Iterator, NamedTuple, Protocol, TypeVar
 
 HERE = Path(__file__).resolve().parent
 sys.path[:0] = [str(HERE.parent / "packages"), str(HERE.parent.parent / "shared")]
 
 import using  # noqa: E402
 from building import Release, TOP, section  # noqa: E402
-from counter_calls import right, wrong  # noqa: E402
+from counter_calls import Answer, piped, right, wrong  # noqa: E402
 from fresh import Fresh, bootstrap, done  # noqa: E402
 from nginx_sample import CLIENT, basic  # noqa: E402
+
+T = TypeVar("T")
 
 NAME = "counter.bank.example"
 DAY = "2012-02-06"
@@ -43,18 +47,18 @@ LIBRARY_FILES = ("libee_value.a", "libee_value.so.1")
 # The machine.
 
 
-def words_of(name, line, *more):
+def words_of(name: str, line: list[str], *more: str) -> argparse.Namespace:
     """Parses PROGRAM and the options that name a folder: --fresh, and those of `more`."""
     options = ("--fresh", *more)
     parser = argparse.ArgumentParser(usage=f"tests/samples/{name} PROGRAM {' '.join(f'[{option} FOLDER]' for option in options)}")
-    parser.add_argument("program", type=os.path.abspath)
+    parser.add_argument("program", type=lambda word: os.path.abspath(word))
     for option in options:
-        parser.add_argument(option, type=os.path.abspath)
+        parser.add_argument(option, type=lambda word: os.path.abspath(word))
     return parser.parse_args(line)
 
 
 @contextlib.contextmanager
-def own_folder(name):
+def own_folder(name: str) -> Iterator[Path]:
     """A folder, in memory if possible: packing waits for the disk at each sync."""
     folder = Path(tempfile.mkdtemp(prefix=f"{name}.", dir="/dev/shm" if os.path.isdir("/dev/shm") else None))
     os.environ["TMPDIR"] = str(folder)
@@ -64,7 +68,7 @@ def own_folder(name):
         shutil.rmtree(folder)
 
 
-def released(folder, program):
+def released(folder: Path, program: str) -> Release:
     """Builds the packages with this program. If the library of values isn't built, empty files take its place: it isn't installed here."""
     library = LIBRARY
     if not all((LIBRARY / name).exists() for name in LIBRARY_FILES):
@@ -76,7 +80,7 @@ def released(folder, program):
 
 
 @contextlib.contextmanager
-def first_day(folder, release, base, bonds):
+def first_day(folder: Path, release: Release, base: str | None, bonds: int) -> Iterator[Fresh]:
     """A machine after the trial of docs/INSTALL.md and its end, with bonds and an open day. `base` is a root of debootstrap; if it is None, one is made."""
     machine = Fresh(base or bootstrap(str(folder / "fresh")), tempfile.mkdtemp(dir=folder))
     try:
@@ -93,7 +97,7 @@ def first_day(folder, release, base, bonds):
         machine.end()
 
 
-def register(machine, bonds):
+def register(machine: Fresh, bonds: int) -> None:
     """Enters bonds B1EE, B2EE .. of customer 7."""
     office = User(machine, "cleo", Network(machine.process))
     for first in range(1, bonds + 1, MOST):
@@ -111,13 +115,13 @@ class Network:
 
     at, source = "127.0.0.1", "127.0.0.1"
 
-    def __init__(self, process):
+    def __init__(self, process: int) -> None:
         self.process = process
 
-    def words(self, *words):
+    def words(self, *words: str) -> list[str]:
         return ["nsenter", "-t", str(self.process), "--net", *words]
 
-    def enter(self):
+    def enter(self) -> None:
         """Brings the calling thread into this network for good."""
         enter(f"/proc/{self.process}/ns/net")
 
@@ -125,10 +129,10 @@ class Network:
 class Place(Network):
     """A network with an address of its own, and a cable to the machine. Its process ends with its input, so it doesn't outlive the test."""
 
-    def __init__(self, machine, nth):
+    def __init__(self, machine: Fresh, nth: int) -> None:
         self.at, self.source = f"10.9.{nth}.1", f"10.9.{nth}.2"
         self.holder = subprocess.Popen(["unshare", "--net", "sh", "-c", "echo; exec cat"], stdin=subprocess.PIPE, stdout=subprocess.PIPE)
-        self.holder.stdout.read(1)
+        piped(self.holder.stdout).read(1)
         super().__init__(self.holder.pid)
         there = Network(machine.process)
         done(*there.words("ip", "link", "add", f"place{nth}", "type", "veth", "peer", "name", "machine", "netns", str(self.process)))
@@ -136,20 +140,20 @@ class Place(Network):
             done(*network.words("ip", "address", "add", f"{address}/24", "dev", device))
             done(*network.words("ip", "link", "set", device, "up"))
 
-    def end(self):
-        self.holder.stdin.close()
+    def end(self) -> None:
+        piped(self.holder.stdin).close()
         self.holder.wait()
 
 
-def enter(path):
+def enter(path: str) -> None:
     with open(path) as network:
         if LIBC.setns(network.fileno(), CLONE_NEWNET) != 0:
             raise OSError(ctypes.get_errno(), f"setns {path}")
 
 
 @contextlib.contextmanager
-def places(machine, count):
-    made = []
+def places(machine: Fresh, count: int) -> Iterator[list[Place]]:
+    made: list[Place] = []
     try:
         for nth in range(1, count + 1):
             made.append(Place(machine, nth))
@@ -159,22 +163,30 @@ def places(machine, count):
             place.end()
 
 
-class Within(threading.Thread):
+class Enters(Protocol):
+    """What brings the calling thread into a network for good."""
+
+    def enter(self) -> object: ...
+
+
+class Within(threading.Thread, Generic[T]):
     """A thread in a network that calls a function, and keeps its result."""
 
-    def __init__(self, network, do, *args):
+    def __init__(self, network: Enters, do: Callable[..., T], *args: object) -> None:
         super().__init__(daemon=True)
-        self.network, self.do, self.args, self.result, self.fault = network, do, args, None, None
+        self.network, self.do, self.args = network, do, args
+        self.result: T
+        self.fault: BaseException | None = None
         self.start()
 
-    def run(self):
+    def run(self) -> None:
         try:
             self.network.enter()
             self.result = self.do(*self.args)
         except BaseException as fault:
             self.fault = fault
 
-    def wait(self):
+    def wait(self) -> T:
         self.join()
         if self.fault:
             raise self.fault
@@ -187,12 +199,12 @@ class Within(threading.Thread):
 class User:
     """A user of the first day, who asks nginx from a network. `patience` is the time limit, in seconds, for each turn of a connection."""
 
-    def __init__(self, machine, name, network, patience=60):
+    def __init__(self, machine: Fresh, name: str, network: Network, patience: float = 60) -> None:
         self.network, self.patience = network, patience
         self.context = ssl.create_default_context(cafile=machine.path("/etc/counter/certificate.pem"))
         self.headers = {**CLIENT, **basic(name, Path(machine.path(f"/root/{name}.password")).read_text().strip())}
 
-    def connect(self):
+    def connect(self) -> ssl.SSLSocket:
         """Opens a connection over TLS. The calling thread is in the network."""
         plain = socket.create_connection((self.network.at, 443), self.patience, (self.network.source, 0))
         try:
@@ -201,7 +213,7 @@ class User:
             plain.close()
             raise
 
-    def ask_here(self, method, path, value=None):
+    def ask_here(self, method: str, path: str, value: object = None) -> Answer:
         """Returns the status and the text of the response. Raises OSError or HTTPException if none comes. The calling thread is in the network."""
         connection = http.client.HTTPConnection(NAME)
         connection.sock = self.connect()
@@ -212,21 +224,26 @@ class User:
         finally:
             connection.close()
 
-    def ask(self, method, path, value=None):
+    def ask(self, method: str, path: str, value: object = None) -> Answer:
         return Within(self.network, self.ask_here, method, path, value).wait()
 
 
 PAYMENT = '{"day":"%s","lines":[{"paid":"%s","serial":"B%dEE"}],"payee":7,"ticket":%s,"total":"%s"}'
 
-#: One sending of a request: how many seconds it took, and the response's status and text. If none came, the status is None and the text says why.
-Sending = collections.namedtuple("Sending", "number took status text")
+class Sending(NamedTuple):
+    """One sending of a request: how many seconds it took, and the response's status and text. If none came, the status is None and the text says why."""
+
+    number: int
+    took: float
+    status: int | None
+    text: str
 
 
-def redemption(desk, number, day=DAY):
+def redemption(desk: int, number: int, day: str = DAY) -> dict[str, object]:
     return {"desk": desk, "number": number, "day": day, "payee": 7, "serials": [f"B{number}EE"]}
 
 
-def is_payment(text, number, day=DAY):
+def is_payment(text: str, number: int, day: str = DAY) -> bool:
     """Whether a text is the counter's reply to the redemption of this bond."""
     ticket = re.search(r'"ticket":(\d+)', text)
     return ticket is not None and text == PAYMENT % (day, PAID, number, ticket[1], PAID)
@@ -235,12 +252,15 @@ def is_payment(text, number, day=DAY):
 class Paying:
     """A teller who pays bonds one after another until it is stopped. Request N at the desk pays bond N. It is sent once or, with `is_again`, until it has its reply."""
 
-    def __init__(self, user, desk, numbers, *, pause, day=DAY, is_again=False):
+    def __init__(self, user: User, desk: int, numbers: Iterable[int], *, pause: float, day: str = DAY, is_again: bool = False) -> None:
         self.user, self.desk, self.pause, self.day, self.is_again = user, desk, pause, day, is_again
-        self.numbers, self.sendings, self.replies, self.waits, self.is_over = iter(numbers), [], {}, [], threading.Event()
+        self.numbers, self.is_over = iter(numbers), threading.Event()
+        self.sendings: list[Sending] = []
+        self.replies: dict[int, str] = {}
+        self.waits: list[float] = []
         self.thread = Within(user.network, self.pay)
 
-    def pay(self):
+    def pay(self) -> None:
         for number in self.numbers:
             if self.is_over.is_set():
                 return
@@ -252,9 +272,10 @@ class Paying:
             time.sleep(self.pause)
         wrong("there are too few bonds for this test")
 
-    def send(self, number):
+    def send(self, number: int) -> bool:
         """Sends a request once. Returns whether its reply came."""
         begun = time.monotonic()
+        status: int | None
         try:
             status, text = self.user.ask_here("POST", "/redeem", redemption(self.desk, number, self.day))
         except (OSError, http.client.HTTPException) as fault:
@@ -264,10 +285,10 @@ class Paying:
             self.replies[number] = text
         return status in (200, 409)
 
-    def failed(self):
+    def failed(self) -> list[Sending]:
         return [sending for sending in self.sendings if sending.status not in (200, 409)]
 
-    def wait_for(self, count, seconds=60):
+    def wait_for(self, count: int, seconds: int = 60) -> bool:
         """Waits until `count` more replies have come. Returns whether they have."""
         wanted = len(self.replies) + count
         for _ in range(seconds * 20):
@@ -276,7 +297,7 @@ class Paying:
             time.sleep(0.05)
         return len(self.replies) >= wanted
 
-    def stop(self):
+    def stop(self) -> Paying:
         self.is_over.set()
         self.thread.wait()
         return self

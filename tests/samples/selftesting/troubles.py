@@ -1,11 +1,14 @@
 """Each guard of a machine taken away, with the lines of counter-selftest that then have to be WRONG: no more and no fewer."""
+from __future__ import annotations
+
 import contextlib
 import os
 from pathlib import Path
-from typing import Callable, NamedTuple
+from typing import Callable, ContextManager, Iterator, NamedTuple
 
 from building import section
 from counter_calls import replaced
+from fresh import Fresh
 
 SITE = "/etc/nginx/sites-available/counter.conf"
 NGINX = "/etc/nginx/nginx.conf"
@@ -57,17 +60,21 @@ ROTATED = "the log of posted requests is rotated"
 ASKING = (IMPOSTOR, IMPOSTOR_NGINX, CONNECT, TELLER, SUPERVISOR, OFFICE, LOGGED)
 
 
+#: A file, and pairs of a text in it and the one that takes its place.
+Edit = tuple[str, tuple[str, str]] | tuple[str, tuple[str, str], tuple[str, str]]
+
+
 class Trouble(NamedTuple):
     """What is taken away, a context in which that is so, the titles, and a text that their lines have."""
 
     what: str
-    made: Callable
-    titles: tuple
+    made: Callable[[Fresh], ContextManager[None]]
+    titles: tuple[str, ...]
     said: str = ""
 
 
 @contextlib.contextmanager
-def edited(machine, *edits, then=RELOAD):
+def edited(machine: Fresh, *edits: Edit, then: str = RELOAD) -> Iterator[None]:
     """Files in which something is replaced: a path and a pair of texts each."""
     files = {path: Path(machine.path(path)) for path, *_ in edits}
     before = {path: file.read_text() for path, file in files.items()}
@@ -83,7 +90,7 @@ def edited(machine, *edits, then=RELOAD):
 
 
 @contextlib.contextmanager
-def ran(machine, do, undo):
+def ran(machine: Fresh, do: str, undo: str) -> Iterator[None]:
     try:
         machine.shell(do)
         yield
@@ -92,7 +99,7 @@ def ran(machine, do, undo):
 
 
 @contextlib.contextmanager
-def dropped_in(machine, *changes, then):
+def dropped_in(machine: Fresh, *changes: tuple[str, str, str], then: str) -> Iterator[None]:
     """Units with a setting more: the unit, its section and the setting each."""
     files = {f"/etc/systemd/system/{unit}.d/other.conf": f"[{part}]\n{setting}\n" for unit, part, setting in changes}
     then = f"systemctl daemon-reload; {then}"
@@ -109,21 +116,21 @@ def dropped_in(machine, *changes, then):
 
 
 @contextlib.contextmanager
-def for_all(machine, *paths):
+def for_all(machine: Fresh, *paths: str) -> Iterator[None]:
     """Files and folders that everybody can read."""
-    paths = [machine.path(path) for path in paths]
-    modes = [os.stat(path).st_mode & 0o7777 for path in paths]
+    inside = [machine.path(path) for path in paths]
+    modes = [os.stat(path).st_mode & 0o7777 for path in inside]
     try:
-        for path in paths:
+        for path in inside:
             os.chmod(path, 0o755 if os.path.isdir(path) else 0o644)
         yield
     finally:
-        for path, mode in zip(paths, modes):
+        for path, mode in zip(inside, modes):
             os.chmod(path, mode)
 
 
 @contextlib.contextmanager
-def filled(machine, *folders):
+def filled(machine: Fresh, *folders: str) -> Iterator[None]:
     """Disks of which less than a tenth is free."""
     files = [Path(machine.path(folder)) / "full" for folder in folders]
     try:
@@ -137,24 +144,24 @@ def filled(machine, *folders):
             file.unlink(missing_ok=True)
 
 
-def edit(what, titles, *edits, said="", **more):
+def edit(what: str, titles: tuple[str, ...], *edits: Edit, said: str = "", **more: str) -> Trouble:
     return Trouble(what, lambda machine: edited(machine, *edits, **more), titles, said)
 
 
-def run(what, titles, do, undo, said=""):
+def run(what: str, titles: tuple[str, ...], do: str, undo: str, said: str = "") -> Trouble:
     return Trouble(what, lambda machine: ran(machine, do, undo), titles, said)
 
 
-def unit(what, titles, *changes, then, said=""):
+def unit(what: str, titles: tuple[str, ...], *changes: tuple[str, str, str], then: str, said: str = "") -> Trouble:
     return Trouble(what, lambda machine: dropped_in(machine, *changes, then=then), titles, said)
 
 
-def started(what, titles, words, said=""):
+def started(what: str, titles: tuple[str, ...], words: str, said: str = "") -> Trouble:
     """A unit of its own, which systemd-run starts with these words."""
     return run(what, titles, f"systemd-run --quiet --unit=other {words}; sleep 0.5", "systemctl stop other.service", said)
 
 
-def stand_in(what, titles, path, text, said=""):
+def stand_in(what: str, titles: tuple[str, ...], path: str, text: str, said: str = "") -> Trouble:
     """A program in place of one of the machine's, or of none."""
     write = f"printf '#!/bin/sh\\n{text}\\n' > {path}; chmod 755 {path}"
     return run(what, titles, f"[ ! -e {path} ] || mv {path} {path}.kept; {write}", f"rm {path}; [ ! -e {path}.kept ] || mv {path}.kept {path}", said)
