@@ -1,81 +1,103 @@
 """Changes of one value in a store, each of a kind of its own, and which row a report must name for it."""
+from __future__ import annotations
 
-import json, sqlite3
+import json, random, sqlite3
+from typing import Any, Callable, Sequence
 
 from hostile import spelling
+
+#: A row of a table.
+Row = tuple[Any, ...]
+#: An act or a reply.
+Value = dict[str, Any]
+#: The rows that may be named for a change: the table and the row of each.
+Named = list[tuple[str, str]]
+#: Changes one value of a store. None if the store has none of this kind.
+Change = Callable[[sqlite3.Connection, random.Random], Named | None]
+#: The new value of a column, by the old one.
+New = Callable[[random.Random, Any], object]
+#: Turns an act or a reply into another one.
+Turn = Callable[[random.Random, Value], None]
 
 FIRST_MONTH = spelling.FIRST_MONTH
 
 
-def serial(letter, number):
+def serial(letter: int, number: int) -> str:
     return f"{chr(64 + letter)}{number}EE"
 
 
-def month(count):
+def month(count: int) -> str:
     return spelling.month_text(count + FIRST_MONTH)
 
 
-def request(desk, number):
+def request(desk: int, number: int) -> tuple[str, str]:
     return "answers", f"desk {desk} number {number}"
 
 
-def one_of(base, dice, statement):
+def one_of(base: sqlite3.Connection, dice: random.Random, statement: str) -> Row | None:
     """A row by chance, or None."""
-    rows = base.execute(statement).fetchall()
+    rows: list[Row] = base.execute(statement).fetchall()
     return dice.choice(rows) if rows else None
 
 
-def other(dice, value, choices):
+def some_row(base: sqlite3.Connection, dice: random.Random, statement: str) -> Row:
+    """The same of rows that have to be there."""
+    found = one_of(base, dice, statement)
+    assert found is not None
+    return found
+
+
+def other(dice: random.Random, value: Any, choices: Sequence[Any]) -> Any:
     return dice.choice([choice for choice in choices if choice != value])
 
 
-def rate(base, dice):
-    period, fixed = one_of(base, dice, "SELECT period, rate FROM rates")
+def rate(base: sqlite3.Connection, dice: random.Random) -> Named:
+    period, fixed = some_row(base, dice, "SELECT period, rate FROM rates")
     base.execute("UPDATE rates SET rate = ? WHERE period = ?", (fixed + 1 if fixed < 2000 else 1999, period))
     return [("rates", month(period))]
 
 
-def rate_period(base, dice):
-    period, = one_of(base, dice, "SELECT period FROM rates")
+def rate_period(base: sqlite3.Connection, dice: random.Random) -> Named:
+    period, = some_row(base, dice, "SELECT period FROM rates")
     base.execute("UPDATE rates SET period = ? WHERE period = ?", (period + 600, period))
     return [("rates", month(period)), ("rates", month(period + 600))]
 
 
-def extension(base, dice):
-    period, named = one_of(base, dice, "SELECT period, rate FROM extensions")
+def extension(base: sqlite3.Connection, dice: random.Random) -> Named:
+    period, named = some_row(base, dice, "SELECT period, rate FROM extensions")
     base.execute("UPDATE extensions SET rate = ? WHERE period = ?", (named + 1 if named < 2000 else 1999, period))
     return [("extensions", month(period))]
 
 
-def extension_period(base, dice):
-    period, = one_of(base, dice, "SELECT period FROM extensions")
+def extension_period(base: sqlite3.Connection, dice: random.Random) -> Named:
+    period, = some_row(base, dice, "SELECT period FROM extensions")
     free = next(place for place in range(0, 1136, 6) if place != period and not base.execute("SELECT 1 FROM extensions WHERE period = ?", (place,)).fetchone())
     base.execute("UPDATE extensions SET period = ? WHERE period = ?", (free, period))
     return [("extensions", month(period)), ("extensions", month(free))]
 
 
-def bond_changed(column, new):
-    def change(base, dice):
-        letter, number, old = one_of(base, dice, f"SELECT letter, number, {column} FROM bonds")
+def bond_changed(column: str, new: New) -> Change:
+    def change(base: sqlite3.Connection, dice: random.Random) -> Named | None:
+        letter, number, old = some_row(base, dice, f"SELECT letter, number, {column} FROM bonds")
         base.execute(f"UPDATE bonds SET {column} = ? WHERE letter = ? AND number = ?", (new(dice, old), letter, number))
         return [("bonds", serial(letter, number))]
 
     return change
 
 
-def bond_number(base, dice):
-    letter, number = one_of(base, dice, "SELECT letter, number FROM bonds")
+def bond_number(base: sqlite3.Connection, dice: random.Random) -> Named:
+    letter, number = some_row(base, dice, "SELECT letter, number FROM bonds")
     base.execute("UPDATE bonds SET number = 7777777 WHERE letter = ? AND number = ?", (letter, number))
     return [("bonds", serial(letter, number)), ("bonds", serial(letter, 7777777))]
 
 
-def bond_letter(base, dice):
-    letter, number = one_of(base, dice, "SELECT letter, number FROM bonds")
+def bond_letter(base: sqlite3.Connection, dice: random.Random) -> Named:
+    letter, number = some_row(base, dice, "SELECT letter, number FROM bonds")
     base.execute("UPDATE bonds SET letter = 21 WHERE letter = ? AND number = ?", (letter, number))
     return [("bonds", serial(letter, number)), ("bonds", serial(21, number))]
 
 
-def paid_owner(base, dice):
+def paid_owner(base: sqlite3.Connection, dice: random.Random) -> Named | None:
     """The owner of a bond that its coowner was paid for, so that the payee is still right."""
     found = one_of(base, dice, "SELECT b.letter, b.number FROM bonds AS b JOIN paid AS p USING (letter, number) JOIN tickets AS t ON t.ticket = p.ticket WHERE t.payee = b.coowner")
     if found is None:
@@ -84,61 +106,61 @@ def paid_owner(base, dice):
     return [("bonds", serial(*found))]
 
 
-def ticket_changed(column, new):
-    def change(base, dice):
-        ticket, old = one_of(base, dice, f"SELECT ticket, {column} FROM tickets")
+def ticket_changed(column: str, new: New) -> Change:
+    def change(base: sqlite3.Connection, dice: random.Random) -> Named | None:
+        ticket, old = some_row(base, dice, f"SELECT ticket, {column} FROM tickets")
         base.execute(f"UPDATE tickets SET {column} = ? WHERE ticket = ?", (new(dice, old), ticket))
         return [("tickets", f"ticket {ticket}")]
 
     return change
 
 
-def ticket_number(base, dice):
-    ticket, = one_of(base, dice, "SELECT ticket FROM tickets")
+def ticket_number(base: sqlite3.Connection, dice: random.Random) -> Named:
+    ticket, = some_row(base, dice, "SELECT ticket FROM tickets")
     base.execute("UPDATE tickets SET ticket = 5000 WHERE ticket = ?", (ticket,))
     return [("tickets", f"ticket {ticket}"), ("tickets", "ticket 5000")]
 
 
-def line_changed(column, new):
-    def change(base, dice):
-        ticket, place, old = one_of(base, dice, f"SELECT ticket, place, {column} FROM paid")
+def line_changed(column: str, new: New) -> Change:
+    def change(base: sqlite3.Connection, dice: random.Random) -> Named | None:
+        ticket, place, old = some_row(base, dice, f"SELECT ticket, place, {column} FROM paid")
         base.execute(f"UPDATE paid SET {column} = ? WHERE ticket = ? AND place = ?", (new(dice, old), ticket, place))
         return [("paid", f"ticket {ticket} place {place}")]
 
     return change
 
 
-def line_place(base, dice):
-    ticket, place = one_of(base, dice, "SELECT ticket, place FROM paid")
+def line_place(base: sqlite3.Connection, dice: random.Random) -> Named:
+    ticket, place = some_row(base, dice, "SELECT ticket, place FROM paid")
     base.execute("UPDATE paid SET place = 99 WHERE ticket = ? AND place = ?", (ticket, place))
     return [("paid", f"ticket {ticket} place {place}"), ("paid", f"ticket {ticket} place 99")]
 
 
-def line_ticket(base, dice):
-    ticket, place = one_of(base, dice, "SELECT ticket, place FROM paid")
+def line_ticket(base: sqlite3.Connection, dice: random.Random) -> Named:
+    ticket, place = some_row(base, dice, "SELECT ticket, place FROM paid")
     base.execute("UPDATE paid SET ticket = 5000 WHERE ticket = ? AND place = ?", (ticket, place))
     return [("paid", f"ticket {ticket} place {place}"), ("paid", f"ticket 5000 place {place}")]
 
 
-def batch_changed(column, new):
-    def change(base, dice):
-        day, old = one_of(base, dice, f"SELECT day, {column} FROM batches")
+def batch_changed(column: str, new: New) -> Change:
+    def change(base: sqlite3.Connection, dice: random.Random) -> Named | None:
+        day, old = some_row(base, dice, f"SELECT day, {column} FROM batches")
         base.execute(f"UPDATE batches SET {column} = ? WHERE day = ?", (new(dice, old), day))
         return [("batches", spelling.day_text(day))]
 
     return change
 
 
-def batch_day(base, dice):
-    day, = one_of(base, dice, "SELECT day FROM batches")
+def batch_day(base: sqlite3.Connection, dice: random.Random) -> Named:
+    day, = some_row(base, dice, "SELECT day FROM batches")
     moved = next(later for later in range(day + 1, day + 100) if not base.execute("SELECT 1 FROM batches WHERE day = ?", (later,)).fetchone())
     base.execute("UPDATE batches SET day = ? WHERE day = ?", (moved, day))
     return [("batches", spelling.day_text(day)), ("batches", spelling.day_text(moved))]
 
 
-def desk_changed(column, new):
-    def change(base, dice):
-        old, = one_of(base, dice, f"SELECT {column} FROM desk")
+def desk_changed(column: str, new: New) -> Change:
+    def change(base: sqlite3.Connection, dice: random.Random) -> Named | None:
+        old, = some_row(base, dice, f"SELECT {column} FROM desk")
         base.execute(f"UPDATE desk SET {column} = ?", (new(dice, old),))
         return [("desk", "1"), ("sqlite_schema", "all")]
 
@@ -148,10 +170,10 @@ def desk_changed(column, new):
 ACCEPTED = "reply NOT LIKE '%refused%'"
 
 
-def act_changed(kind, turn):
+def act_changed(kind: str, turn: Turn) -> Change:
     """The act of an accepted request becomes another act, whose text is canonical too."""
 
-    def change(base, dice):
+    def change(base: sqlite3.Connection, dice: random.Random) -> Named | None:
         found = one_of(base, dice, f"""SELECT desk, number, act FROM answers WHERE {ACCEPTED} AND act LIKE '{{"act":"{kind}"%' OR {ACCEPTED} AND json_extract(act, '$.act') = '{kind}'""")
         if found is None:
             return None
@@ -166,31 +188,31 @@ def act_changed(kind, turn):
     return change
 
 
-def turned_payee(dice, act):
+def turned_payee(dice: random.Random, act: Value) -> None:
     act["payee"] += 1000
 
 
-def turned_serial(dice, act):
+def turned_serial(dice: random.Random, act: Value) -> None:
     act["serials"][-1] = "Q777EE"
 
 
-def turned_owner(dice, act):
+def turned_owner(dice: random.Random, act: Value) -> None:
     dice.choice(act["bonds"])["owner"] += 1000
 
 
-def turned_rate(dice, act):
+def turned_rate(dice: random.Random, act: Value) -> None:
     row = dice.choice(act["rates"])
     row["rate"] = "1.23%" if row["rate"] != "1.23%" else "1.24%"
 
 
-def turned_day(dice, act):
+def turned_day(dice: random.Random, act: Value) -> None:
     act["day"] = "2150-01-01"
 
 
-def reply_changed(where, turn):
+def reply_changed(where: str, turn: Turn) -> Change:
     """A kept reply becomes another text of a reply."""
 
-    def change(base, dice):
+    def change(base: sqlite3.Connection, dice: random.Random) -> Named | None:
         found = one_of(base, dice, f"SELECT desk, number, reply FROM answers WHERE {where}")
         if found is None:
             return None
@@ -203,44 +225,44 @@ def reply_changed(where, turn):
     return change
 
 
-def turned_paid(dice, reply):
+def turned_paid(dice: random.Random, reply: Value) -> None:
     line = dice.choice(reply["lines"])
     line["paid"] = line["paid"][:-2] + ("00" if line["paid"][-2:] != "00" else "01")
 
 
-def turned_count(dice, reply):
+def turned_count(dice: random.Random, reply: Value) -> None:
     reply["new"] += 1
 
 
-def turned_refusal(dice, reply):
+def turned_refusal(dice: random.Random, reply: Value) -> None:
     reply.clear()
     reply.update({"code": 44, "refused": "DayFull"})
 
 
-def turned_batch(dice, reply):
+def turned_batch(dice: random.Random, reply: Value) -> None:
     reply["tickets"] += 1
 
 
-def act_text(base, dice):
-    desk, number = one_of(base, dice, "SELECT desk, number FROM answers")
+def act_text(base: sqlite3.Connection, dice: random.Random) -> Named:
+    desk, number = some_row(base, dice, "SELECT desk, number FROM answers")
     base.execute("UPDATE answers SET act = act || ' ' WHERE desk = ? AND number = ?", (desk, number))
     return [request(desk, number)]
 
 
-def reply_text(base, dice):
-    desk, number = one_of(base, dice, "SELECT desk, number FROM answers")
+def reply_text(base: sqlite3.Connection, dice: random.Random) -> Named:
+    desk, number = some_row(base, dice, "SELECT desk, number FROM answers")
     base.execute("""UPDATE answers SET reply = '{"code":10,"refused":"NumberReused"}' WHERE desk = ? AND number = ?""", (desk, number))
     return [request(desk, number)]
 
 
-def row_number(base, dice):
+def row_number(base: sqlite3.Connection, dice: random.Random) -> Named:
     """A request that stands at another place in the order."""
-    desk, number = one_of(base, dice, "SELECT desk, number FROM answers WHERE rowid < (SELECT max(rowid) FROM answers)")
+    desk, number = some_row(base, dice, "SELECT desk, number FROM answers WHERE rowid < (SELECT max(rowid) FROM answers)")
     base.execute("UPDATE answers SET rowid = 1000000 WHERE desk = ? AND number = ?", (desk, number))
     return [request(desk, number)]
 
 
-KINDS = {
+KINDS: dict[str, Change] = {
     "rates.rate": rate,
     "rates.period": rate_period,
     "extensions.rate": extension,
@@ -285,7 +307,7 @@ KINDS = {
 }
 
 
-def changed(path, kind, dice):
+def changed(path: str, kind: str, dice: random.Random) -> Named | None:
     """Change one value of a store; the rows that may be named for it, or None if it has none of this kind."""
     base = sqlite3.connect(path)
     try:

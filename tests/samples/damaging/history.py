@@ -1,11 +1,20 @@
 """The store that tests/samples/damaged_books damages, as the requests that make it; and ways to write a store by hand: rows by SQLite, and checksums
 of pages that are right again afterwards."""
+from __future__ import annotations
 
 import copy, sqlite3, struct
+from typing import Any, Callable, Iterable, Sequence
 
 from checksums import size_of_pages
 from counter_calls import post
 from hostile import counter, desk, spelling
+
+#: The body of a request.
+Body = dict[str, Any]
+#: Each request's route and body.
+Requests = list[tuple[str, Body]]
+#: Serial number, denomination, issue month, owner and coowner.
+Bond = tuple[str, int, str, int, int | None]
 
 TABLES = ("desk", "rates", "extensions", "bonds", "tickets", "paid", "batches", "answers")
 #: The fixed rates of the periods in which paper was sold. The rate of extended maturity for 2005-05 is invented.
@@ -28,15 +37,15 @@ LATER_BONDS = [
 ]
 
 
-def rates_of(rows):
+def rates_of(rows: Iterable[tuple[str, str, str | None]]) -> Body:
     return {"rates": [{"from": begins, "rate": rate, **({"extension": extension} if extension else {})} for begins, rate, extension in rows]}
 
 
-def bonds_of(rows):
+def bonds_of(rows: Iterable[Bond]) -> Body:
     return {"bonds": [{"serial": serial, "denom": denom, "issued": issued, "owner": owner, **({"coowner": coowner} if coowner else {})} for serial, denom, issued, owner, coowner in rows]}
 
 
-def paid(day, payee, *serials):
+def paid(day: str, payee: int, *serials: str) -> Body:
     return {"day": day, "payee": payee, "serials": list(serials)}
 
 
@@ -99,20 +108,21 @@ ASKED = [
 EARLIER = 42
 
 
-def history():
+def history() -> Requests:
     """The requests, each as a route and a body with its desk and number. A kind of damage may change them."""
-    numbers, requests = {}, []
+    numbers: dict[int, int] = {}
+    requests: Requests = []
     for of_desk, route, body in ASKED:
         numbers[of_desk] = numbers.get(of_desk, 0) + 1
         requests.append((route, {"desk": of_desk, "number": numbers[of_desk], **copy.deepcopy(body)}))
     return requests
 
 
-def messages(requests):
+def messages(requests: Requests) -> list[bytes]:
     return [post(route, body, b"") for route, body in requests]
 
 
-def rows_of(requests):
+def rows_of(requests: Requests) -> desk.Rows:
     """The rows of each table after these requests, by the rules of tests/shared/hostile; those of `answers` in the order of the requests."""
     books = desk.Books()
     for message in messages(requests):
@@ -123,7 +133,7 @@ def rows_of(requests):
     return rows
 
 
-def write_rows(base, rows, tables=TABLES):
+def write_rows(base: sqlite3.Connection, rows: desk.Rows, tables: Sequence[str] = TABLES) -> None:
     """Put other rows in the place of those of some tables."""
     for table in tables:
         base.execute(f"DELETE FROM {table}")
@@ -131,14 +141,16 @@ def write_rows(base, rows, tables=TABLES):
             base.execute(f"INSERT INTO {table} VALUES ({', '.join('?' * len(row))})", row)
 
 
-def day_of(text):
-    return spelling.day(text)
+def day_of(text: str) -> int:
+    day = spelling.day(text)
+    assert day is not None
+    return day
 
 
 # ---- pages
 
 
-def write_unused(path):
+def write_unused(path: str) -> None:
     """Write a word to bytes of a page that no row has: between the pointers and the cells of a leaf of a table."""
     with open(path, "r+b") as file:
         data = bytearray(file.read())
@@ -154,7 +166,7 @@ def write_unused(path):
     raise ValueError("no page has room")
 
 
-def changed(path, change):
+def changed(path: str, change: Callable[[sqlite3.Connection], object]) -> None:
     """Let SQLite change a store, and end with its log written back."""
     base = sqlite3.connect(path, isolation_level=None)
     try:

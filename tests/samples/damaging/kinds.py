@@ -2,10 +2,17 @@
 
 What finds a kind was worked out by hand, from docs/MODEL.md ("Sound books") and docs/FORMATS.md: `o`, the program as it opens the store; `r`, the report
 alone; `a`, the report with the archive; `e`, the report with the earlier report, which was made after 42 of the 52 requests."""
+from __future__ import annotations
 
-from typing import Callable, NamedTuple
+import sqlite3
+from typing import Any, Callable, NamedTuple, Sequence
 
 from . import history
+
+#: Damages the store at a path.
+Damage = Callable[[str], None]
+#: Changes the list of requests.
+Change = Callable[[history.Requests], object]
 
 NOBODY = ""
 
@@ -13,29 +20,29 @@ NOBODY = ""
 class Kind(NamedTuple):
     name: str
     found_by: str
-    damage: Callable[[str], None]
+    damage: Damage
 
 
 # ---- ways to damage
 
 
-def statements(*texts):
-    """Statements of SQL, each with the values that it takes."""
+def statements(*texts: str) -> Damage:
+    """Statements of SQL."""
 
-    def damage(path):
-        def change(base):
+    def damage(path: str) -> None:
+        def change(base: sqlite3.Connection) -> None:
             for text in texts:
-                base.execute(*text if isinstance(text, tuple) else (text,))
+                base.execute(text)
 
         history.changed(path, change)
 
     return damage
 
 
-def rewritten(*changes, tables=history.TABLES):
+def rewritten(*changes: Change, tables: Sequence[str] = history.TABLES) -> Damage:
     """The store that other requests would have made: all of it, or some of its tables alone. Each change takes the list of requests."""
 
-    def damage(path):
+    def damage(path: str) -> None:
         requests = history.history()
         for change in changes:
             change(requests)
@@ -44,25 +51,25 @@ def rewritten(*changes, tables=history.TABLES):
     return damage
 
 
-def books_rewritten(*changes):
+def books_rewritten(*changes: Change) -> Damage:
     """The tables that other requests would have made, beside the kept requests as they were."""
     return rewritten(*changes, tables=history.TABLES[:-1])
 
 
-def row_of(serial):
+def row_of(serial: str) -> tuple[int, int]:
     return ord(serial[0]) - 64, int(serial[1:-2])
 
 
-def bond(serial, setting):
+def bond(serial: str, setting: str) -> Damage:
     letter, number = row_of(serial)
     return statements(f"UPDATE bonds SET {setting} WHERE letter = {letter} AND number = {number}")
 
 
-def kept(row, column, old, new):
+def kept(row: int, column: str, old: str, new: str) -> Damage:
     """Another text in the place of a part of a kept one."""
 
-    def damage(path):
-        def change(base):
+    def damage(path: str) -> None:
+        def change(base: sqlite3.Connection) -> None:
             (text,) = base.execute(f"SELECT {column} FROM answers WHERE rowid = ?", (row,)).fetchone()
             assert old in text, text
             base.execute(f"UPDATE answers SET {column} = ? WHERE rowid = ?", (text.replace(old, new), row))
@@ -75,14 +82,14 @@ def kept(row, column, old, new):
 # ---- changes of the requests; rows are counted from 1
 
 
-def body(requests, row):
+def body(requests: history.Requests, row: int) -> history.Body:
     return requests[row - 1][1]
 
 
-def registered(serial, **settings):
+def registered(serial: str, **settings: Any) -> Change:
     """Another denomination, issue month, owner or coowner of a bond in the request that registered it; None takes the coowner out."""
 
-    def change(requests):
+    def change(requests: history.Requests) -> None:
         (found,) = [one for _, each in requests for one in each.get("bonds", ()) if one["serial"] == serial]
         found.update(settings)
         for name in [name for name, value in found.items() if value is None]:
@@ -91,63 +98,63 @@ def registered(serial, **settings):
     return change
 
 
-def other_rate(begins, rate, extension=None):
-    def change(requests):
+def other_rate(begins: str, rate: str, extension: str | None = None) -> Change:
+    def change(requests: history.Requests) -> None:
         (found,) = [one for one in body(requests, 1)["rates"] if one["from"] == begins]
         found.update(rate=rate, **({"extension": extension} if extension else {}))
 
     return change
 
 
-def set_in(row, **settings):
+def set_in(row: int, **settings: Any) -> Change:
     return lambda requests: body(requests, row).update(settings)
 
 
-def taken_out(*rows):
-    def change(requests):
+def taken_out(*rows: int) -> Change:
+    def change(requests: history.Requests) -> None:
         for row in sorted(rows, reverse=True):
             del requests[row - 1]
 
     return change
 
 
-def from_row(row):
+def from_row(row: int) -> Change:
     """All requests from a row on are gone."""
     return lambda requests: requests.__delitem__(slice(row - 1, None))
 
 
-def put_in(row, route, **settings):
+def put_in(row: int, route: str, **settings: Any) -> Change:
     """A request before the one that has this row."""
     return lambda requests: requests.insert(row - 1, (route, {"desk": 3, "number": 700 + row, **settings}))
 
 
-def exchanged(row, other):
+def exchanged(row: int, other: int) -> Change:
     """Two requests in each other's row."""
 
-    def change(requests):
+    def change(requests: history.Requests) -> None:
         requests[row - 1], requests[other - 1] = requests[other - 1], requests[row - 1]
 
     return change
 
 
-def desks_exchanged(row, other):
-    def change(requests):
+def desks_exchanged(row: int, other: int) -> Change:
+    def change(requests: history.Requests) -> None:
         one, two = body(requests, row), body(requests, other)
         one["desk"], one["number"], two["desk"], two["number"] = two["desk"], two["number"], one["desk"], one["number"]
 
     return change
 
 
-def moved(row, to):
+def moved(row: int, to: int) -> Change:
     """A request that comes to stand in another row."""
     return lambda requests: requests.insert(to - 1, requests.pop(row - 1))
 
 
-def renamed(old, new, in_bonds=True):
+def renamed(old: str, new: str, in_bonds: bool = True) -> Change:
     """A serial number in each request that names it, or in redemptions alone; two names may be exchanged."""
     names = {old: new, **({} if in_bonds else {new: old})}
 
-    def change(requests):
+    def change(requests: history.Requests) -> None:
         for _, each in requests:
             if "serials" in each:
                 each["serials"] = [names.get(serial, serial) for serial in each["serials"]]
@@ -157,8 +164,8 @@ def renamed(old, new, in_bonds=True):
     return change
 
 
-def other_day(old, new):
-    def change(requests):
+def other_day(old: str, new: str) -> Change:
+    def change(requests: history.Requests) -> None:
         for _, each in requests:
             if each.get("day") == old:
                 each["day"] = new
@@ -166,12 +173,12 @@ def other_day(old, new):
     return change
 
 
-def registered_too(row, *bonds):
+def registered_too(row: int, *bonds: history.Bond) -> Change:
     return lambda requests: body(requests, row)["bonds"].extend(history.bonds_of(bonds)["bonds"])
 
 
-def never_registered(serial):
-    def change(requests):
+def never_registered(serial: str) -> Change:
+    def change(requests: history.Requests) -> None:
         for _, each in requests:
             if "bonds" in each:
                 each["bonds"] = [one for one in each["bonds"] if one["serial"] != serial]
