@@ -90,6 +90,10 @@ class Bank:
     def __init__(self, program: str) -> None:
         self.folder = Path(tempfile.mkdtemp())
         self.pages: list[Quits] = []
+        #: The folder for pictures, if any are wanted.
+        self.pictures: str | None = None
+        #: How many kills client_kills.py is to make, and how often page_cases.py had requests sent.
+        self.wanted_kills = self.sendings = 0
         self.store = self.folder / "day.db"
         self.server = Server(program, str(self.store))
         self.gate = Gate(self.server)

@@ -1,4 +1,6 @@
 """What the Python client and its command do: a day, each fault, used numbers, refusals, journals, files."""
+from __future__ import annotations
+
 import datetime
 import decimal
 import json
@@ -8,11 +10,15 @@ import socket
 import subprocess
 import sys
 import time
+from pathlib import Path
+from typing import Any, Callable
 from unittest import mock
 
 import ee_counter_client as client
-from bank import PASSWORD, TOP, USER
+from bank import PASSWORD, TOP, USER, Bank
 from books import Books
+from counter_calls import matched, piped
+from ee_counter_client.results import Result
 from gate import AFTER, BEFORE
 from samples import TOO_YOUNG, UNISSUED, VALUES, begin, bonds_of, rates, right
 
@@ -20,25 +26,25 @@ SUM = sum(VALUES.values())
 DAY = "2012-02-06"
 
 
-def printed(cents):
+def printed(cents: int) -> decimal.Decimal:
     return decimal.Decimal(cents) / 100
 
 
-def ticket_of(number, day, payee, serials):
+def ticket_of(number: int, day: str, payee: int, serials: list[str]) -> client.Ticket:
     lines = tuple(client.Line(serial, printed(VALUES[serial[0]])) for serial in serials)
     return client.Ticket(number, datetime.date.fromisoformat(day), payee, lines, printed(SUM))
 
 
-def books_of(bank):
+def books_of(bank: Bank) -> Books:
     bank.server.end()
     books = Books(bank.store)
     books.check()
     return books
 
 
-def command(bank, *words, journal="desk3.journal", proxied=True):
+def command(bank: Bank, *words: str, journal: str = "desk3.journal", proxied: bool = True) -> tuple[int, str, str]:
     """The client's command, by nginx with its password, or straight to the gate; its status, output and faults."""
-    line = [sys.executable, "-W", "error", "-B", TOP / "clients" / "counter.py", "--journal", bank.folder / journal, "--desk", "3"]
+    line: list[str | Path] = [sys.executable, "-W", "error", "-B", TOP / "clients" / "counter.py", "--journal", bank.folder / journal, "--desk", "3"]
     if proxied:
         (bank.folder / "password").write_text(PASSWORD + "\n")
         line += ["--at", f"https://127.0.0.1:{bank.port}", "--user", USER, "--password-file", bank.folder / "password", "--certificate", bank.nginx.folder / "certificate.pem"]
@@ -48,23 +54,34 @@ def command(bank, *words, journal="desk3.journal", proxied=True):
     return ran.returncode, ran.stdout, ran.stderr
 
 
-def at_gate(bank, journal="desk3.journal", desk=3, **more):
+def at_gate(bank: Bank, journal: str = "desk3.journal", desk: int = 3, **more: Any) -> client.Counter:
     return client.Counter(bank.folder / journal, f"http://127.0.0.1:{bank.gate.port}", desk=desk, **more)
 
 
 class Told(logging.Handler):
     """What the client logs from here on, as texts."""
 
-    def __init__(self):
+    def __init__(self) -> None:
         super().__init__()
-        self.texts = []
+        self.texts: list[str] = []
         logging.getLogger("ee_counter_client").addHandler(self)
 
-    def emit(self, record):
+    def emit(self, record: logging.LogRecord) -> None:
         self.texts.append(record.getMessage())
 
 
-def a_day(bank):
+def sent_of(result: Result | client.Refused) -> int:
+    """How often its request was sent."""
+    assert result.request is not None
+    return result.request.sent
+
+
+def ticket_in(result: Result | None) -> client.Ticket:
+    assert isinstance(result, client.Ticket)
+    return result
+
+
+def a_day(bank: Bank) -> None:
     """By the command, through TLS and a password."""
     sheet = "Total" + " " * 52
     steps = (
@@ -91,7 +108,7 @@ def a_day(bank):
     right(books_of(bank).rows("SELECT day, tickets, bonds, total FROM batches") == [(15376, 2, 3, 607923)], "the books have the day")
 
 
-def each_fault(bank):
+def each_fault(bank: Bank) -> None:
     """Each act meets each fault, by the module: the same bytes again, and one reply."""
     faults = [fault for fault in AFTER + BEFORE if fault != "silent"]
     begin(bank, [])
@@ -101,7 +118,7 @@ def each_fault(bank):
             day, owner = f"2012-02-{6 + place:02}", 1000 + place
             bonds = bonds_of(owner)
             serials = [bond["serial"] for bond in bonds]
-            acts = (
+            acts: tuple[tuple[Callable[[], Result], Result], ...] = (
                 (lambda: counter.add_bonds(bonds, even_so=True), client.Added(3, 0)),
                 (lambda: counter.open_day(day, even_so=True), client.Opened(datetime.date.fromisoformat(day))),
                 (lambda: counter.redeem(day, owner, serials), ticket_of(1 + place, day, owner, serials)),
@@ -116,16 +133,16 @@ def each_fault(bank):
     right(books.one("SELECT count(*) FROM answers WHERE desk = 3") == 4 * len(faults), f"{4 * len(faults)} requests with one reply each; {sent} sendings without a reply, {bank.server.kills} kills")
 
 
-def meets(bank, counter, fault, act, wanted):
+def meets(bank: Bank, counter: client.Counter, fault: str, act: Callable[[], Result], wanted: object) -> None:
     sent = len(bank.gate.bodies)
     bank.gate.faults = [fault, fault]
     found = act()
     bodies = bank.gate.bodies[sent:]
-    assert found == wanted and found.request.sent >= 3 and counter.open_request is None, (fault, found)
+    assert found == wanted and sent_of(found) >= 3 and counter.open_request is None, (fault, found)
     assert len(bodies) >= 3 and len(set(bodies)) == 1, (fault, bodies)
 
 
-def silent(bank):
+def silent(bank: Bank) -> None:
     """A time limit, and a patience that is over: the request stays open, another is not sent, and the same one gives the reply."""
     with at_gate(bank, journal="silent.journal", desk=4, time_limit=1, patience=0.5) as counter:
         bank.gate.faults = ["silent"]
@@ -144,20 +161,20 @@ def silent(bank):
             refused_or_none(counter, ask)
 
 
-def next_number(counter):
+def next_number(counter: client.Counter) -> int:
     """The number of the next request, from the journal's file."""
     with open(counter._journal.path, encoding="utf-8") as file:
-        return json.load(file)["next"]
+        return int(json.load(file)["next"])
 
 
-def refused_or_none(counter, ask):
+def refused_or_none(counter: client.Counter, ask: Callable[[], object]) -> None:
     try:
         right(ask() is None, "then nothing is open")
     except client.Refused as refusal:
-        right(refusal.request.sent > 1 and refusal.code in (42, 43), f"the same request again has its reply: {refusal}")
+        right(sent_of(refusal) > 1 and refusal.code in (42, 43), f"the same request again has its reply: {refusal}")
 
 
-def numbers_used(bank):
+def numbers_used(bank: Bank) -> None:
     begin(bank, [7], DAY)
     with at_gate(bank) as counter:
         number = next_number(counter)
@@ -176,7 +193,7 @@ def numbers_used(bank):
 # ---- an answer to one sending
 
 
-def fault_on_resend(bank):
+def fault_on_resend(bank: Bank) -> None:
     """The answer is lost after the commit, and a resend is answered by a fault, or by the proxy's word on the user: the request stays open until the true reply comes."""
     begin(bank, [7], DAY)
     met = Told().texts
@@ -186,30 +203,32 @@ def fault_on_resend(bank):
             bank.gate.faults = ["lost answer", fault, fault]
             ticket = counter.redeem(DAY, 7, [serial])
             bodies = bank.gate.bodies[sent:]
-            right(ticket.lines[0].serial == serial and ticket.request.sent == 4 and len(bodies) == 4 == bodies.count(bodies[0]), f"{fault} on a resend: sent again, and the ticket comes")
+            right(ticket.lines[0].serial == serial and sent_of(ticket) == 4 and len(bodies) == 4 == bodies.count(bodies[0]), f"{fault} on a resend: sent again, and the ticket comes")
             right(met.count(words + "the request was sent before, and may have been done") == 2, "and the client says that it may have been done", met)
     over_patience(bank)
     right(books_of(bank).one("SELECT count(*) FROM tickets") == 3, "one ticket for each payment")
 
 
-def over_patience(bank):
+def over_patience(bank: Bank) -> None:
     """Until the patience is over: then the journal keeps the request, also over a start of the script."""
     with at_gate(bank, patience=5) as counter:
-        bank.gate.faults = ["lost answer"] + ["not json"] * 20
+        bank.gate.faults = ["lost answer", *["not json"] * 20]
         try:
             right(False, "a fault on each resend", counter.redeem(DAY, 7, ["M7EE"]))
         except client.NoReply as failure:
             right("BadJson (code 64)" in str(failure) and failure.request == counter.open_request and failure.request.fields["serials"] == ["M7EE"], f"the request stays open: {failure}")
     bank.gate.faults = []
     with at_gate(bank) as counter:
-        right(counter.open_request.sent > 2 and counter.finish().number == 3 and counter.open_request is None, "and the next start gets its ticket")
+        request = counter.open_request
+        right(request is not None and request.sent > 2 and ticket_in(counter.finish()).number == 3 and counter.open_request is None, "and the next start gets its ticket")
 
 
-def first_sendings(bank):
+def first_sendings(bank: Bank) -> None:
     """On the first sending both are final."""
     begin(bank, [7], DAY)
     with at_gate(bank) as counter:
-        for fault, error in (("not json", client.Fault), ("forbidden", client.Forbidden)):
+        errors: dict[str, type[client.CounterError]] = {"not json": client.Fault, "forbidden": client.Forbidden}
+        for fault, error in errors.items():
             sent = len(bank.gate.bodies)
             bank.gate.faults = [fault]
             try:
@@ -222,7 +241,7 @@ def first_sendings(bank):
     right((status, out, told) == (1, "", "this user may not do this (/day/close); nothing was done\n"), "by the command it has status 1", (status, out, told))
 
 
-def many_requests(bank):
+def many_requests(bank: Bank) -> None:
     begin(bank, [7], DAY)
     met = Told().texts
     with at_gate(bank) as counter:
@@ -238,9 +257,9 @@ def many_requests(bank):
 # ---- the document
 
 
-def commands_of(text):
+def commands_of(text: str) -> list[tuple[str, list[str]]]:
     """Each command of a document's blocks, with what it prints."""
-    found = []
+    found: list[tuple[str, list[str]]] = []
     for block in text.split("```")[1::2]:
         for line in block.splitlines()[1:]:
             if line.startswith("$ "):
@@ -250,7 +269,7 @@ def commands_of(text):
     return found
 
 
-def document(bank):
+def document(bank: Bank) -> None:
     """The commands of docs/COUNTER_CLIENT.md, run as written in one shell, in a folder that has the repository's files by links."""
     folder = bank.folder / "top"
     folder.mkdir()
@@ -262,24 +281,25 @@ def document(bank):
         for line, wanted in commands_of((TOP / "docs" / "COUNTER_CLIENT.md").read_text()):
             printed_by(shell, line, wanted)
     finally:
-        shell.stdin.write("kill $(jobs -p)\n")
-        shell.stdin.close()
+        piped(shell.stdin).write("kill $(jobs -p)\n")
+        piped(shell.stdin).close()
         shell.wait(timeout=60)
 
 
-def printed_by(shell, line, wanted):
-    shell.stdin.write(f"{line}\necho END OF IT\n")
-    shell.stdin.flush()
-    found = []
+def printed_by(shell: subprocess.Popen[str], line: str, wanted: list[str]) -> None:
+    stdin, stdout = piped(shell.stdin), piped(shell.stdout)
+    stdin.write(f"{line}\necho END OF IT\n")
+    stdin.flush()
+    found: list[str] = []
     while not found or found[-1] != "END OF IT":
-        found.append(shell.stdout.readline().rstrip("\n"))
+        found.append(stdout.readline().rstrip("\n"))
     numberless = [[re.sub("^request [0-9]+ ", "request N ", text) for text in texts] for texts in (found[:-1], wanted)]
     right(numberless[0] == numberless[1], f"as written: {line}", found)
     if line.endswith("&"):
-        wait_for_port(int(re.search("--port ([0-9]+)", line)[1]))
+        wait_for_port(int(matched("--port ([0-9]+)", line)[1]))
 
 
-def wait_for_port(port):
+def wait_for_port(port: int) -> None:
     """Until a server that a command left running listens."""
     for _ in range(300):
         with socket.socket() as trial:
@@ -292,14 +312,14 @@ def wait_for_port(port):
 # ---- refusals
 
 
-def refusals(bank):
+def refusals(bank: Bank) -> None:
     """Each refusal that this client can be told, from the true counter: code, name and details."""
     begin(bank, [7], DAY)
     bank.expect(200, "/bonds", {"desk": 900, "number": 50, "bonds": [TOO_YOUNG, UNISSUED]})
     bond = {"serial": "A1EE", "denom": 50, "issued": "2010-11", "owner": 7}
     with at_gate(bank) as counter:
         counter.redeem(DAY, 7, ["M7EE"])
-        wanted = (
+        wanted: tuple[tuple[int, str, dict[str, object], Callable[[], object]], ...] = (
             (13, "Repeated", {"serial": "L7EE"}, lambda: counter.redeem(DAY, 7, ["L7EE", "L-007-EE"])),
             (14, "SameCoowner", {"serial": "A1EE"}, lambda: counter.add_bonds([{**bond, "coowner": 7}], even_so=True)),
             (20, "NotAnnouncementMonth", {"month": "2010-06"}, lambda: counter.add_rates([{"from": "2010-06", "rate": "1.00"}])),
@@ -323,7 +343,7 @@ def refusals(bank):
         misfits(counter)
 
 
-def is_refused(code, name, details, act):
+def is_refused(code: int, name: str, details: dict[str, object], act: Callable[[], object]) -> None:
     try:
         right(False, name, act())
     except getattr(client, name) as refusal:
@@ -331,21 +351,22 @@ def is_refused(code, name, details, act):
         right((refusal.code, refusal.name, refusal.details) == (code, name, details) and named, str(refusal), refusal.reply)
 
 
-def misfits(counter):
+def misfits(counter: client.Counter) -> None:
     """What the counter can't read is a Fault, and the request is open no more; what this module can't spell is told before it is sent."""
     try:
         right(False, "a field that the counter doesn't know", counter._act("/day/open", {"day": DAY, "more": 1}, None, None, client.Opened))
     except client.Fault as fault:
         right((fault.code, fault.field) == (65, "other") and counter.open_request is None, f"a field that the counter doesn't know: {fault}")
     sent = next_number(counter)
-    for wrong in (lambda: counter.open_day("2012-02-30"), lambda: counter.redeem(DAY, 0, ["L1EE"]), lambda: counter.redeem(DAY, 7, ["l1ee"]), lambda: counter.ticket(0)):
+    calls: tuple[Callable[[], object], ...] = (lambda: counter.open_day("2012-02-30"), lambda: counter.redeem(DAY, 0, ["L1EE"]), lambda: counter.redeem(DAY, 7, ["l1ee"]), lambda: counter.ticket(0))
+    for wrong in calls:
         try:
             right(False, "a misspelled value", wrong())
         except client.BadValue as fault:
             right(next_number(counter) == sent, f"nothing is sent if {fault}")
 
 
-def journals(bank):
+def journals(bank: Bank) -> None:
     """One process has a journal; a journal is of one desk; what is no journal isn't written over."""
     begin(bank, [7], DAY)
     with at_gate(bank):
@@ -363,26 +384,28 @@ def journals(bank):
     with at_gate(bank, journal="quick.journal") as counter:
         for serial in ("K7EE", "L7EE", "M7EE"):
             counter.redeem(DAY, 7, [serial], bookmark=serial)
-        right(counter.bookmark == "M7EE" and counter.last.result().number == 3, f"three payments in {time.monotonic() - begun:.2f} seconds; the bookmark is that of the last")
+        right(counter.bookmark == "M7EE" and counter.last is not None and ticket_in(counter.last.result()).number == 3, f"three payments in {time.monotonic() - begun:.2f} seconds; the bookmark is that of the last")
 
 
-def misspelt_keys(bank):
+def misspelt_keys(bank: Bank) -> None:
     """An unknown or missing key is named, and nothing is sent: its value would be lost without a word, and a registered bond can't be changed."""
     bond = {"serial": "A1EE", "denom": 50, "issued": "2010-11", "owner": 7}
     rate = {"from": "2010-05", "rate": "1.00"}
     with at_gate(bank) as counter:
         sent = next_number(counter)
-        for wanted, act in (
+        untyped: Callable[..., object] = counter.add_bonds
+        acts: tuple[tuple[str, Callable[[], object]], ...] = (
             ("a bond has no key 'co_owner'", lambda: counter.add_bonds([{**bond, "serial": "A2EE"}, {**bond, "co_owner": 8}])),
             ("a bond has no key 'Coowner'", lambda: counter.add_bonds([{**bond, "Coowner": 8}])),
             ("a bond lacks the key 'owner'", lambda: counter.add_bonds([{name: value for name, value in bond.items() if name != "owner"}])),
-            ("a bond is a dict", lambda: counter.add_bonds(["A1EE,50,2010-11,7"])),
+            ("a bond is a dict", lambda: untyped(["A1EE,50,2010-11,7"])),
             ("a row of rates has no key 'extention'", lambda: counter.add_rates([{**rate, "extention": "2.00"}])),
             ("a row of rates lacks the key 'rate'", lambda: counter.add_rates([{"from": "2010-05"}])),
             ("1 is no serial number", lambda: counter.add_bonds([{**bond, "serial": 1}])),
             ("201011 is no month", lambda: counter.add_bonds([{**bond, "issued": 201011}])),
             ("1.0 is no rate", lambda: counter.add_rates([{**rate, "rate": 1.0}])),
-        ):
+        )
+        for wanted, act in acts:
             try:
                 right(False, wanted, act())
             except client.BadValue as fault:
@@ -394,7 +417,7 @@ def misspelt_keys(bank):
     misspelt_columns(bank)
 
 
-def misspelt_columns(bank):
+def misspelt_columns(bank: Bank) -> None:
     for name, text in (("register", "serial,denom,issued,owner,co_owner\nA1EE,50,2010-11,7,8\n"), ("rates", "from,rate,extention\n2010-05,1.00,2.00\n")):
         sent = len(bank.gate.bodies)
         (bank.folder / "bad.csv").write_text(text)
@@ -405,7 +428,7 @@ def misspelt_columns(bank):
 # ---- files
 
 
-def bad_files(bank):
+def bad_files(bank: Bank) -> None:
     """Each fault of a file is told by its row, and nothing is sent."""
     files = (
         ("serial,denom,issued,owner\n", "row 1: the header isn't serial,denom,issued,owner,coowner"),
@@ -421,7 +444,7 @@ def bad_files(bank):
     right(bank.gate.bodies == [], "and nothing was sent")
 
 
-def refused_rows(bank):
+def refused_rows(bank: Bank) -> None:
     """A row that the counter refuses stops a registration; with that row mended it goes on from there."""
     bank.expect(200, "/rates", {"desk": 900, "number": 1, "rates": rates()})
     rows = [f"A{number}EE,50,2010-11,7," for number in range(1, 1801)]

@@ -1,12 +1,15 @@
 """The client and the counter are killed at random, and the books are compared with what was asked."""
+from __future__ import annotations
+
 import json
 import random
 import subprocess
 import sys
 import time
 from pathlib import Path
+from typing import Any
 
-from bank import TOP
+from bank import TOP, Bank
 from client_cases import books_of, command
 from gate import AFTER, BEFORE
 from plan import BONDS_A_DAY, act_at, canonical, expected
@@ -21,13 +24,14 @@ LONG = ("silent", "no password")
 # ---- an inventory of 100,000 bonds
 
 
-def many_bonds(bank):
+def many_bonds(bank: Bank) -> None:
     """Registered in requests of 500, with 20 interruptions: the client killed, the counter killed, an answer lost."""
     bank.expect(200, "/rates", {"desk": 900, "number": 1, "rates": rates()})
     file = bank.folder / "bonds.csv"
     write_bonds(file)
     chance = random.Random(20)
-    met, begun = [], time.monotonic()
+    begun = time.monotonic()
+    met: list[str] = []
     for place in range(INTERRUPTIONS):
         kind = ("client", "counter", "answer")[place % 3]
         interrupt(bank, chance, file, kind, met)
@@ -40,16 +44,16 @@ def many_bonds(bank):
     right(books.rows("SELECT reply, count(*) FROM answers WHERE desk = 3 GROUP BY 1") == [('{"new":500,"same":0}', BONDS // 500)], f"by {BONDS // 500} requests, each of 500 new bonds: none was registered or refused twice")
 
 
-def write_bonds(file):
+def write_bonds(file: Path) -> None:
     with open(file, "w", encoding="utf-8") as out:
         out.write("serial,denom,issued,owner,coowner\n")
         for number in range(1, BONDS + 1):
             out.write(f"{'ABCDEFGH'[number % 8]}{number}EE,{(50, 100, 500, 10000)[number % 4]},20{10 + number % 9}-{1 + number % 12:02},{1 + number % 5000},{'' if number % 3 else 5001 + number % 77}\n")
 
 
-def interrupt(bank, chance, file, kind, met):
+def interrupt(bank: Bank, chance: random.Random, file: Path, kind: str, met: list[str]) -> None:
     """One run that is stopped at a random moment of its work, after some of its requests."""
-    line = [sys.executable, "-B", TOP / "clients" / "counter.py", "--journal", bank.folder / "desk3.journal", "--desk", "3", "--at", f"http://127.0.0.1:{bank.gate.port}", "register", "--even-so", file]
+    line: list[str | Path] = [sys.executable, "-B", TOP / "clients" / "counter.py", "--journal", bank.folder / "desk3.journal", "--desk", "3", "--at", f"http://127.0.0.1:{bank.gate.port}", "register", "--even-so", file]
     running = subprocess.Popen(line, stdout=subprocess.DEVNULL, stderr=subprocess.PIPE, text=True)
     after_messages(bank, chance, 18)
     if kind == "answer":
@@ -64,7 +68,7 @@ def interrupt(bank, chance, file, kind, met):
     running.communicate()
 
 
-def after_messages(bank, chance, most):
+def after_messages(bank: Bank, chance: random.Random, most: int) -> None:
     """Waits for so many messages at most, a number of them by chance, and then for a moment."""
     wanted = len(bank.gate.bodies) + chance.randint(0, most)
     end = time.monotonic() + 20
@@ -76,7 +80,7 @@ def after_messages(bank, chance, most):
 # ---- random kills
 
 
-def random_kills(bank):
+def random_kills(bank: Bank) -> None:
     """A client goes through days without an end; it and the counter are killed at random, and some messages are harmed on their way, until so many kills are done."""
     bank.expect(200, "/rates", {"desk": 900, "number": 1, "rates": rates()})
     bank.server.pause = 0.05
@@ -104,15 +108,16 @@ def random_kills(bank):
     compared(bank)
 
 
-def start_worker(bank):
-    line = [sys.executable, "-W", "error", "-B", Path(__file__).with_name("worker.py"), str(bank.folder), f"http://127.0.0.1:{bank.gate.port}"]
+def start_worker(bank: Bank) -> subprocess.Popen[bytes]:
+    line: list[str | Path] = [sys.executable, "-W", "error", "-B", Path(__file__).with_name("worker.py"), str(bank.folder), f"http://127.0.0.1:{bank.gate.port}"]
     with open(bank.folder / "worker.err", "a", encoding="utf-8") as errors:
         return subprocess.Popen(line, stderr=errors)
 
 
-def compared(bank):
+def compared(bank: Bank) -> None:
     """Every act of the plan was done once, in its order, with the reply that the client was given and that the rules give."""
-    given, told = {}, []
+    given: dict[int, dict[str, Any]] = {}
+    told: list[str] = []
     for line in (bank.folder / "replies").read_text().splitlines():
         place, reply = json.loads(line)
         assert given.setdefault(place, reply) == reply, (place, reply)
@@ -122,10 +127,10 @@ def compared(bank):
     books = books_of(bank)
     answers = books.rows("SELECT act, reply FROM answers WHERE desk = 3 ORDER BY number")
     right(len(answers) == count == len(given), f"{count:,} requests, each answered once under one number; {sum('no reply' in line for line in told)} sendings without a reply, {sum(' times; ' in line for line in told)} replies to a repeated sending, {len(bank.gate.met)} messages harmed, {sum('started again' in line for line in told)} clients ended by a page and started again")
-    wrong = [place for place, (act, _) in enumerate(answers) if act != canonical(place)]
-    right(wrong == [], "the books have the acts of the plan, in its order", wrong[:3])
-    wrong = [(place, given[place], reply) for place, (_, reply) in enumerate(answers) if json.loads(reply) != given[place]]
-    right(wrong == [], "each reply that the client was given is the one that is kept", wrong[:3])
+    acts = [place for place, (act, _) in enumerate(answers) if act != canonical(place)]
+    right(acts == [], "the books have the acts of the plan, in its order", acts[:3])
+    others = [(place, given[place], reply) for place, (_, reply) in enumerate(answers) if json.loads(reply) != given[place]]
+    right(others == [], "each reply that the client was given is the one that is kept", others[:3])
     replies = [json.loads(reply) for _, reply in answers]
     wrong = [(place, reply) for place, reply in enumerate(replies) if not expected(place, reply)]
     right(wrong == [], "and is what the rules give for that act", wrong[:3])

@@ -1,8 +1,12 @@
 """The two browsers in which the page is tested: Debian's Chromium, and its Firefox. Each starts on a profile, and does by its own means what the WebDriver protocol has no word for."""
+from __future__ import annotations
+
 import base64
 import os
 import signal
 import subprocess
+from pathlib import Path
+from typing import Any, Iterator
 
 from selenium import webdriver
 from selenium.common.exceptions import NoAlertPresentException
@@ -11,12 +15,18 @@ from selenium.webdriver.chrome.service import Service
 from marionette import Firefox as FirefoxProcess
 
 
-def told(node):
+#: A node of the accessibility tree.
+Node = dict[str, Any]
+#: What a screen reader is given of a dialog: its name, its description, whether it is modal, the roles and names of what is in it, and the names of the buttons.
+Dialog = tuple[str, str, bool, list[tuple[str, str]], list[str]]
+
+
+def told(node: Node) -> tuple[str | None, str]:
     """The role and the name of a node of the accessibility tree."""
     return node.get("role", {}).get("value"), node.get("name", {}).get("value", "")
 
 
-def below(nodes, node):
+def below(nodes: dict[str, Node], node: Node) -> Iterator[Node]:
     """The nodes below one, in order, without those that a screen reader isn't given."""
     for name in node.get("childIds", ()):
         if name in nodes:
@@ -28,7 +38,7 @@ def below(nodes, node):
 class Chromium:
     name = "chromium"
 
-    def __init__(self, profile, size):
+    def __init__(self, profile: str, size: tuple[int, int]) -> None:
         self.profile = profile
         options = webdriver.ChromeOptions()
         options.binary_location = "/usr/bin/chromium"
@@ -41,33 +51,33 @@ class Chromium:
         # As in a browser that keeps the page's data.
         self.driver.execute_cdp_cmd("Browser.grantPermissions", {"permissions": ["durableStorage"]})
 
-    def resize(self, width, height):
+    def resize(self, width: float, height: float) -> None:
         self.driver.execute_cdp_cmd("Emulation.setDeviceMetricsOverride", {"width": width, "height": height, "deviceScaleFactor": 1, "mobile": False})
 
-    def downloads(self, folder):
+    def downloads(self, folder: str | Path) -> None:
         """Where files are saved, without a question."""
         self.driver.execute_cdp_cmd("Browser.setDownloadBehavior", {"behavior": "allow", "downloadPath": str(folder)})
 
-    def media(self, name):
+    def media(self, name: str) -> None:
         self.driver.execute_cdp_cmd("Emulation.setEmulatedMedia", {"media": name})
 
-    def pdf(self, width, height):
+    def pdf(self, width: float, height: float) -> bytes:
         """The printed page, on paper of so many inches."""
         return base64.b64decode(self.driver.execute_cdp_cmd("Page.printToPDF", {"paperWidth": width, "paperHeight": height, "preferCSSPageSize": False})["data"])
 
-    def complaints(self):
+    def complaints(self) -> list[str]:
         messages = [entry["message"] for entry in self.driver.get_log("browser")]
         return [message for message in messages if not message.startswith("chrome://") and "Failed to load resource" not in message]
 
-    def come_round(self, back):
+    def come_round(self, back: bool) -> None:
         """Without a screen Chromium has no controls of its own: Tab goes from the last of the page to the first."""
 
-    def described(self):
+    def described(self) -> str | None:
         """What a screen reader is given as the description of the open dialog, or None if the browser doesn't tell."""
         nodes = self.driver.execute_cdp_cmd("Accessibility.getFullAXTree", {})["nodes"]
-        return next(node["description"]["value"] for node in nodes if node.get("role", {}).get("value") == "dialog" and "description" in node)
+        return next(str(node["description"]["value"]) for node in nodes if node.get("role", {}).get("value") == "dialog" and "description" in node)
 
-    def dialog(self):
+    def dialog(self) -> Dialog | None:
         """What a screen reader is given of the open dialog: its name, its description, whether it is modal, and the roles and names of what is in it. And the names of all buttons of the page."""
         nodes = {node["nodeId"]: node for node in self.driver.execute_cdp_cmd("Accessibility.getFullAXTree", {})["nodes"]}
         open_one = next(node for node in nodes.values() if node.get("role", {}).get("value") == "dialog" and not node["ignored"])
@@ -76,15 +86,15 @@ class Chromium:
         buttons = [told(node)[1] for node in nodes.values() if told(node)[0] == "button" and not node["ignored"]]
         return told(open_one)[1], " ".join(open_one["description"]["value"].split()), modal, within, buttons
 
-    def rows(self):
+    def rows(self) -> int | None:
         """How many rows a screen reader is given, or None if the browser doesn't tell."""
-        nodes = self.driver.execute_cdp_cmd("Accessibility.getFullAXTree", {})["nodes"]
-        return sum(node.get("role", {}).get("value") == "row" for node in nodes)
+        nodes: list[Node] = self.driver.execute_cdp_cmd("Accessibility.getFullAXTree", {})["nodes"]
+        return sum(told(node)[0] == "row" for node in nodes)
 
-    def leave_box(self):
+    def leave_box(self) -> None:
         """Without a screen Chromium shows nobody its box for a password, and no test can press its buttons."""
 
-    def kill(self):
+    def kill(self) -> None:
         """All processes of that browser, by the folder of its profile."""
         service = self.driver.service.process
         lines = subprocess.run(["ps", "-eo", "pid,args"], capture_output=True, text=True, check=True).stdout.splitlines()
@@ -95,7 +105,7 @@ class Chromium:
         for lock in ("SingletonLock", "SingletonSocket", "SingletonCookie"):
             subprocess.run(["rm", "-f", f"{self.profile}/{lock}"], check=True)
 
-    def quit(self):
+    def quit(self) -> None:
         if self.driver.service.process.poll() is None:
             self.driver.quit()
 
@@ -126,14 +136,14 @@ LEAST_WIDTH = 500
 class Firefox:
     name = "firefox"
 
-    def __init__(self, profile, size):
+    def __init__(self, profile: str, size: tuple[int, int]) -> None:
         self.process = FirefoxProcess(profile)
         options = webdriver.FirefoxOptions()
         options.accept_insecure_certs = True
         self.driver = webdriver.Remote(self.process.address, options=options)
         self.resize(*size)
 
-    def resize(self, width, height):
+    def resize(self, width: float, height: float) -> None:
         """A narrower window than Firefox makes is one that is zoomed in, as by its own command."""
         zoom = max(1, LEAST_WIDTH / width)
         self.process.run_inside("gBrowser.selectedBrowser.fullZoom = arguments[0];", zoom)
@@ -142,49 +152,50 @@ class Firefox:
         # The page has the keyboard again, after what was done beside it.
         self.driver.switch_to.window(self.driver.current_window_handle)
 
-    def downloads(self, folder):
+    def downloads(self, folder: str | Path) -> None:
         script = "Services.prefs.setIntPref('browser.download.folderList', 2); Services.prefs.setStringPref('browser.download.dir', arguments[0]); Services.prefs.setBoolPref('browser.download.alwaysOpenPanel', false);"
         self.process.run_inside(script, str(folder))
 
-    def media(self, name):
+    def media(self, name: str) -> None:
         self.process.run_inside("gBrowser.selectedBrowser.browsingContext.mediumOverride = arguments[0];", name)
 
-    def pdf(self, width, height):
+    def pdf(self, width: float, height: float) -> bytes:
         return base64.b64decode(self.process.ask("WebDriver:Print", {"page": {"width": width * 2.54, "height": height * 2.54}, "margin": {"top": 1.2, "bottom": 1.2, "left": 1.2, "right": 1.2}, "shrinkToFit": False}))
 
-    def complaints(self):
-        return self.process.run_inside(COMPLAINTS)
+    def complaints(self) -> list[str]:
+        messages: list[str] = self.process.run_inside(COMPLAINTS)
+        return messages
 
-    def come_round(self, back):
+    def come_round(self, back: bool) -> None:
         """After the page's last control Tab goes on to Firefox's own, as a user sees it. The driver's keys stay in the page, which then shows no focus."""
         if not self.process.run_inside(COME_ROUND, back):
             raise AssertionError("no tab leads back to the page")
 
-    def described(self):
+    def described(self) -> str | None:
         """Firefox's driver has no command for it."""
         return None
 
-    def dialog(self):
+    def dialog(self) -> Dialog | None:
         """Nor for this."""
         return None
 
-    def rows(self):
+    def rows(self) -> int | None:
         """Nor for this."""
         return None
 
-    def leave_box(self):
+    def leave_box(self) -> None:
         """Presses Cancel in the browser's own box for a password, if it is there."""
         try:
             self.driver.switch_to.alert.dismiss()
         except NoAlertPresentException:
             pass
 
-    def kill(self):
+    def kill(self) -> None:
         os.killpg(self.process.process.pid, signal.SIGKILL)
         self.process.process.wait()
 
-    def quit(self):
+    def quit(self) -> None:
         self.process.end()
 
 
-ENGINES = {engine.name: engine for engine in (Chromium, Firefox)}
+ENGINES: dict[str, type[Chromium] | type[Firefox]] = {Chromium.name: Chromium, Firefox.name: Firefox}

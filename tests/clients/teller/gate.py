@@ -106,8 +106,8 @@ class Gate:
 
     def __init__(self, counter: Counter) -> None:
         self.counter = counter
-        self.faults: list[str] = []
-        self.met: list[str] = []
+        self.faults: list[str | None] = []
+        self.met: list[str | None] = []
         self.bodies: list[bytes] = []
         self.heads: list[bytes] = []
         self.changed: Callable[[str, bytes], bytes] | None = None
@@ -149,7 +149,7 @@ class Gate:
         fault = self.fault_of(message)
         if fault == "killed before":
             self.counter.kill()
-        if fault in BEFORE + OF_ONE_SENDING:
+        if fault is not None and fault in BEFORE + OF_ONE_SENDING:
             client.sendall(STANDING.get(fault, b""))
             return
         text = self.answered(message)

@@ -1,9 +1,14 @@
 """Four desks behind one address, as in a branch whose router translates addresses: each counts a day of many tickets and pays, over the limits of samples/nginx."""
+from __future__ import annotations
+
 import threading
 import time
+from typing import Iterable
 
+from bank import Bank
 from browser import Page
-from nginx_sample import PAGE, SAMPLE, Nginx, replaced
+from counter_calls import replaced
+from nginx_sample import PAGE, SAMPLE, Nginx
 from page_cases import dollars
 from page_guards import DAY
 from samples import VALUES, begin, right
@@ -19,12 +24,13 @@ BY_ADDRESS = [('limit_req_zone "$binary_remote_addr $limited_user" zone=counter_
 class Desk(threading.Thread):
     """Behaves as the page does: it loads the page's files, counts the tickets, and pays bonds meanwhile. `busy` counts its answers 429, `delays` are the seconds of its payments."""
 
-    def __init__(self, nginx, user, desk, until):
+    def __init__(self, nginx: Nginx, user: str, desk: int, until: float) -> None:
         super().__init__(daemon=True)
         self.nginx, self.user, self.desk, self.until = nginx, user, desk, until
-        self.counted, self.busy, self.delays, self.begun = 0, 0, [], time.monotonic()
+        self.counted, self.busy, self.begun = 0, 0, time.monotonic()
+        self.delays: list[float] = []
 
-    def ask(self, method, path, value=None):
+    def ask(self, method: str, path: str, value: object = None) -> int | None:
         """Its status, again after each 429."""
         while time.monotonic() < self.until:
             status = self.nginx.ask(method, path, value, user=self.user)[0]
@@ -34,7 +40,7 @@ class Desk(threading.Thread):
             time.sleep(0.5 if method == "POST" else BUSY)
         return None
 
-    def run(self):
+    def run(self) -> None:
         for file in sorted(PAGE.iterdir()):
             self.ask("GET", f"/teller/{file.name}")
         asked_from = time.monotonic() - AT_ONCE * SPACE
@@ -47,20 +53,20 @@ class Desk(threading.Thread):
             if number % 200 == 0:
                 self.pay(number)
 
-    def pay(self, number):
+    def pay(self, number: int) -> None:
         begun = time.monotonic()
         serial = f"S{self.desk * 1000 + number}EE"
         if self.ask("POST", "/redeem", {"desk": self.desk, "number": number, "day": DAY, "payee": 60, "serials": [serial]}) == 200:
             self.delays.append(time.monotonic() - begun)
 
 
-def busy(nginx):
+def busy(nginx: Nginx) -> tuple[int, list[str]]:
     """How many requests nginx answered 429, and the statuses of the payments."""
     lines = (nginx.folder / "log" / "access.log").read_text().splitlines()
     return sum('" 429 ' in line for line in lines), [entry["status"] for entry in nginx.log() if entry["route"] == "/redeem"]
 
 
-def paid_before(bank):
+def paid_before(bank: Bank) -> None:
     """Tickets of one bond each, and bonds for the desks to pay."""
     begin(bank, [7], DAY)
     serials = [f"S{place}EE" for place in range(1, TICKETS + 1)]
@@ -72,7 +78,7 @@ def paid_before(bank):
         bank.expect(200, "/redeem", {"desk": 902, "number": place, "day": DAY, "payee": 60, "serials": [f"S{place}EE"]})
 
 
-def branch(bank, name, seconds, changes=()):
+def branch(bank: Bank, name: str, seconds: float, changes: Iterable[tuple[str, str]] = ()) -> tuple[Nginx, list[Desk]]:
     """nginx with four users, and three of the four desks at work."""
     conf = bank.folder / f"{name}.conf"
     conf.write_text(replaced((SAMPLE / "counter.conf").read_text(), changes))
@@ -83,7 +89,7 @@ def branch(bank, name, seconds, changes=()):
     return nginx, desks
 
 
-def four_desks(bank):
+def four_desks(bank: Bank) -> None:
     """One page in a browser and three clients that behave as it does, from one address: each counts 900 tickets and pays."""
     paid_before(bank)
     nginx, desks = branch(bank, "by_user", 1200)
@@ -117,7 +123,7 @@ def four_desks(bank):
     nginx.end()
 
 
-def continues(bank, nginx, page):
+def continues(bank: Bank, nginx: Nginx, page: Page) -> None:
     """A count that was broken off, and the tickets of this desk, aren't asked for again."""
     tally = page.journal()["tally"]
     right(tally["through"] >= TICKETS, "what was counted is kept", tally)

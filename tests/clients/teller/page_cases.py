@@ -1,13 +1,17 @@
 """What the page does: days, interruptions, desks, numbers, refusals."""
+from __future__ import annotations
+
+import functools
 import json
 import re
 import subprocess
 import threading
 import time
+from typing import Callable
 
 from books import Books
 from browser import Page
-from bank import TOP
+from bank import TOP, Bank
 from gate import AFTER, BEFORE, answer
 from samples import OLDEST, TOO_YOUNG, UNISSUED, VALUES, begin, right
 
@@ -16,11 +20,11 @@ FAULTS = [fault for fault in AFTER + BEFORE if fault != "silent"]
 EARLIER = "The connection was interrupted."
 
 
-def dollars(cents):
+def dollars(cents: int) -> str:
     return f"${cents // 100:,}.{cents % 100:02}"
 
 
-def books_of(bank):
+def books_of(bank: Bank) -> Books:
     """The books at rest, once the server has ended."""
     bank.server.end()
     books = Books(bank.store)
@@ -28,13 +32,13 @@ def books_of(bank):
     return books
 
 
-def is_paid_on(page, ticket, cents):
+def is_paid_on(page: Page, ticket: int, cents: int) -> None:
     """The ticket is shown, with its sum."""
     page.waits_for(f"Ticket {ticket}", "#ticket h2")
     page.waits_for(dollars(cents), "#ticket tfoot")
 
 
-def kept_nothing(page, what):
+def kept_nothing(page: Page, what: str) -> None:
     """No bond number and no customer in any storage of the browser."""
     page.settled()
     kept = page.run_module("""
@@ -51,7 +55,7 @@ def kept_nothing(page, what):
     right(is_quiet, f"{what}: nor a bond or a customer", journal)
 
 
-def a_day(bank):
+def a_day(bank: Bank) -> None:
     begin(bank, [7])
     page = Page(bank)
     page.choose_desk(3)
@@ -84,7 +88,7 @@ def a_day(bank):
     right(books.rows("SELECT ticket, payee, bonds, total FROM tickets ORDER BY 1") == wanted, "the books have two tickets")
 
 
-def looked_up(page):
+def looked_up(page: Page) -> None:
     page.go("tickets")
     page.type("#ticket-number", "1")
     page.press("#ask-ticket button")
@@ -106,11 +110,11 @@ def looked_up(page):
 # ---- interruptions
 
 
-def interrupted(bank, page, fault, is_reloaded, act, shown):
+def interrupted(bank: Bank, page: Page, fault: str, is_reloaded: bool, act: Callable[[], object], shown: Callable[[], object]) -> None:
     """One step of a day that meets a fault: the page tells that there is no reply, sends the same bytes again, and shows the one reply."""
     sent = len(bank.gate.bodies)
     bank.server.pause = 1.5 if is_reloaded else 0.3
-    bank.gate.faults = [fault] + (["lost request"] if is_reloaded else [])
+    bank.gate.faults = [fault, *(["lost request"] if is_reloaded else [])]
     act()
     page.waits_for("no reply yet. ", "#progress")
     if is_reloaded:
@@ -123,7 +127,7 @@ def interrupted(bank, page, fault, is_reloaded, act, shown):
     bank.sendings += len(bodies)
 
 
-def interrupted_day(bank, page, place, fault, is_reloaded):
+def interrupted_day(bank: Bank, page: Page, place: int, fault: str, is_reloaded: bool) -> None:
     """A day on which each of the three steps meets the fault, and between each two of them the counter is killed too."""
     day, owner, ticket = f"2012-02-{1 + place:02}", 1000 + place, place + 1
     in_words = f"February {1 + place}, 2012"
@@ -139,7 +143,7 @@ def interrupted_day(bank, page, place, fault, is_reloaded):
     right(True, f"{day}, each step: {fault}{', page loaded again' if is_reloaded else ''}")
 
 
-def interrupted_days(bank):
+def interrupted_days(bank: Bank) -> None:
     rounds = [(fault, is_reloaded) for fault in FAULTS for is_reloaded in (False, True)]
     begin(bank, range(1000, 1000 + len(rounds)))
     bank.sendings = 0
@@ -156,7 +160,7 @@ def interrupted_days(bank):
     right(books.one("SELECT count(*) FROM answers WHERE desk = 3") == 3 * len(rounds), f"one reply for each of {3 * len(rounds)} requests, {met}")
 
 
-def browser_killed(bank):
+def browser_killed(bank: Bank) -> None:
     """The browser's process is killed with a request open, as by a loss of power, and started again."""
     begin(bank, [7], "2012-02-06")
     page = Page(bank)
@@ -178,7 +182,7 @@ def browser_killed(bank):
     right(books_of(bank).one("SELECT count(*) FROM tickets") == 1, "one ticket")
 
 
-def two_desks(bank):
+def two_desks(bank: Bank) -> None:
     """Two pages on two desks, paying the same bond at once; then one of them while the other's answer is lost."""
     begin(bank, [7, 9], "2012-02-06")
     pages = [Page(bank), Page(bank)]
@@ -194,7 +198,7 @@ def two_desks(bank):
     for one in paying:
         one.join()
     for page in pages:
-        page.until(lambda page=page: "Ticket 1 is paid." in page.text() or "was paid already, on ticket 1" in page.text(), "paid, or told who has")
+        page.until(lambda: "Ticket 1 is paid." in page.text() or "was paid already, on ticket 1" in page.text(), "paid, or told who has")
     told = sorted("was paid already, on ticket 1" in page.text() for page in pages)
     right(told == [False, True], "of two desks that pay one bond at once one pays, and the other tells on which ticket")
     other = next(page for page in pages if "was paid already" in page.text())
@@ -208,7 +212,7 @@ def two_desks(bank):
     right(books.rows("SELECT ticket, total FROM tickets ORDER BY 1") == [(1, VALUES["L"]), (2, VALUES["K"])], "two tickets, one for each bond")
 
 
-def overtaken(bank, pages):
+def overtaken(bank: Bank, pages: list[Page]) -> None:
     first, second = pages
     for page in pages:
         page.show_sheet(9)
@@ -224,7 +228,7 @@ def overtaken(bank, pages):
     right(True, "a desk whose answer was lost gets its own ticket, and the desk that came between is refused")
 
 
-def numbers_used(bank):
+def numbers_used(bank: Bank) -> None:
     """Numbers that this desk has used: the request goes on under a higher one, by doubling steps."""
     begin(bank, [7], "2012-02-06")
     page = Page(bank)
@@ -250,7 +254,7 @@ def numbers_used(bank):
     right(books.rows("SELECT number FROM answers WHERE desk = 5 AND act LIKE '%L7EE%'") == [(number + 15,)], "it was done under the last of them alone")
 
 
-def two_tabs(bank):
+def two_tabs(bank: Bank) -> None:
     begin(bank, [7])
     page = Page(bank)
     page.choose_desk(5)
@@ -268,7 +272,7 @@ def two_tabs(bank):
     page.quit()
 
 
-def half_a_page(bank):
+def half_a_page(bank: Bank) -> None:
     """A module of the page that doesn't come: the page is loaded again by itself, and sends what is open."""
     begin(bank, [7])
     page = Page(bank)
@@ -295,7 +299,7 @@ CHANGES = """
 """
 
 
-def changes_at_once(bank):
+def changes_at_once(bank: Bank) -> None:
     """Changes of the journal that overlap: none undoes another."""
     page = Page(bank)
     page.choose_desk(5)
@@ -304,7 +308,7 @@ def changes_at_once(bank):
     page.quit()
 
 
-def silent_counter(bank):
+def silent_counter(bank: Bank) -> None:
     """An answer that doesn't come: after the time limit the page sends again."""
     begin(bank, [7])
     page = Page(bank)
@@ -322,7 +326,7 @@ def silent_counter(bank):
     page.quit()
 
 
-def device_fails(bank):
+def device_fails(bank: Bank) -> None:
     """A real 503: the store's device fails under the request, `serve` ends, and is started again."""
     begin(bank, [7], "2012-02-06")
     page = Page(bank)
@@ -359,16 +363,16 @@ WORDS = """
 """
 
 
-def codes_in_documents():
+def codes_in_documents() -> dict[int, str]:
     """Every code that docs/STATUSES.md and docs/FORMATS.md name, with its name."""
     text = (TOP / "docs" / "STATUSES.md").read_text() + (TOP / "docs" / "FORMATS.md").read_text()
-    found = {}
+    found: dict[int, str] = {}
     for codes, names in re.findall(r"^\| ((?:\d\d)(?:, \d\d)*) \| (\w+(?:, \w+)*) \|", text, re.M):
         found.update(zip(map(int, codes.split(", ")), names.split(", ")))
     return {code: name for code, name in found.items() if code < 70} | {69: "NotFound"}
 
 
-def all_words(bank):
+def all_words(bank: Bank) -> None:
     """No code without a sentence and something to do."""
     documented = codes_in_documents()
     right(documented == {**NAMES["refused"], **NAMES["fault"]}, f"the documents name {len(documented)} codes, and so does this test", documented)
@@ -390,7 +394,7 @@ def all_words(bank):
     page.quit()
 
 
-def refusals_shown(bank):
+def refusals_shown(bank: Bank) -> None:
     """Each refusal that a teller can meet, by what a teller does, from the true counter."""
     begin(bank, [7, 9])
     bank.expect(200, "/bonds", {"desk": 900, "number": 50, "bonds": [TOO_YOUNG, UNISSUED]})
@@ -404,14 +408,14 @@ def refusals_shown(bank):
     page.quit()
 
 
-def told(page, words, code):
+def told(page: Page, words: str, code: int) -> None:
     page.waits_for(words, "#notices")
     page.waits_for(f"code {code}. Nothing was changed.", "#notices")
     page.settled()
     right(True, f"{code}: {words}")
 
 
-def refused_days(bank, page):
+def refused_days(bank: Bank, page: Page) -> None:
     page.open_day("2012-02-06")
     page.waits_for("February 6, 2012 is open.")
     page.press("#leave-day button")
@@ -435,14 +439,18 @@ def refused_days(bank, page):
     told(page, "No business day is open.", 42)
 
 
-def changed_sheets(bank, owner, change):
+def changed_sheets(bank: Bank, owner: int, change: Callable[[bytes], bytes]) -> None:
     """What the page is given as a sheet of that owner: another text."""
-    def changed(path, text):
+    def changed(path: str, text: bytes) -> bytes:
         return answer(b"200 OK", b"text/plain", change(text.partition(b"\r\n\r\n")[2])) if path.startswith(f"/inventory/{owner}/") else text
     bank.gate.changed = changed
 
 
-def refused_payments(bank, page):
+def sheet_or(sheet: bytes | None, text: bytes) -> bytes:
+    return sheet or text
+
+
+def refused_payments(bank: Bank, page: Page) -> None:
     """The page lets nobody choose a bond that can't be paid; so it is given false sheets here, and the counter refuses what they let choose."""
     page.open_day("2012-02-09")
     page.waits_for("February 9, 2012 is open.")
@@ -454,7 +462,7 @@ def refused_payments(bank, page):
         ("Q7EE", 7, later, "Bond Q7EE isn't issued yet in the month of the open day.", 53),
         ("N7EE", 7, later, "Bond N7EE is less than 12 months old.", 54),
     ):
-        changed_sheets(bank, 7, lambda text, sheet=sheet: sheet or text)
+        changed_sheets(bank, 7, functools.partial(sheet_or, sheet))
         page.go("pay")
         page.add(owner, serial)
         page.pay(7)
@@ -469,7 +477,7 @@ def refused_payments(bank, page):
     misspelled(page)
 
 
-def misspelled(page):
+def misspelled(page: Page) -> None:
     """What isn't spelled rightly is told at its field, and nothing is sent."""
     page.ask_to_add(9, "12EE")
     field = page.find("#serial")
@@ -486,7 +494,7 @@ def misspelled(page):
     right(not page.find("#pay-bonds").is_displayed(), "without a bond there is nothing to press")
 
 
-def full_day(bank, page):
+def full_day(bank: Bank, page: Page) -> None:
     """1,000 tickets on one day."""
     bonds = [{"serial": f"F{place}EE", "denom": 50, "issued": "2010-11", "owner": 20} for place in range(1, 1001)]
     for place in (0, 500):
@@ -518,7 +526,7 @@ SHEETS = """
 """
 
 
-def sheets_read(bank):
+def sheets_read(bank: Bank) -> None:
     """Sheets of the true counter are read, and no damaged one is."""
     begin(bank, [7])
     bank.expect(200, "/bonds", {"desk": 900, "number": 50, "bonds": [TOO_YOUNG, UNISSUED, OLDEST]})

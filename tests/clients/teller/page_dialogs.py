@@ -1,6 +1,11 @@
 """Questions and notices at the widths of desktops, tablets and phones: no word and no sum is broken, and each button is in sight; and what a screen reader is given of each question."""
-from pathlib import Path
+from __future__ import annotations
 
+from pathlib import Path
+from typing import Sequence
+
+from bank import Bank
+from browser import Page
 from page_cases import dollars, is_paid_on
 from page_guards import DAY, joined
 from page_looks import kept_picture
@@ -40,7 +45,7 @@ HELD = "const real = window.setTimeout; window.setTimeout = (act, wait, ...more)
 LARGE = [{"serial": f"Z{9_999_999_900 + place}EE", "denom": 10000, "issued": "2005-05", "owner": 900_000_001} for place in range(1, 61)]
 
 
-def seen(bank, page, what, root, least=None):
+def seen(bank: Bank, page: Page, what: str, root: str, least: int | None = None) -> None:
     """At each width, with a picture of it if a folder for pictures is named. At least `least` buttons are in sight; None is for a paper, which scrolls."""
     wrong = []
     for width, height in WIDTHS:
@@ -55,7 +60,7 @@ def seen(bank, page, what, root, least=None):
     right(wrong == [], f"{what}: at {', '.join(str(width) for width, _ in WIDTHS)} pixels no word is broken{'' if least is None else ', and each of its buttons is in sight'}", wrong)
 
 
-def given(page, what, name, said, buttons, items=0):
+def given(page: Page, what: str, name: str, said: Sequence[str], buttons: list[str], items: int = 0) -> None:
     """What a screen reader is given of the question that is open. `said` are parts of its description."""
     found = page.engine.dialog()
     if found is None:
@@ -64,7 +69,7 @@ def given(page, what, name, said, buttons, items=0):
     right(found[0] == name and found[2] and all(part in found[1] for part in said) and sorted(found[3]) == sorted(in_question) and found[4] == buttons, f"{what}: its title names it, its text describes it, and nothing beside it is there", found)
 
 
-def questions(bank):
+def questions(bank: Bank) -> None:
     """Each question: before a payment, before a day is opened and closed, and about the year."""
     page = joined(bank)
     bank.expect(200, "/bonds", {"desk": 900, "number": 61, "bonds": LARGE})
@@ -101,7 +106,7 @@ def questions(bank):
     page.quit()
 
 
-def days_asked(bank, page):
+def days_asked(bank: Bank, page: Page) -> None:
     page.resize(1100, 820)
     page.ask_to_open("2121-02-06")
     seen(bank, page, "question before a day is opened", "#confirm", 2)
@@ -116,7 +121,7 @@ def days_asked(bank, page):
     page.press("#confirm-no")
 
 
-def notices_whole(bank):
+def notices_whole(bank: Bank) -> None:
     """A retry, a wait for a sign-in, refusals with and without a ticket's button, and a payment beside the next customer."""
     page = joined(bank, owners=(7, 9))
     page.show_sheet(7)

@@ -1,4 +1,7 @@
 """What may be mistyped of a bond, though the counter takes it: its letter, and its issue month. The page asks before it sends it."""
+from __future__ import annotations
+
+from bank import Bank
 from browser import DOUBT
 from page_cases import books_of, is_paid_on
 from page_guards import RESTS, joined
@@ -13,7 +16,7 @@ ASKED = """
 """
 
 
-def doubts_told(bank):
+def doubts_told(bank: Bank) -> None:
     """Each letter with each denomination, and issue months around the last of paper."""
     page = joined(bank, owners=())
     pairs = [(letter, denom, "05/2010") for letter in "ABCDEFGHIJKLMNOPQRSTUVWXYZ" for denom in LETTERS.values()]
@@ -33,7 +36,7 @@ def doubts_told(bank):
     page.quit()
 
 
-def doubts_asked(bank):
+def doubts_asked(bank: Bank) -> None:
     """Before a payment, and before a registration: Back sends nothing, and a bond that fits isn't asked about."""
     page = joined(bank, day="2013-06-03")
     bank.expect(200, "/bonds", {"desk": 900, "number": 60, "bonds": [{**UNISSUED, "serial": "R7EE"}]})
@@ -64,7 +67,7 @@ def doubts_asked(bank):
     page.quit()
 
 
-def doubts_of_walk_in(bank):
+def doubts_of_walk_in(bank: Bank) -> None:
     """A denomination that is typed wrong is asked about before anything is registered."""
     page = joined(bank, owners=())
     page.go("walkin")

@@ -1,10 +1,14 @@
 """What goes wrong around a request: the browser's storage, signing in, look-ups without an answer, a bond that is chosen twice, a browser that is too old."""
+from __future__ import annotations
+
 import json
 import threading
+from pathlib import Path
+from typing import Any
 
 from selenium.common.exceptions import WebDriverException
 
-from bank import PASSWORD, USER
+from bank import PASSWORD, USER, Bank
 from browser import Page
 from page_cases import EARLIER, books_of, dollars, is_paid_on
 from page_guards import joined
@@ -32,7 +36,7 @@ UNHANDLED = """
 QUOTA = "This browser has no room left for the journal of this page."
 
 
-def storage_fails(bank):
+def storage_fails(bank: Bank) -> None:
     """Before a sending, between two, after the reply: what is told is true, the page goes on by itself, and the bond is paid once."""
     page = joined(bank, owners=(7, 9))
     page.run(UNHANDLED)
@@ -59,7 +63,7 @@ def storage_fails(bank):
     right(books.rows("SELECT payee, bonds, total FROM tickets ORDER BY ticket") == [(7, 1, VALUES["L"]), (7, 1, VALUES["K"]), (9, 1, VALUES["L"])], "three tickets")
 
 
-def failing_after_reply(bank, page):
+def failing_after_reply(bank: Bank, page: Page) -> None:
     sent = len(bank.gate.bodies)
     page.show_sheet(7)
     page.choose("K7EE")
@@ -71,7 +75,7 @@ def failing_after_reply(bank, page):
     right(len(bank.gate.bodies) == sent + 1 and page.journal()["last"] == 2, "and it is stored at last, and sent no more")
 
 
-def failing_between(bank, page):
+def failing_between(bank: Bank, page: Page) -> None:
     page.show_sheet(9)
     page.choose("L9EE")
     bank.gate.faults = ["lost answer"]
@@ -85,7 +89,7 @@ def failing_between(bank, page):
     right(EARLIER in page.find("#notices").text and len(set(bank.gate.bodies[sent:])) == 1, "then the same request is sent again, and the page says that it was paid once")
 
 
-def storage_cleared(bank):
+def storage_cleared(bank: Bank) -> None:
     """The journal's database is closed and gone while the page works: the page writes it anew from what it remembers."""
     page = joined(bank)
     before = page.journal()
@@ -110,7 +114,7 @@ def storage_cleared(bank):
     right(books_of(bank).one("SELECT count(*) FROM tickets") == 1, "one ticket")
 
 
-def moved_on(bank, page):
+def moved_on(bank: Bank, page: Page) -> tuple[Path, str]:
     """Another password for the user, as after a change: nginx reads the file for each request."""
     passwords = bank.nginx.folder / "passwords"
     was = passwords.read_text()
@@ -118,11 +122,11 @@ def moved_on(bank, page):
     return passwords, was
 
 
-def refused_since(bank, before):
+def refused_since(bank: Bank, before: int) -> list[dict[str, Any]]:
     return [entry for entry in bank.nginx.log()[before:] if entry["status"] == "403"]
 
 
-def signed_out_while_paying(bank):
+def signed_out_while_paying(bank: Bank) -> None:
     """The password changes while a teller works. The page names it, keeps the request and what was typed, sends nothing more by itself, and goes on after signing in in another tab."""
     page = joined(bank, owners=(7, 9))
     page.show_sheet(7)
@@ -146,7 +150,7 @@ def signed_out_while_paying(bank):
     right(books_of(bank).one("SELECT count(*) FROM tickets") == 1, "one ticket")
 
 
-def signed_in_elsewhere(page):
+def signed_in_elsewhere(page: Page) -> None:
     first = page.driver.current_window_handle
     page.press("#sign-in")
     page.until(lambda: len(page.driver.window_handles) == 2, "another tab opens")
@@ -157,7 +161,7 @@ def signed_in_elsewhere(page):
     page.driver.switch_to.window(first)
 
 
-def signed_out_while_looking(bank):
+def signed_out_while_looking(bank: Bank) -> None:
     """A look-up waits for the sign-in too; a login page in place of an answer is named."""
     page = joined(bank, owners=(7, 9))
     passwords, was = moved_on(bank, page)
@@ -187,7 +191,7 @@ def signed_out_while_looking(bank):
     page.quit()
 
 
-def name_and_sign_out(bank):
+def name_and_sign_out(bank: Bank) -> None:
     """The teller's name comes from the proxy. Signing out has the browser drop the password; it isn't offered while a request is open."""
     page = joined(bank)
     page.waits_for(f"Teller {USER}", "#user")
@@ -215,7 +219,7 @@ def name_and_sign_out(bank):
     right(asked[0] == 401 and USER not in asked[2], "nobody's name is given without a password")
 
 
-def asked_anew(bank, page):
+def asked_anew(bank: Bank, page: Page) -> None:
     """In a tab of its own the page is asked for again: the browser sends no password."""
     log = bank.nginx.folder / "log" / "access.log"
     before = len(log.read_text().splitlines())
@@ -229,7 +233,13 @@ def asked_anew(bank, page):
     right(len(lines) >= 1 and all(" - - [" in line and '" 401 ' in line for line in lines), "after it the browser sends no password, and gets no page", lines)
 
 
-def chosen_twice(bank):
+def once_set(hold: threading.Event, seconds: float, text: bytes) -> bytes:
+    """Waits for an event, which has to come."""
+    assert hold.wait(seconds)
+    return text
+
+
+def chosen_twice(bank: Bank) -> None:
     """A bond is chosen once, however it is chosen: on the sheet, added, added again while the first look-up is under way, and on the sheet that comes later."""
     page = joined(bank, owners=(7, 9))
     page.show_sheet(7)
@@ -238,7 +248,7 @@ def chosen_twice(bank):
     page.waits_for("Bond L7EE is already chosen.", "#notices")
     page.add(9, "K9EE")
     hold = threading.Event()
-    bank.gate.changed = lambda path, text: hold.wait(20) and text
+    bank.gate.changed = lambda path, text: once_set(hold, 20, text)
     page.ask_to_add(9, "L9EE")
     page.press("#add-bond button")
     page.ask_to_add(7, "K7EE")
@@ -262,13 +272,13 @@ def chosen_twice(bank):
     right([json.loads(body)["serials"] for body in bank.gate.bodies] == [["K9EE"]], "one bond was sent, once")
 
 
-def silent_look_up(bank):
+def silent_look_up(bank: Bank) -> None:
     """A look-up without an answer can be ended, and leaves the sheet that is shown, with what is chosen on it. One that was overtaken wipes nothing."""
     page = joined(bank, owners=(7, 9, 11))
     page.show_sheet(7)
     page.choose("L7EE", "K7EE")
     hold = threading.Event()
-    bank.gate.changed = lambda path, text: (hold.wait(60) and text) if path.startswith("/inventory/9/") else text
+    bank.gate.changed = lambda path, text: once_set(hold, 60, text) if path.startswith("/inventory/9/") else text
     page.show_sheet_begun(9)
     page.until(lambda: page.find("#asking").is_displayed(), "the page says that it asks")
     right("Unpaid bonds of customer 7" in page.find("#sheet").text, "the sheet stays while another is asked for")
@@ -290,12 +300,12 @@ def silent_look_up(bank):
     page.quit()
 
 
-def loads(bank):
+def loads(bank: Bank) -> int:
     """How often the browser asked for the page itself."""
     return (bank.nginx.folder / "log" / "access.log").read_text().count('"GET /teller/ HTTP')
 
 
-def old_browser(bank):
+def old_browser(bank: Bank) -> None:
     """A browser that lacks what the page needs, and a file that can't be read, get one sentence and no reload."""
     index = (bank.teller / "index.html").read_text()
     (bank.teller / "lacking.js").write_text("delete AbortSignal.any;\n")
@@ -322,7 +332,7 @@ def old_browser(bank):
     page.quit()
 
 
-def stays(bank, page, what):
+def stays(bank: Bank, page: Page, what: str) -> None:
     before = loads(bank)
     page.sleep(8)
     seen = [text for text in page.find("main").text.splitlines() if text.strip()]

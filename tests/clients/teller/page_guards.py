@@ -1,15 +1,20 @@
 """What keeps a teller from paying what wasn't seen: days by their distance, the confirmed sum, open requests after faults, users who may not, notices in sight."""
+from __future__ import annotations
+
 import contextlib
+import itertools
 import json
 import signal
 import time
+from typing import Any, Iterable, Iterator
 
 from selenium.webdriver.common.keys import Keys
 
-from bank import USER
+from bank import USER, Bank
 from browser import Page
 from gate import ENTRY
-from nginx_sample import SAMPLE, Nginx, replaced
+from counter_calls import replaced
+from nginx_sample import SAMPLE, Nginx
 from page_cases import EARLIER, books_of, changed_sheets, dollars, is_paid_on
 from relay import Relay
 from samples import TOO_YOUNG, VALUES, begin, right
@@ -19,14 +24,18 @@ OF_DAY = "Monday, February 6, 2012"
 AUGUST = "2012-08"
 
 
-def closed_day(bank, day):
+#: Numbers of desk 900, two for each closed day.
+NUMBERS = itertools.count(200_002, 2)
+
+
+def closed_day(bank: Bank, day: str) -> None:
     """A day without a ticket, by desk 900."""
-    numbers = closed_day.numbers = getattr(closed_day, "numbers", 200_000) + 2
-    bank.expect(200, "/day/open", {"desk": 900, "number": numbers, "day": day})
-    bank.expect(200, "/day/close", {"desk": 900, "number": numbers + 1, "day": day})
+    number = next(NUMBERS)
+    bank.expect(200, "/day/open", {"desk": 900, "number": number, "day": day})
+    bank.expect(200, "/day/close", {"desk": 900, "number": number + 1, "day": day})
 
 
-def joined(bank, owners=(7,), day=DAY, **more):
+def joined(bank: Bank, owners: Iterable[int] = (7,), day: str = DAY, **more: Any) -> Page:
     begin(bank, owners, day)
     page = Page(bank, **more)
     page.choose_desk(5)
@@ -35,8 +44,8 @@ def joined(bank, owners=(7,), day=DAY, **more):
     return page
 
 
-def question(page):
-    return page.find("#confirm-title").text + "\n" + page.find("#confirm-text").text
+def question(page: Page) -> str:
+    return f"{page.find('#confirm-title').text}\n{page.find('#confirm-text').text}"
 
 
 # ---- days
@@ -49,7 +58,7 @@ SERVER_DATE = """
 """
 
 
-def usual_day(bank):
+def usual_day(bank: Bank) -> None:
     """A day soon after the last closed one, and near today: its weekday, its distance, and one question."""
     begin(bank, [7])
     closed_day(bank, "2012-02-03")
@@ -83,7 +92,7 @@ def usual_day(bank):
     page.quit()
 
 
-def far_from_today(bank):
+def far_from_today(bank: Bank) -> None:
     """A day soon after the last closed one, and more than seven days from today by the server's clock, which isn't the machine's."""
     begin(bank, [7])
     closed_day(bank, "2012-02-03")
@@ -110,7 +119,7 @@ def far_from_today(bank):
     page.quit()
 
 
-def learns_of_others(bank, page):
+def learns_of_others(bank: Bank, page: Page) -> None:
     """Days that another desk closed meanwhile."""
     closed_day(bank, "2012-02-10")
     page.ask_to_open("2012-02-14")
@@ -135,7 +144,7 @@ def learns_of_others(bank, page):
     page.press("#confirm-no")
 
 
-def unanswered(bank, page):
+def unanswered(bank: Bank, page: Page) -> None:
     """Batches that nothing answers: the page doesn't know the last closed day, and opens none."""
     bank.gate.changed = lambda path, text: b"" if path.startswith("/batch/") else text
     sent = len(bank.gate.bodies)
@@ -154,7 +163,7 @@ RESTS = """
 """
 
 
-def wrong_year(bank):
+def wrong_year(bank: Bank) -> None:
     """A year mistyped: the page asks again, and Back leaves the books as they are. Confirmed twice, it does open."""
     begin(bank, [7])
     closed_day(bank, "2012-02-03")
@@ -195,7 +204,7 @@ def wrong_year(bank):
 # ---- an answer to one sending
 
 
-def lost_then(bank, fault, words):
+def lost_then(bank: Bank, fault: str, words: str) -> None:
     """A payment whose answer is lost after the commit; its resend meets the fault; then the true reply comes."""
     page = joined(bank)
     page.show_sheet(7)
@@ -216,23 +225,23 @@ def lost_then(bank, fault, words):
     right(books_of(bank).one("SELECT count(*) FROM tickets") == 1, "one ticket")
 
 
-def fault_on_resend(bank):
+def fault_on_resend(bank: Bank) -> None:
     lost_then(bank, "not json", "The counter can't read the request: it isn't JSON. This says nothing about the earlier attempts.")
 
 
-def forbidden_on_resend(bank):
+def forbidden_on_resend(bank: Bank) -> None:
     lost_then(bank, "forbidden", "This user may not pay bonds. Ask a teller, or sign in as one. This says nothing about the earlier attempts.")
 
 
-def error_page_on_resend(bank):
+def error_page_on_resend(bank: Bank) -> None:
     lost_then(bank, "no gateway", "The counter didn't answer: something else did (status 502).")
 
 
-def redirect_on_resend(bank):
+def redirect_on_resend(bank: Bank) -> None:
     lost_then(bank, "redirect", "The counter didn't answer: the request was redirected, as to a page for signing in.")
 
 
-def many_requests(bank):
+def many_requests(bank: Bank) -> None:
     lost_then(bank, "too many", "The counter didn't answer: too many requests.")
 
 
@@ -241,7 +250,7 @@ KEPT = [("keepalive_timeout 0", "keepalive_timeout 60s")]
 REPEATED = [("limit_req zone=counter_sendings;", "")]
 
 
-def connection_reset(bank):
+def connection_reset(bank: Bank) -> None:
     """The connection breaks after the commit, and a fault answers what comes next. Over a kept connection, and in Firefox at times over another, that is a repeat of the browser's own, of which the
     page doesn't know."""
     begin(bank, [7], DAY)
@@ -260,7 +269,7 @@ def connection_reset(bank):
 
 
 @contextlib.contextmanager
-def changed_nginx(bank, name, changes):
+def changed_nginx(bank: Bank, name: str, changes: Iterable[tuple[str, str]]) -> Iterator[Nginx]:
     conf = bank.folder / f"{name}.conf"
     conf.write_text(replaced((SAMPLE / "counter.conf").read_text(), changes))
     nginx = Nginx(bank.folder / name, bank.gate.port, bank.nginx.users, conf=conf, rate=100_000)
@@ -270,7 +279,7 @@ def changed_nginx(bank, name, changes):
         nginx.end()
 
 
-def still_open(bank, nginx, desk, serial, ticket):
+def still_open(bank: Bank, nginx: Nginx, desk: int, serial: str, ticket: int) -> None:
     page = reset_while_paying(bank, nginx.port, desk, serial, ["not json"])
     page.waits_for("This says nothing about the earlier attempts.", "#progress")
     right(page.journal()["open"]["sent"] == 2, f"{nginx.folder.name}: each answer is that to a sending of the page's own, and the request stays open", page.journal())
@@ -280,7 +289,7 @@ def still_open(bank, nginx, desk, serial, ticket):
     page.quit()
 
 
-def reset_while_paying(bank, port, desk, serial, then):
+def reset_while_paying(bank: Bank, port: int, desk: int, serial: str, then: list[str]) -> Page:
     relay = Relay(port)
     bank.port, bank.gate.cut = relay.port, relay.cut
     page = Page(bank)
@@ -295,7 +304,7 @@ def reset_while_paying(bank, port, desk, serial, then):
     return page
 
 
-def first_sendings(bank):
+def first_sendings(bank: Bank) -> None:
     """On the first sending a fault, and the proxy's word on the user, are final: nothing was done, and the page goes on."""
     page = joined(bank)
     for fault, words, code in (
@@ -319,7 +328,7 @@ def first_sendings(bank):
     right(books_of(bank).one("SELECT count(*) FROM tickets") == 0, "and the books have nothing")
 
 
-def forbidden_days(bank, page):
+def forbidden_days(bank: Bank, page: Page) -> None:
     bank.gate.faults = ["forbidden"]
     page.close_day()
     page.waits_for("This user may not close a day. Nothing was done.", "#notices")
@@ -344,7 +353,7 @@ ENTRIES = """
 """
 
 
-def named_entries(page):
+def named_entries(page: Page) -> None:
     read, kinds, one = page.run_module(ENTRIES)
     right(read == [None, None, None, None, None, one, one, None] and one == ENTRY, "only 32 hex digits are an entry; without a header there is none", read)
     right(kinds == ["forbidden", "none", "none", "none"], "only the exact body of a 403 says that the user may not", kinds)
@@ -361,7 +370,7 @@ HEARD = """
 """
 
 
-def headers_sent(bank):
+def headers_sent(bank: Bank) -> None:
     """Each request of the page names its client, and each POST its type."""
     begin(bank, [7])
     page = Page(bank)
@@ -388,7 +397,7 @@ def headers_sent(bank):
 # ---- the sum
 
 
-def changed_month(bank):
+def changed_month(bank: Bank) -> None:
     """A sheet of February, then a day in August: nothing of February's sum can be confirmed."""
     page = joined(bank)
     page.show_sheet(7)
@@ -416,13 +425,13 @@ def changed_month(bank):
     paid_as_confirmed(bank, page)
 
 
-def no_day_at_all(page):
+def no_day_at_all(page: Page) -> None:
     page.show_sheet(7, "2012-02")
     page.waits_for("No business day is open, so nothing can be chosen here.", "#sheet")
     right(not any(box.is_enabled() for box in page.all("#sheet input")), "without a day nothing can be chosen")
 
 
-def paid_as_confirmed(bank, page):
+def paid_as_confirmed(bank: Bank, page: Page) -> None:
     values = {row.split()[0]: row for row in bank.ask("GET", f"/inventory/7/{AUGUST}")[1].splitlines()}
     cents = sum(round(100 * float(values[serial].split()[9])) for serial in ("L7EE", "K7EE"))
     told = page.pay()
@@ -433,7 +442,7 @@ def paid_as_confirmed(bank, page):
     right(books_of(bank).one("SELECT total FROM tickets") == cents, "and the books'")
 
 
-def bonds_added(bank):
+def bonds_added(bank: Bank) -> None:
     """Bonds added by serial number and owner: with their values, in the sum that is confirmed, and never twice."""
     page = joined(bank, owners=(7, 9, 11))
     bank.expect(200, "/bonds", {"desk": 900, "number": 50, "bonds": [TOO_YOUNG]})
@@ -465,7 +474,7 @@ def bonds_added(bank):
     right(books_of(bank).rows("SELECT payee, bonds, total FROM tickets") == [(8, 2, 2 * VALUES["K"])], "one ticket of two owners' bonds, to their coowner")
 
 
-def sum_differs(bank):
+def sum_differs(bank: Bank) -> None:
     """A sheet that isn't the counter's own, as another program might give it: the ticket's total is what was paid, and the page says so."""
     page = joined(bank)
     later = bank.ask("GET", "/inventory/7/2012-08")[1].encode()
@@ -501,17 +510,17 @@ COVERED = """
 """
 
 
-def is_in_window(page, selector, what):
+def is_in_window(page: Page, selector: str, what: str) -> None:
     top, bottom, left, right_edge, height, width, scrolled = page.run(BOX, selector)
     right(0 <= top < bottom <= height and 0 <= left < right_edge <= width, f"{what}: its box is within the window", (top, bottom, left, right_edge, height, width, scrolled))
 
 
-def many_bonds(bank, owner, count, letter="S"):
+def many_bonds(bank: Bank, owner: int, count: int, letter: str = "S") -> None:
     bonds = [{"serial": f"{letter}{place}EE", "denom": 50, "issued": "2010-11", "owner": owner} for place in range(1, count + 1)]
     bank.expect(200, "/bonds", {"desk": 901, "number": owner, "bonds": bonds})
 
 
-def notices_seen(bank):
+def notices_seen(bank: Bank) -> None:
     """At 1366 x 768, with the teller at the button Pay: with three bonds on the sheet, and with sixty."""
     page = joined(bank, size=(1366, 768))
     page.resize(1366, 768)
@@ -523,7 +532,7 @@ def notices_seen(bank):
     page.quit()
 
 
-def told_in_sight(bank, page, owner):
+def told_in_sight(bank: Bank, page: Page, owner: int) -> None:
     count = len(page.all("#sheet tbody tr"))
     bank.gate.faults = ["lost request"] * 3
     page.pay(99)
@@ -545,7 +554,7 @@ def told_in_sight(bank, page, owner):
     right(page.all(".notice") == [] and page.run("return document.activeElement.matches('#pay-bonds button')"), "Close ends it, and the keyboard is on Pay again")
 
 
-def notices_narrow(bank):
+def notices_narrow(bank: Bank) -> None:
     """320 pixels: a notice takes half of the window at most, hides nothing that has the keyboard, and can be closed."""
     page = joined(bank)
     page.resize(320, 640)
@@ -571,7 +580,7 @@ def notices_narrow(bank):
     page.quit()
 
 
-def walked(page):
+def walked(page: Page) -> tuple[list[str], int]:
     """Tabs through the whole view and back; what was covered, and how many places there were."""
     covered, places = [], 0
     for back in (False, True):
@@ -585,7 +594,7 @@ def walked(page):
 # ---- who may
 
 
-def grouped(bank, groups):
+def grouped(bank: Bank, groups: str) -> None:
     """Gives the user other groups, in nginx."""
     (bank.nginx.folder / "groups").write_text(f'{USER} "{groups}";\n')
     bank.nginx.process.send_signal(signal.SIGHUP)
@@ -601,7 +610,7 @@ def grouped(bank, groups):
 DAY_BUTTONS = "return [...document.querySelectorAll('#day button')].filter((one) => one.checkVisibility()).map((one) => [one.textContent, !one.classList.contains('plain')])"
 
 
-def supervisors_acts(bank):
+def supervisors_acts(bank: Bank) -> None:
     """What a teller may not do isn't the main button; the page learns the groups from nginx, and nginx still decides."""
     begin(bank, [7])
     page = Page(bank)

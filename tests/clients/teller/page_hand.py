@@ -1,4 +1,8 @@
 """The bonds in a teller's hand: one field takes their serial numbers, typed or scanned, in any spelling; the way to Pay by the keyboard; the sheet's headings."""
+from __future__ import annotations
+
+from bank import Bank
+from browser import Page
 from selenium.webdriver.common.action_chains import ActionChains
 from selenium.webdriver.common.keys import Keys
 
@@ -27,7 +31,7 @@ READ = """
 """
 
 
-def scan(page, *texts):
+def scan(page: Page, *texts: str) -> None:
     """As a scanner types: each text at once, with Enter."""
     for text in texts:
         ActionChains(page.driver).send_keys(text + Keys.ENTER).perform()
@@ -36,16 +40,16 @@ def scan(page, *texts):
 class Keyboard:
     """A teller's own keys, counted."""
 
-    def __init__(self, page):
+    def __init__(self, page: Page) -> None:
         self.page, self.count = page, 0
 
-    def press(self, *keys):
+    def press(self, *keys: str) -> None:
         for key in keys:
             self.count += 1
             self.page.tab() if key == Keys.TAB else self.page.keys(key)
 
 
-def sixty_scanned(bank):
+def sixty_scanned(bank: Bank) -> None:
     """Sixty bonds by the scanner, and the rest by the keyboard alone in under 60 keystrokes."""
     page = at_work(bank, owners=())
     many_bonds(bank, 60, 80, "L")
@@ -73,7 +77,7 @@ def sixty_scanned(bank):
     page.quit()
 
 
-def spelled(bank):
+def spelled(bank: Bank) -> None:
     """Each spelling that people use is one serial number, in a list too, and nothing else is."""
     page = at_work(bank)
     found, lists = page.run_module(READ, [*SPELLINGS, *OTHERS], list(LISTS))
@@ -83,7 +87,7 @@ def spelled(bank):
     page.quit()
 
 
-def in_hand(bank):
+def in_hand(bank: Bank) -> None:
     """Bonds that are chosen, that aren't there, that can't be paid, and what is no serial number."""
     page = joined(bank, owners=(7, 9))
     bank.expect(200, "/bonds", {"desk": 900, "number": 60, "bonds": [TOO_YOUNG]})
@@ -116,7 +120,7 @@ def in_hand(bank):
     page.quit()
 
 
-def of_another_owner(bank, page):
+def of_another_owner(bank: Bank, page: Page) -> None:
     page.press("#missed li button")
     right(page.run("return [document.getElementById('serial').value, document.activeElement.id]") == ["K9EE", "owner"], "a bond that isn't there is looked for under another owner by a button")
     page.keys("9", Keys.ENTER)
@@ -125,7 +129,7 @@ def of_another_owner(bank, page):
     page.press("#others li button")
 
 
-def keys_to_pay(page):
+def keys_to_pay(page: Page) -> None:
     """From a box too; a scanner's second Enter leads nowhere; and its letters reach the field from anywhere."""
     page.run("document.querySelector('input[data-serial=L7EE]').focus()")
     page.keys(Keys.ENTER)
@@ -151,7 +155,7 @@ HEADINGS = """
 """
 
 
-def headings_seen(bank):
+def headings_seen(bank: Bank) -> None:
     """The headings of a long sheet stay in sight, below a notice too; and cover nothing that has the keyboard."""
     page = joined(bank, size=(1280, 800))
     many_bonds(bank, 60, 200)

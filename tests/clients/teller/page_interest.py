@@ -1,8 +1,12 @@
 """Interest as CSV: of a ticket, of a day, and of a customer in a span of days. What this browser can't know is named on the page, and its columns are empty."""
+from __future__ import annotations
+
+from bank import Bank
 from browser import Page
 from page_cases import is_paid_on
 from page_guards import DAY, joined
 from samples import VALUES, right
+from typing import Iterable
 
 HEAD = "Day,Ticket,Payee,Serial number,Denomination,Issue month,Price,Interest,Value"
 #: By hand, from docs/FIRST_DAY.md: the price is half of the denomination, and the interest is the value less the price.
@@ -13,7 +17,7 @@ LATER = ("2012-02-07,4,7,M7EE,10000,2011-02,5000.00,24.00,5024.00",)
 WHOLE = "Nothing is missing: every ticket of this span was read."
 
 
-def saved(page, name, press):
+def saved(page: Page, name: str, press: str) -> str:
     """The text of a file that the page saves."""
     folder = page.bank.folder / "downloads"
     folder.mkdir(exist_ok=True)
@@ -25,11 +29,11 @@ def saved(page, name, press):
     return file.read_text()
 
 
-def text_of(*groups):
+def text_of(*groups: Iterable[str]) -> str:
     return "\n".join([HEAD, *(row for group in groups for row in group)]) + "\n"
 
 
-def pays(page, owner, ticket, payee, *serials):
+def pays(page: Page, owner: int, ticket: int, payee: int, *serials: str) -> None:
     page.show_sheet(owner)
     page.choose(*serials)
     page.pay(payee)
@@ -37,14 +41,14 @@ def pays(page, owner, ticket, payee, *serials):
     page.settled()
 
 
-def asked_of_day(page, day):
+def asked_of_day(page: Page, day: str) -> None:
     page.go("interest")
     page.type("#interest-day", day)
     page.press("#ask-interest-day button")
     page.until(lambda: page.find("#interest-of").text.startswith("Interest paid on"), "the interest of the day")
 
 
-def asked_of_payee(page, payee, first, last):
+def asked_of_payee(page: Page, payee: int, first: str, last: str) -> None:
     page.go("interest")
     page.run("document.getElementById('interest-of').replaceChildren()")
     for name, text in (("payee", str(payee)), ("from", first), ("to", last)):
@@ -53,7 +57,7 @@ def asked_of_payee(page, payee, first, last):
     page.until(lambda: page.find("#interest-of").text.startswith(f"Interest paid to customer {payee} "), "the interest of the customer")
 
 
-def two_days(bank):
+def two_days(bank: Bank) -> Page:
     """Tickets of this desk and of another one, on two days."""
     page = joined(bank, owners=(7, 9, 11))
     pays(page, 7, 1, 7, "K7EE", "L7EE")
@@ -68,7 +72,7 @@ def two_days(bank):
     return page
 
 
-def interest_files(bank):
+def interest_files(bank: Bank) -> None:
     """Of a ticket, of a day and of a customer; after a reload too; and in another browser."""
     page = two_days(bank)
     right(saved(page, "interest-ticket-4.csv", "#ticket .save") == text_of(LATER), "a ticket's interest is saved by a button beside Print")
@@ -96,7 +100,7 @@ def interest_files(bank):
     other_browser(bank, page)
 
 
-def other_browser(bank, page):
+def other_browser(bank: Bank, page: Page) -> None:
     """One that paid nothing, and one whose records aren't of this store."""
     bank.gate.changed = lambda path, text: text.replace(b'"payee":7', b'"payee":8') if path == "/ticket/4" else text
     page.reload()
@@ -113,7 +117,7 @@ def other_browser(bank, page):
     other.quit()
 
 
-def interest_of_long_span(bank):
+def interest_of_long_span(bank: Bank) -> None:
     """A span with more tickets than are read: what this browser has no record of is named."""
     module = bank.teller / "interest.js"
     text = module.read_text()

@@ -1,7 +1,11 @@
 """How the page is worked and seen: by the keyboard alone, in a narrow window, by a screen reader's tree, in print, and in pictures."""
+from __future__ import annotations
+
 import subprocess
 from pathlib import Path
+from typing import Iterable
 
+from bank import Bank
 from selenium.webdriver.common.keys import Keys
 
 from browser import Page
@@ -12,7 +16,7 @@ from samples import OLDER, TOO_YOUNG, UNISSUED, VALUES, begin, right, samples_bo
 VIEWS = ("day", "pay", "walkin", "tickets", "batches", "interest")
 
 
-def at_work(bank, owners=(7,), desk=5):
+def at_work(bank: Bank, owners: Iterable[int] = (7,), desk: int = 5) -> Page:
     begin(bank, owners, "2012-02-06")
     page = Page(bank)
     page.choose_desk(desk)
@@ -21,7 +25,7 @@ def at_work(bank, owners=(7,), desk=5):
     return page
 
 
-def keyboard_alone(bank):
+def keyboard_alone(bank: Bank) -> None:
     """A whole payment with Tab, Space, Enter and typing; no pointer."""
     begin(bank, [7], "2012-02-06")
     page = Page(bank)
@@ -62,7 +66,7 @@ def keyboard_alone(bank):
 VIEWPORTS = {"320 pixels wide": (320, 800), "1280 pixels at 200 %": (640, 450), "a tablet": (820, 1100)}
 
 
-def narrow_window(bank):
+def narrow_window(bank: Bank) -> None:
     """320 pixels, and a window zoomed to 200 %: nothing is cut or goes over the edge, what can be pressed is 44 pixels, a bond is a card, and a payment is made."""
     page = at_work(bank)
     bank.expect(200, "/bonds", {"desk": 900, "number": 60, "bonds": [TOO_YOUNG]})
@@ -91,7 +95,7 @@ FIRST = """
 """
 
 
-def cards(page):
+def cards(page: Page) -> None:
     """Beside its box, a card begins with serial number and value; it is tapped anywhere."""
     right(set(page.run(FIRST)) == {"of-box", "of-serial", "of-value"}, "a card begins with its box, its serial number and its value", page.run(FIRST))
     for serial, is_chosen in (("K7EE", True), ("N7EE", False)):
@@ -109,13 +113,13 @@ def cards(page):
 NAMED = "button, a[href], input, dialog[open], [role=region], table, nav, progress"
 
 
-def unnamed(page):
+def unnamed(page: Page) -> list[str]:
     """What a screen reader is given without a name, by the browser's own computing."""
     elements = [element for element in page.all(NAMED) if element.is_displayed()]
     return [element.get_attribute("outerHTML")[:120] for element in elements if element.accessible_name == ""]
 
 
-def accessible(bank):
+def accessible(bank: Bank) -> None:
     """The rules, in each state of the page; and that each rule can fail."""
     begin(bank, [7, 9], "2012-02-06")
     page = Page(bank)
@@ -133,7 +137,7 @@ def accessible(bank):
     page.show_sheet(7)
     page.choose("L7EE")
     page.add(9, "K9EE")
-    least = 21
+    least = 21.0
     for view in VIEWS:
         page.go(view)
         checked(page, view)
@@ -152,7 +156,7 @@ def accessible(bank):
     page.quit()
 
 
-def asked_and_barred(page):
+def asked_and_barred(page: Page) -> None:
     """A sheet on which nothing can be chosen, fields that are marked, and the question."""
     page.show_sheet(7, "2012-08")
     page.waits_for("Nothing can be chosen here", "#sheet")
@@ -173,12 +177,12 @@ def asked_and_barred(page):
     page.press("#confirm-no")
 
 
-def heard(page, words):
+def heard(page: Page, words: str) -> None:
     """The live region says it."""
     page.until(lambda: words in page.find("#live").get_attribute("textContent"), f"the live region says: {words}, and not {page.find('#live').get_attribute('textContent')}")
 
 
-def in_trouble(bank, page):
+def in_trouble(bank: Bank, page: Page) -> None:
     """While a request is retried, and with a refusal."""
     page.go("pay")
     bank.gate.faults = ["lost request"] * 3
@@ -198,7 +202,7 @@ OUTLINES = """
 """
 
 
-def focus_is_seen(page):
+def focus_is_seen(page: Page) -> None:
     """In a zoomed window an outline is rounded to whole pixels of the screen."""
     for width, least in ((320, 2), (1100, 3)):
         page.resize(width, 820)
@@ -208,7 +212,7 @@ def focus_is_seen(page):
         right((style, other) == ("solid", "none") and thick >= least, f"{width} pixels wide: what has the keyboard has an outline, and nothing else", (style, thick, other))
 
 
-def pictures(bank):
+def pictures(bank: Bank) -> None:
     """The main views and questions, on a desktop, a tablet and a phone, and a printed ticket of 100 bonds, if --pictures names a folder for them."""
     if bank.pictures is None:
         print("no folder for pictures is named")
@@ -230,7 +234,7 @@ def pictures(bank):
     right(True, f"pictures in {folder}")
 
 
-def pictures_of_payment(bank, page, folder):
+def pictures_of_payment(bank: Bank, page: Page, folder: Path) -> None:
     page.show_sheet(7)
     page.find("#in-hand").send_keys("K9EE", Keys.ENTER, "N7EE", Keys.ENTER, "K2EE L1EE M3EE", Keys.ENTER)
     page.shows_sum(3, dollars(SUM), "February 2012")
@@ -255,7 +259,7 @@ def pictures_of_payment(bank, page, folder):
     kept_picture(page, folder / "ticket.png", 960, 900)
 
 
-def pictures_of_day(page, folder):
+def pictures_of_day(page: Page, folder: Path) -> None:
     page.go("day")
     page.waits_for("1 ticket, 3 bonds", "#all-sum")
     kept_picture(page, folder / "day.png", 960, 860)
@@ -269,7 +273,7 @@ def pictures_of_day(page, folder):
     kept_picture(page, folder / "again.png", 960, 560)
 
 
-def picture_of_paper(bank, folder):
+def picture_of_paper(bank: Bank, folder: Path) -> None:
     """The first and the last sheet of a ticket of 100 bonds."""
     bonds = [{"serial": f"S{place}EE", "denom": 50, "issued": "2010-11", "owner": 60} for place in range(1, 101)]
     bank.expect(200, "/bonds", {"desk": 901, "number": 60, "bonds": bonds})
@@ -289,7 +293,7 @@ def picture_of_paper(bank, folder):
     page.quit()
 
 
-def kept_picture(page, path, width, height, scrolled=False):
+def kept_picture(page: Page, path: Path, width: int, height: int, scrolled: bool = False) -> None:
     page.resize(width, height)
     if not scrolled:
         page.run("scrollTo(0, 0)")

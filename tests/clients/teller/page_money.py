@@ -1,4 +1,7 @@
 """No money moves by a press that was meant for something else, and no payment is forgotten or told wrong: questions that rest, bonds that were paid meanwhile, the next customer, storage."""
+from __future__ import annotations
+
+from bank import Bank
 from selenium.webdriver.common.action_chains import ActionChains
 
 from browser import Page
@@ -16,7 +19,7 @@ COUNTS = (1, 3, 12, 60)
 LEAST = 300
 
 
-def windows():
+def windows() -> list[tuple[int, int]]:
     """Each size in pixels of the page once."""
     zoomed = [(round(width / zoom), round(height / zoom)) for width, height in WINDOWS for zoom in ZOOMS]
     return sorted({(width, height) for width, height in zoomed if width >= LEAST and height >= 250} | set(LOW), reverse=True)
@@ -52,18 +55,18 @@ NEAR = """
 UNGUARDED = (("const REST = 1500;", "const REST = 0;"), ("    if (isApart()) return;", "    return;"), ('yes.setAttribute("aria-disabled", "true");', ""))
 
 
-def double_click(page):
+def double_click(page: Page) -> None:
     """On Pay, where it is."""
     double_click_on(page, "#pay-button")
 
 
-def double_click_on(page, selector):
+def double_click_on(page: Page, selector: str) -> None:
     button = page.find(selector)
     page.run("arguments[0].scrollIntoView({ block: 'nearest' })", button)
     ActionChains(page.driver).double_click(button).perform()
 
 
-def paying(bank, count):
+def paying(bank: Bank, count: int) -> Page:
     page = Page(bank)
     page.choose_desk(5)
     page.join_day(DAY)
@@ -72,14 +75,14 @@ def paying(bank, count):
     return page
 
 
-def chosen(page, count):
+def chosen(page: Page, count: int) -> None:
     page.resize(1100, 820)
     page.show_sheet(1000 + count)
     page.press("#choose-all")
     page.waits_for(f"{count} bond", "#chosen")
 
 
-def lists(bank):
+def lists(bank: Bank) -> None:
     """Owners of one bond and of many."""
     begin(bank, [], DAY)
     for count in COUNTS:
@@ -87,7 +90,7 @@ def lists(bank):
         bank.expect(200, "/bonds", {"desk": 901, "number": count, "bonds": bonds})
 
 
-def double_clicks(bank):
+def double_clicks(bank: Bank) -> None:
     """A double click on Pay pays in no window, with no list and at no zoom; and the question's button never lies where the pointer was, wherever that is."""
     lists(bank)
     page = paying(bank, 1)
@@ -120,7 +123,7 @@ PRESSES = """
 """
 
 
-def rests_anew(bank, page):
+def rests_anew(bank: Bank, page: Page) -> None:
     """Presses on the button while it rests."""
     chosen(page, 1)
     page.ask_to_pay()
@@ -132,7 +135,7 @@ def rests_anew(bank, page):
     page.settled()
 
 
-def unguarded(bank):
+def unguarded(bank: Bank) -> None:
     """The control: the same double clicks on a page without rest and place."""
     question = bank.teller / "question.js"
     text = question.read_text()
@@ -160,7 +163,7 @@ def unguarded(bank):
 ROW = "return document.querySelector(`input[data-serial='${arguments[0]}']`).closest('tr').innerText"
 
 
-def paid_meanwhile(bank):
+def paid_meanwhile(bank: Bank) -> None:
     """A bond that another desk paid: the row says so, can't be chosen, and isn't counted."""
     page = joined(bank, owners=(7, 9))
     page.show_sheet(7)
@@ -196,20 +199,20 @@ def paid_meanwhile(bank):
 # ---- the next customer
 
 
-def awaited(bank, page):
+def awaited(bank: Bank, page: Page) -> None:
     """Pays; the reply is lost, and no later sending gets through until `replied`."""
     bank.gate.faults = ["lost answer", *["lost request"] * 20]
     page.pay()
     page.waits_for("sent again in 4 seconds", "#progress")
 
 
-def replied(bank, page, words):
+def replied(bank: Bank, page: Page, words: str) -> None:
     bank.gate.faults = []
     page.waits_for(words, "#notices")
     page.settled()
 
 
-def next_customer(bank):
+def next_customer(bank: Bank) -> None:
     """What is chosen and typed for the next customer while a reply is awaited stays as it comes."""
     page = joined(bank, owners=(7, 9, 11))
     page.show_sheet(7)
@@ -236,7 +239,7 @@ def next_customer(bank):
     page.quit()
 
 
-def same_customer(bank, page):
+def same_customer(bank: Bank, page: Page) -> None:
     """Other bonds of the same sheet are chosen meanwhile."""
     page.settled()
     page.show_sheet(11)
@@ -261,7 +264,7 @@ BLOCKED = "IDBFactory.prototype.open = function () { throw new DOMException('no'
 KEEPS = "StorageManager.prototype.persist = StorageManager.prototype.persisted = async () => true;"
 
 
-def storage_unkept(bank):
+def storage_unkept(bank: Bank) -> None:
     """Storage that won't be kept is said beside the bonds, before the first payment; a browser that asks its user for it is waited for by nobody."""
     index = (bank.teller / "index.html").read_text()
     (bank.teller / "index.html").write_text(index.replace('<script src="old.js"', '<script src="storage.js"></script>\n<script src="old.js"'))

@@ -1,11 +1,14 @@
 """What is printed: tickets and batches as PDF, on Letter and A4, read by Debian's pdftotext."""
+from __future__ import annotations
+
 import json
 import re
 import subprocess
 import unicodedata
 from pathlib import Path
 
-from bank import BANK, BRANCH, USER
+from bank import BANK, BRANCH, USER, Bank
+from browser import Page
 from page_cases import dollars, is_paid_on
 from page_guards import many_bonds
 from page_looks import at_work
@@ -30,7 +33,7 @@ AMOUNTS = {
 }
 
 
-def sheets(page, paper, name="ticket"):
+def sheets(page: Page, paper: str, name: str = "ticket") -> list[str]:
     """The texts of a print's sheets."""
     path = Path(page.bank.folder) / f"{name}.pdf"
     path.write_bytes(page.engine.pdf(*PAPERS[paper]))
@@ -40,8 +43,9 @@ def sheets(page, paper, name="ticket"):
     return unicodedata.normalize("NFKC", text).split("\f")[:-1]
 
 
-def kept(path, page):
+def kept(path: Path, page: Page) -> None:
     """The PDF, and its sheets as pictures, in the folder that was named."""
+    assert page.bank.pictures is not None
     folder = Path(page.bank.pictures)
     folder.mkdir(parents=True, exist_ok=True)
     target = folder / f"{path.stem}-{page.browser}"
@@ -49,12 +53,12 @@ def kept(path, page):
     subprocess.run(["pdftoppm", "-r", "60", "-png", str(path), str(target)], check=True)
 
 
-def wrong_heads(found, title):
+def wrong_heads(found: list[str], title: str) -> list[int]:
     """The sheets without their number, day and payee, or without 'page x of y'."""
     return [place for place, text in enumerate(found, 1) if title not in text or f"Page {place} of {len(found)}" not in text]
 
 
-def paid_hundred(page, bank):
+def paid_hundred(page: Page, bank: Bank) -> str:
     many_bonds(bank, 60, 100)
     page.show_sheet(60)
     page.press("#choose-all")
@@ -65,7 +69,7 @@ def paid_hundred(page, bank):
     return dollars(100 * VALUES["L"])
 
 
-def hundred_bonds(bank):
+def hundred_bonds(bank: Bank) -> None:
     """A ticket of 100 bonds, then its copy; the total once, heads and pages on each sheet."""
     page = at_work(bank)
     total = paid_hundred(page, bank)
@@ -85,7 +89,7 @@ def hundred_bonds(bank):
     page.quit()
 
 
-def printed_again(page, title, total):
+def printed_again(page: Page, title: str, total: str) -> None:
     page.until(lambda: "COPY" in page.find("#ticket h2").text, "the page says that it was printed")
     again = sheets(page, "A4", "kept_copy")
     right(len(again) == 4 and wrong_heads(again, title) == [] and all("COPY" in text for text in again), "printed again, on A4, each sheet says COPY", [text[:200] for text in again])
@@ -99,7 +103,7 @@ def printed_again(page, title, total):
     right(True, "it still is a copy after the page was loaded again")
 
 
-def originals(bank):
+def originals(bank: Bank) -> None:
     """A ticket that this desk paid prints as itself once, after a reload too; one of another desk, and one of another day, is a copy."""
     page = at_work(bank)
     many_bonds(bank, 60, 3)
@@ -126,7 +130,7 @@ def originals(bank):
     page.quit()
 
 
-def button_prints_once(page):
+def button_prints_once(page: Page) -> None:
     """The button writes the mark before it prints: here the browser's own printing is counted."""
     page.run("window.prints = []; window.print = () => window.prints.push(document.querySelector('#ticket .copy') !== null)")
     page.show_sheet(7)
@@ -150,7 +154,7 @@ IN_WORDS = """
 """
 
 
-def sheets_split(bank):
+def sheets_split(bank: Bank) -> None:
     """How rows are put on sheets, for each count; and amounts in words."""
     page = at_work(bank)
     splits = page.run_module(SPLITS)
@@ -161,7 +165,7 @@ def sheets_split(bank):
     page.quit()
 
 
-def batch_printed(bank):
+def batch_printed(bank: Bank) -> None:
     """The batch with the list of its tickets, the total once, and a line to sign."""
     page = at_work(bank)
     many_bonds(bank, 60, 45)

@@ -1,9 +1,11 @@
 """The printed ticket is a receipt: what a bank, a payee and the tax form need of each bond, on one sheet for twelve; from whatever moment the page comes back; and nothing that isn't known."""
+from __future__ import annotations
+
 import json
 import re
 import time
 
-from bank import USER
+from bank import USER, Bank
 from browser import Page
 from page_cases import books_of, dollars, is_paid_on
 from page_guards import DAY, joined
@@ -24,16 +26,16 @@ ROOM = """
 """
 
 
-def lines_of(text):
+def lines_of(text: str) -> list[list[str]]:
     """The bonds of a printed sheet: of each its texts."""
     return [line.split()[1:] for line in text.splitlines() if re.match(r" *\d+ +[A-Z]\d+EE ", line)]
 
 
-def total_of(text):
+def total_of(text: str) -> tuple[str, ...]:
     return next(tuple(line.split()[1:]) for line in text.splitlines() if line.split()[:1] == ["Total"])
 
 
-def of_twelve(bank, page, more=""):
+def of_twelve(bank: Bank, page: Page, more: str = "") -> list[str]:
     """Pays twelve bonds of customer 60."""
     kinds = bonds_of(60)
     bonds = [{**kinds[place % 3], "serial": f"{kinds[place % 3]['serial'][0]}{600 + place}EE"} for place in range(12)]
@@ -46,7 +48,7 @@ def of_twelve(bank, page, more=""):
     return sorted(bond["serial"] for bond in bonds)
 
 
-def receipt(bank):
+def receipt(bank: Bank) -> None:
     """Twelve bonds on one sheet of either paper: each with what the sheet of its owner had of it, the sums, and the server's time."""
     page = at_work(bank)
     page.run("Date.now = () => 0")
@@ -59,7 +61,7 @@ def receipt(bank):
         right(len(found) == 1, f"{paper}: twelve bonds are on one sheet", len(found))
         text = found[0]
         wanted = [(serial, *FACTS[serial[0]]) for serial in serials]
-        right(sorted(map(tuple, lines_of(text))) == wanted, f"{paper}: each bond has denomination, issue month, price, interest and value", text)
+        right(sorted(tuple(line) for line in lines_of(text)) == wanted, f"{paper}: each bond has denomination, issue month, price, interest and value", text)
         right(total_of(text) == SUMS, f"{paper}: the sums of price, interest and value", text)
     flat = re.sub(r"\s+", " ", text)
     facts = (SERIES, "Ticket 1", "Business day February 6, 2012", "Paid to customer 60", "Desk 5", f"Teller {USER}", "Server's time")
@@ -73,7 +75,7 @@ def receipt(bank):
 # ---- after a reload
 
 
-def receipt_after_reload(bank):
+def receipt_after_reload(bank: Bank) -> None:
     """The answer is lost and the page loaded again: the journal kept what the receipt needs. Later, on another day, it still has it."""
     page = joined(bank)
     page.show_sheet(7)
@@ -109,7 +111,7 @@ def receipt_after_reload(bank):
     right(books_of(bank).one("SELECT count(*) FROM tickets") == 2, "two tickets")
 
 
-def looked_up(page, ticket, cents):
+def looked_up(page: Page, ticket: int, cents: int) -> None:
     page.go("tickets")
     page.type("#ticket-number", str(ticket))
     page.press("#ask-ticket button")
@@ -134,7 +136,7 @@ EARLIER_OPEN = """
 """
 
 
-def receipt_unknown(bank):
+def receipt_unknown(bank: Bank) -> None:
     """A ticket whose bonds this browser doesn't know: another desk's, another store's, one of an earlier version. The paper says so, and nothing is guessed."""
     page = joined(bank, owners=(7, 9))
     bank.expect(200, "/redeem", {"desk": 901, "number": 3000, "day": DAY, "payee": 9, "serials": ["K9EE"]})
@@ -162,7 +164,7 @@ def receipt_unknown(bank):
     page.quit()
 
 
-def receipt_unstored(bank):
+def receipt_unstored(bank: Bank) -> None:
     """The browser can't write the record of a payment: the page says that the reply has come, and keeps the request until the record is written."""
     page = joined(bank)
     page.show_sheet(7)
@@ -207,13 +209,13 @@ AT_FIRST = """
 """
 
 
-def asked_to_delete(page, day):
+def asked_to_delete(page: Page, day: str) -> None:
     page.go("interest")
     page.type("#records-to", day)
     page.press("#delete-records button")
 
 
-def paid_by(page, ticket, *serials):
+def paid_by(page: Page, ticket: int, *serials: str) -> None:
     page.show_sheet(7)
     page.choose(*serials)
     page.pay()
@@ -221,7 +223,7 @@ def paid_by(page, ticket, *serials):
     page.settled()
 
 
-def records_deleted(bank):
+def records_deleted(bank: Bank) -> None:
     """Records of earlier days are deleted by a button, after a question, all or none; what is in use stays."""
     page = joined(bank)
     paid_by(page, 1, "K7EE")
@@ -283,7 +285,7 @@ def records_deleted(bank):
     page.quit()
 
 
-def receipt_pictures(bank):
+def receipt_pictures(bank: Bank) -> None:
     """The receipt on the screen and on paper, if --pictures names a folder."""
     if bank.pictures is None:
         print("no folder for pictures is named")

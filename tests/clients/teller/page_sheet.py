@@ -1,6 +1,10 @@
 """Long sheets: they stop nothing, and say how many rows they have; the filter; what is said of a sheet that came."""
-import os
+from __future__ import annotations
 
+import os
+from typing import Callable
+
+from bank import Bank
 from selenium.webdriver.common.keys import Keys
 
 from browser import Page
@@ -33,11 +37,11 @@ ROWS = """
 """
 
 
-def written(page):
+def written(page: Page) -> None:
     page.until(lambda: page.find("table.sheet").get_attribute("aria-busy") == "false", "all rows are written")
 
 
-def sheet_text(count, heading):
+def sheet_text(count: int, heading: str) -> str:
     """A sheet as the counter prints it, of bonds like S1EE."""
     line = "{:13} EE         50 11/2010 03/2012 11/2040        25.00           0.16  0.60%          25.16 P5"
     rows = [line.format(f"S{place}EE") for place in range(1, count + 1)]
@@ -46,20 +50,20 @@ def sheet_text(count, heading):
     return "\n".join([heading, *rows, total, ""])
 
 
-def answered(count, text):
+def answered(count: int, text: bytes) -> bytes:
     """A sheet of `count` bonds, with the heading of the counter's own answer."""
     body = sheet_text(count, text.decode().split("\r\n\r\n")[1].split("\n")[0]).encode()
     return b"HTTP/1.1 200 OK\r\nContent-Type: text/plain\r\nContent-Length: %d\r\nConnection: close\r\n\r\n" % len(body) + body
 
 
-def limit():
+def limit() -> float:
     """On this machine, as busy as it is now."""
-    return LIMIT * max(1, os.getloadavg()[0] / os.cpu_count())
+    return LIMIT * max(1, os.getloadavg()[0] / (os.cpu_count() or 1))
 
 
-def longest_stop(page, act):
+def longest_stop(page: Page, act: Callable[[], object]) -> float:
     """The longest stop of the page in milliseconds while it does `act`: the least of some tries, since other work has the machine's processors too."""
-    found = []
+    found: list[float] = []
     for _ in range(TRIES):
         page.run(WATCH)
         act()
@@ -79,22 +83,22 @@ TYPE = """
 IS_WRITTEN = "return document.querySelector('table.sheet')?.ariaBusy === 'false' && document.querySelector('table.sheet').caption.textContent.includes(arguments[0])"
 
 
-def shown(page, owner):
+def shown(page: Page, owner: int) -> None:
     page.run("document.getElementById('sheet').replaceChildren()")
     page.run(TYPE, "#customer", str(owner), True)
     page.until(lambda: page.run(IS_WRITTEN, f"customer {owner} "), "all rows are written")
 
 
-def stops(page, owner):
+def stops(page: Page, owner: int) -> list[float]:
     """The longest stops while a sheet is shown, while it is filtered, and while a bond of it is chosen."""
     page.go("pay")
 
-    def filters():
+    def filters() -> None:
         for text in ("11/2010", "S9", "S99", ""):
             page.run(TYPE, "#filter", text, False)
             page.until(lambda: page.run(IS_WRITTEN, f"customer {owner} "), "what is left is written")
 
-    def chooses():
+    def chooses() -> None:
         page.run(TYPE, "#in-hand", "S999EE", True)
         page.sleep(0.3)
 
@@ -103,7 +107,7 @@ def stops(page, owner):
     return found
 
 
-def long_sheets(bank):
+def long_sheets(bank: Bank) -> None:
     """1,000 bonds of the counter, and 5,000 of the gate: nothing stops the page for 0.2 seconds, all rows are there, and everything works as on a short sheet."""
     page = joined(bank, size=(1280, 800))
     for first in (1, 501):
@@ -119,7 +123,7 @@ def long_sheets(bank):
     all_at_once(bank)
 
 
-def all_at_once(bank):
+def all_at_once(bank: Bank) -> None:
     """The control: the same sheet on a page that makes all rows at once, and lays all of them out."""
     for name, was, now in (("sheet_table.js", "GROUPS_AT_ONCE = 2;", "GROUPS_AT_ONCE = 1000;"), ("style.css", "content-visibility: auto;", "")):
         text = (bank.teller / name).read_text()
@@ -134,7 +138,7 @@ def all_at_once(bank):
     page.quit()
 
 
-def worked(bank, page):
+def worked(bank: Bank, page: Page) -> None:
     """On a sheet of 1,000 bonds."""
     shown(page, 60)
     page.press("#in-hand")
@@ -172,7 +176,7 @@ def worked(bank, page):
 
 
 #: What is typed, and which bonds of customer 7 are left.
-FILTERS = {
+FILTERS: dict[str, list[str]] = {
     "l7": ["L7EE"],
     "S-0-": [],
     "l 0007 ee": ["L7EE"],
@@ -189,7 +193,7 @@ FILTERS = {
 SHOWN = "return [...document.querySelectorAll('#sheet tbody th')].map((one) => one.textContent)"
 
 
-def filtered(bank):
+def filtered(bank: Bank) -> None:
     """By serial number, denomination and issue month; what is chosen stays chosen, and the button chooses what is shown."""
     page = at_work(bank)
     bank.expect(200, "/bonds", {"desk": 900, "number": 60, "bonds": [TOO_YOUNG]})
@@ -223,7 +227,7 @@ def filtered(bank):
     page.quit()
 
 
-def sheets_said(bank):
+def sheets_said(bank: Bank) -> None:
     """A screen reader hears of each sheet that came."""
     page = at_work(bank)
     bank.expect(200, "/bonds", {"desk": 900, "number": 60, "bonds": [TOO_YOUNG]})

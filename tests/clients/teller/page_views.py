@@ -1,6 +1,9 @@
 """What a teller asks for first, and where the page says it: the sum and whom it goes to, views that are empty, the day's sums, the teller's name, fields, and words in one file."""
+from __future__ import annotations
+
 import re
 
+from bank import Bank
 from browser import Page
 from page_cases import dollars, is_paid_on
 from page_guards import BOX, many_bonds
@@ -10,12 +13,12 @@ from samples import OLDER, TOO_YOUNG, UNISSUED, VALUES, begin, right
 DAY = "2012-02-06"
 
 
-def is_seen(page, selector):
+def is_seen(page: Page, selector: str) -> bool:
     top, bottom, left, right_edge, height, width, _ = page.run(BOX, selector)
-    return 0 <= top < bottom <= height + 1 and 0 <= left < right_edge <= width + 1
+    return bool(0 <= top < bottom <= height + 1 and 0 <= left < right_edge <= width + 1)
 
 
-def hierarchy(bank):
+def hierarchy(bank: Bank) -> None:
     """The sum stands large beside Pay, and both in view, however long the sheet is and wherever it is scrolled. The question and its button name sum and payee, and list the bonds."""
     page = at_work(bank)
     many_bonds(bank, 60, 60)
@@ -56,7 +59,7 @@ BROKEN = """
     return document.documentElement.scrollWidth > innerWidth ? [...broken, "window"] : broken;"""
 
 
-def texts_are_whole(page):
+def texts_are_whole(page: Page) -> None:
     """No text of the widest bond is broken, and nothing is beside the window, as a table and as a card."""
     for width in (1280, 1100, 1080, 948, 820, 360):
         page.resize(width, 800)
@@ -70,7 +73,7 @@ def texts_are_whole(page):
     page.choose("S1EE", "S60EE")
 
 
-def asked_by_sum(page, sum_of_two):
+def asked_by_sum(page: Page, sum_of_two: str) -> None:
     told = page.ask_to_pay()
     items = page.bonds_asked()
     right(told.startswith(f"Pay {sum_of_two} to customer 60?\n") and page.find("#confirm-yes").text == f"Pay {sum_of_two} to customer 60", "so do the question and its button", told)
@@ -94,7 +97,7 @@ TIMES = """
 DAY_FIRST = r"\b\d{1,2} (?:January|February|March|April|May|June|July|August|September|October|November|December)\b"
 
 
-def dates(bank):
+def dates(bank: Bank) -> None:
     """Dates and times as an American bank writes them, on the page and on paper; and the desk can't be read with the day as one number."""
     page = at_work(bank)
     right(page.find("#state").text == "Desk 5, February 6, 2012", "the head has desk and day", page.find("#state").text)
@@ -118,7 +121,7 @@ def dates(bank):
     page.quit()
 
 
-def empty_states(bank):
+def empty_states(bank: Bank) -> None:
     """No day, no bonds, no tickets: the page says so, and nothing stands there to press."""
     begin(bank, [7])
     page = Page(bank)
@@ -145,13 +148,13 @@ def empty_states(bank):
     page.quit()
 
 
-def paid_elsewhere(bank, owner, count, day, number):
+def paid_elsewhere(bank: Bank, owner: int, count: int, day: str, number: int) -> None:
     """By desk 901: tickets of one bond each."""
     for place in range(1, count + 1):
         bank.expect(200, "/redeem", {"desk": 901, "number": number + place, "day": day, "payee": owner, "serials": [f"S{place}EE"]})
 
 
-def latest_first(bank):
+def latest_first(bank: Bank) -> None:
     """Tickets and batches begin with the latest, found by look-ups alone."""
     page = at_work(bank)
     many_bonds(bank, 60, 23)
@@ -181,7 +184,7 @@ def latest_first(bank):
     page.quit()
 
 
-def selected_all(bank):
+def selected_all(bank: Bank) -> None:
     """All bonds that can be paid are chosen at once, and their total is told before; a ticket's 100 are the most."""
     page = at_work(bank)
     bank.expect(200, "/bonds", {"desk": 900, "number": 60, "bonds": [TOO_YOUNG, OLDER, UNISSUED]})
@@ -208,7 +211,7 @@ def selected_all(bank):
     page.quit()
 
 
-def sums_of_day(bank):
+def sums_of_day(bank: Bank) -> None:
     """The day's sums of this desk and of all desks; a ticket that another desk pays while the question is open."""
     page = at_work(bank, owners=(7, 9))
     many_bonds(bank, 60, 12)
@@ -239,7 +242,7 @@ def sums_of_day(bank):
     page.quit()
 
 
-def fields(bank):
+def fields(bank: Bank) -> None:
     """Native days and months; errors that stay until the field is right, and are tied to it."""
     begin(bank, [7])
     page = Page(bank)
@@ -288,7 +291,7 @@ LOOSE = """
 """
 
 
-def outside(text):
+def outside(text: str) -> re.Match[str] | None:
     """What stands outside the brackets, and is no number, serial number, badge, or name of the user."""
     while (shorter := re.sub("\u27e6[^\u27e6\u27e7]*\u27e7", "", text)) != text:
         text = shorter
@@ -296,7 +299,7 @@ def outside(text):
     return re.search(r"[A-Za-z]{2,}", text)
 
 
-def words_in_one_file(bank):
+def words_in_one_file(bank: Bank) -> None:
     """With each text of words.js in brackets, no word of the page stands outside of them."""
     first = (bank.teller / "words.js").read_text()
     (bank.teller / "words_first.js").write_text(first)
@@ -333,7 +336,7 @@ def words_in_one_file(bank):
     page.quit()
 
 
-def words_of_walk_in(page, found):
+def words_of_walk_in(page: Page, found: list[str]) -> None:
     page.go("walkin")
     for name, text in (("serial", "D12EE"), ("denom", "50"), ("issued", "11/2010")):
         page.type(f"#walkin-{name}", text)
@@ -349,7 +352,7 @@ def words_of_walk_in(page, found):
     page.go("pay")
 
 
-def words_of_papers(page, found):
+def words_of_papers(page: Page, found: list[str]) -> None:
     words_of_walk_in(page, found)
     page.press("#others button")
     page.pay(7)

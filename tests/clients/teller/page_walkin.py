@@ -1,14 +1,16 @@
 """A customer who walks in with bonds that aren't registered: typed from the paper, registered and paid in one go, once, whatever happens between."""
+from __future__ import annotations
+
 import json
 import signal
 import time
 
 from selenium.webdriver.common.keys import Keys
 
-from bank import USER
+from bank import USER, Bank
 from browser import Page
 from gate import answer
-from nginx_sample import replaced
+from counter_calls import replaced
 from page_cases import EARLIER, books_of, is_paid_on
 from page_guards import DAY, DAY_BUTTONS, grouped, joined
 from page_money import double_click_on
@@ -41,7 +43,7 @@ STEPS = """
 HELD = "const real = window.setTimeout; window.setTimeout = (act, wait, ...more) => (wait === 500 ? 0 : real(act, wait, ...more));"
 
 
-def typed(page, serial, denom, issued):
+def typed(page: Page, serial: str, denom: str, issued: str) -> None:
     """A bond, up to its place in the list."""
     for name, text in (("serial", serial), ("denom", denom), ("issued", issued)):
         page.type(f"#walkin-{name}", text)
@@ -49,7 +51,7 @@ def typed(page, serial, denom, issued):
     page.until(lambda: page.find("#walkin-serial").get_attribute("value") == "", f"{serial} is in the list")
 
 
-def walked_in(page, owner, coowner="", payee=""):
+def walked_in(page: Page, owner: int, coowner: int | str = "", payee: int | str = "") -> str:
     """The customers, up to the question."""
     for name, text in (("owner", owner), ("coowner", coowner), ("payee", payee)):
         page.type(f"#walkin-{name}", str(text))
@@ -57,7 +59,7 @@ def walked_in(page, owner, coowner="", payee=""):
     return page.asked_without_doubt()
 
 
-def two_typed(page, owner):
+def two_typed(page: Page, owner: int) -> None:
     """Two bonds of $100 and $500 of November 2010: 50.32 and 251.60."""
     page.go("walkin")
     typed(page, f"C{owner}EE", "100", "11/2010")
@@ -67,11 +69,11 @@ def two_typed(page, owner):
 TWO = 5032 + 25160
 
 
-def posts(bank):
+def posts(bank: Bank) -> list[str]:
     return [head.split(b" ", 2)[1].decode() for head in bank.gate.heads if head.startswith(b"POST ")]
 
 
-def walk_in(bank):
+def walk_in(bank: Bank) -> None:
     """Five bonds by the keyboard alone."""
     page = joined(bank, owners=())
     page.go("walkin")
@@ -113,7 +115,7 @@ def walk_in(bank):
 # ---- what goes wrong between
 
 
-def interrupted(bank, page, place, fault, is_reloaded, ticket):
+def interrupted(bank: Bank, page: Page, place: int, fault: str, is_reloaded: bool, ticket: int) -> None:
     """A fault at the registration (0) or at the payment (1): what is said is true, and the rest follows by itself."""
     owner, sent = 1000 + ticket, len(bank.gate.bodies)
     two_typed(page, owner)
@@ -136,7 +138,7 @@ def interrupted(bank, page, place, fault, is_reloaded, ticket):
     right(True, f"{('registration', 'payment')[place]}: {fault}{', page loaded again' if is_reloaded else ''}")
 
 
-def walk_in_interrupted(bank):
+def walk_in_interrupted(bank: Bank) -> None:
     """Faults at each of the two requests, with the page loaded again meanwhile and without."""
     begin(bank, [], DAY)
     page = Page(bank)
@@ -154,7 +156,7 @@ def walk_in_interrupted(bank):
     right(counts == (2 * len(rounds), 2 * len(rounds)), "one registration and one payment each", counts)
 
 
-def walk_in_once(bank):
+def walk_in_once(bank: Bank) -> None:
     """A double click, and a second tab that takes over between the two requests."""
     page = joined(bank, owners=())
     two_typed(page, 7)
@@ -187,14 +189,14 @@ def walk_in_once(bank):
 # ---- refusals
 
 
-def told(page, *words):
+def told(page: Page, *words: str) -> str:
     for one in words:
         page.waits_for(one, "#notices")
     page.settled()
-    return page.find("#notices").text
+    return str(page.find("#notices").text)
 
 
-def walk_in_refused(bank):
+def walk_in_refused(bank: Bank) -> None:
     """A refused registration pays nothing, and names the bond. A refused payment leaves the bonds registered, and says so."""
     page = joined(bank, owners=(9,))
     two_typed(page, 7)
@@ -238,14 +240,14 @@ NO_GROUPS = """        return 200 '{"groups":"$shown_groups"}';"""
 BARRED = "This user may not both register and pay bonds: ask a user who may."
 
 
-def offers(page, groups, is_offered):
+def offers(page: Page, groups: str, is_offered: bool) -> None:
     """Once the page knows the groups, by the order of the day's buttons."""
     first = "Open the day" if "supervisor" in groups else "Join the day"
     page.until(lambda: page.run(DAY_BUTTONS)[:1] == [[first, True]] and page.find("nav a[href='#walkin']").is_displayed() == is_offered, f"{groups or 'no group'}: {'a' if is_offered else 'no'} walk-in is offered")
     right(True, f"{groups or 'no group'}: {'a' if is_offered else 'no'} walk-in is offered")
 
 
-def walk_in_offered(bank):
+def walk_in_offered(bank: Bank) -> None:
     """A walk-in is offered to a user of both groups that it takes, and to all if the proxy doesn't tell the groups. nginx still decides."""
     begin(bank, [7])
     page = Page(bank)
@@ -291,7 +293,7 @@ READ = """
 """
 
 
-def walk_in_typed(bank):
+def walk_in_typed(bank: Bank) -> None:
     """Bonds are read in the spellings that people use, and a bond that can't be read or paid is reported at once."""
     page = joined(bank, owners=())
     denominations, months = page.run_module(READ, list(DENOMINATIONS), list(MONTHS))
@@ -333,7 +335,7 @@ def walk_in_typed(bank):
     page.quit()
 
 
-def paid_to_coowner(bank, page):
+def paid_to_coowner(bank: Bank, page: Page) -> None:
     told_question = walked_in(page, 7, 8, 8)
     right("to customer 8?" in told_question and "Owner: customer 7. Coowner: customer 8." in told_question, "a payment to the coowner", told_question)
     page.press("#confirm-yes")
@@ -344,7 +346,7 @@ def paid_to_coowner(bank, page):
     right(rows == [{"serial": "C7EE", "denom": 100, "issued": "2010-11", "owner": 7, "coowner": 8}, {"serial": "D7EE", "denom": 500, "issued": "2010-11", "owner": 7, "coowner": 8}], "the bonds are registered with both", rows)
 
 
-def walk_in_beside(bank):
+def walk_in_beside(bank: Bank) -> None:
     """The sheet of another customer, under Pay, stays; a sheet that is shown while the reply is awaited stays in view."""
     begin(bank, [7, 9], DAY)
     page = Page(bank)
@@ -375,7 +377,7 @@ def walk_in_beside(bank):
     page.quit()
 
 
-def walk_in_pictures(bank):
+def walk_in_pictures(bank: Bank) -> None:
     """The form and its question, if --pictures names a folder."""
     if bank.pictures is None:
         print("no folder for pictures is named")

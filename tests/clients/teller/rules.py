@@ -1,4 +1,9 @@
 """Rules of accessibility, each asked of what is shown, and for each a change of the page that breaks it: the control that the rule can fail. No package of Debian's has a checker for pages."""
+from __future__ import annotations
+
+from typing import Any
+
+from browser import Page
 
 #: What the rules share: what is shown, its names and colors.
 HELPERS = """
@@ -72,19 +77,19 @@ BREAKS = {
 }
 
 
-def broken(page):
+def broken(page: Page) -> dict[str, Any]:
     """What breaks a rule, by rule."""
     script = HELPERS + "return {" + ", ".join(f"{name!r}: {rule}" for name, rule in RULES.items()) + "};"
     return {name: found for name, found in page.run(script).items() if found}
 
 
-def checked(page, where):
+def checked(page: Page, where: str) -> None:
     found = broken(page)
     if found:
         raise SystemExit(f"WRONG: {where}: {found}")
 
 
-def controls(page):
+def controls(page: Page) -> list[str]:
     """Each rule, broken on purpose; the rules that don't notice."""
     blind = []
     for name, script in BREAKS.items():
@@ -98,5 +103,6 @@ def controls(page):
     return blind
 
 
-def least_contrast(page):
-    return page.run(HELPERS + "return Math.min(...all('body *').filter(shown).filter(has_text).map(contrast));")
+def least_contrast(page: Page) -> float:
+    contrast: float = page.run(HELPERS + "return Math.min(...all('body *').filter(shown).filter(has_text).map(contrast));")
+    return contrast

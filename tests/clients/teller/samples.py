@@ -2,7 +2,7 @@
 from __future__ import annotations
 
 import csv
-from typing import Iterable
+from typing import Any, Iterable
 
 from bank import TOP, Bank
 
@@ -20,7 +20,7 @@ def rates() -> list[dict[str, str]]:
         return [dict(row) for row in csv.DictReader(file)]
 
 
-def samples_bonds() -> list[dict[str, object]]:
+def samples_bonds() -> list[dict[str, Any]]:
     """The three bonds of the pictures."""
     return [
         {"serial": "L1EE", "denom": 50, "issued": "2010-11", "owner": 7},
@@ -29,7 +29,7 @@ def samples_bonds() -> list[dict[str, object]]:
     ]
 
 
-def bonds_of(owner: int, coowner: int = 8) -> list[dict[str, object]]:
+def bonds_of(owner: int, coowner: int = 8) -> list[dict[str, Any]]:
     """Three bonds: what the owner has in the samples, under serial numbers of his own."""
     return [
         {"serial": f"K{owner}EE", "denom": 75, "issued": "2010-10", "owner": owner, "coowner": coowner},
@@ -38,11 +38,11 @@ def bonds_of(owner: int, coowner: int = 8) -> list[dict[str, object]]:
     ]
 
 #: Bonds of customer 7 that can't be paid in February 2012: younger than 12 months, and not issued yet.
-TOO_YOUNG = {"serial": "N7EE", "denom": 500, "issued": "2011-09", "owner": 7}
-UNISSUED = {"serial": "Q7EE", "denom": 200, "issued": "2012-05", "owner": 7}
+TOO_YOUNG: dict[str, Any] = {"serial": "N7EE", "denom": 500, "issued": "2011-09", "owner": 7}
+UNISSUED: dict[str, Any] = {"serial": "Q7EE", "denom": 200, "issued": "2012-05", "owner": 7}
 #: One of more than five years, and one with the greatest serial number.
-OLDER = {"serial": "P7EE", "denom": 1000, "issued": "2006-03", "owner": 7}
-OLDEST = {"serial": "A9999999999EE", "denom": 10000, "issued": "2005-05", "owner": 7}
+OLDER: dict[str, Any] = {"serial": "P7EE", "denom": 1000, "issued": "2006-03", "owner": 7}
+OLDEST: dict[str, Any] = {"serial": "A9999999999EE", "denom": 10000, "issued": "2005-05", "owner": 7}
 
 
 def begin(bank: Bank, owners: Iterable[int], day: str | None = None) -> None:
