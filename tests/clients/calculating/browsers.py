@@ -1,4 +1,7 @@
 """Debian's Chromium, by selenium, and Debian's Firefox, by its Marionette protocol, under one set of names."""
+from __future__ import annotations
+
+import abc
 import base64
 import json
 import os
@@ -8,9 +11,11 @@ import subprocess
 import tempfile
 import time
 from pathlib import Path
+from typing import Any, Callable
 
 from selenium import webdriver
 from selenium.webdriver.chrome.service import Service
+from selenium.webdriver.remote.webelement import WebElement
 
 from serving import free_port
 
@@ -20,12 +25,71 @@ KEYS = {"Tab": "\ue004", "Enter": "\ue007", "Escape": "\ue00c", "Space": " ", "D
 AWAITING = "const done = arguments[arguments.length - 1]; (async (...given) => {%s})(...arguments).then(done, (error) => done('ERROR ' + error));"
 
 
-class Browser:
+class Browser(abc.ABC):
     """What both browsers can do, over the few calls that each has by itself."""
 
-    patience = PATIENCE
+    patience: float = PATIENCE
+    name: str
+    downloads: str
 
-    def until(self, condition, what, patience=None):
+    @abc.abstractmethod
+    def quit(self) -> None: ...
+
+    @abc.abstractmethod
+    def open(self, url: str) -> None: ...
+
+    @abc.abstractmethod
+    def reload(self) -> None: ...
+
+    @abc.abstractmethod
+    def run(self, script: str, *arguments: object) -> Any: ...
+
+    @abc.abstractmethod
+    def run_async(self, script: str, *arguments: object) -> Any: ...
+
+    @abc.abstractmethod
+    def click(self, selector: str) -> None: ...
+
+    @abc.abstractmethod
+    def upload(self, selector: str, path: str | Path) -> None: ...
+
+    @abc.abstractmethod
+    def type_keys(self, text: str) -> None: ...
+
+    @abc.abstractmethod
+    def shift_tab(self) -> None: ...
+
+    @abc.abstractmethod
+    def accessible(self, selector: str) -> list[tuple[str, str]]:
+        """Return the role and the name that a screen reader is given of each element that is shown."""
+
+    @abc.abstractmethod
+    def tab(self) -> str: ...
+
+    @abc.abstractmethod
+    def new_tab(self) -> str: ...
+
+    @abc.abstractmethod
+    def to_tab(self, handle: str) -> None: ...
+
+    @abc.abstractmethod
+    def close_tab(self, handle: str) -> None:
+        """Close another tab, and stay in this one."""
+
+    @abc.abstractmethod
+    def size(self, width: int, height: int) -> None: ...
+
+    @abc.abstractmethod
+    def picture(self, path: str | Path) -> None: ...
+
+    @abc.abstractmethod
+    def pdf(self) -> bytes: ...
+
+    @abc.abstractmethod
+    def complaints(self) -> list[str]:
+        """What the console was told."""
+
+    def until(self, condition: Callable[[], Any], what: str, patience: float | None = None) -> Any:
         """Wait until the condition holds, and return what it gave."""
         end = time.monotonic() + (patience or self.patience)
         while time.monotonic() < end:
@@ -35,27 +99,27 @@ class Browser:
             time.sleep(0.03)
         raise AssertionError(f"{self.name}: {what}\n{self.run('return document.body.innerText')[:2000]}")
 
-    def ready(self):
+    def ready(self) -> None:
         self.until(lambda: self.run("return document.documentElement.dataset.ready !== undefined"), "the page starts")
 
-    def visit(self, url):
+    def visit(self, url: str) -> None:
         self.open(url)
         self.ready()
 
-    def told(self):
-        return self.run("return document.querySelector('#told-text').textContent")
+    def told(self) -> str:
+        return str(self.run("return document.querySelector('#told-text').textContent"))
 
-    def waits_for(self, words):
+    def waits_for(self, words: str) -> None:
         self.until(lambda: words in self.told(), f"it is told: {words}")
 
-    def key(self, *names):
+    def key(self, *names: str) -> None:
         for name in names:
             self.type_keys(KEYS.get(name, name))
 
-    def has_keyboard(self, selector):
-        return self.run("return document.activeElement !== null && document.activeElement.matches(arguments[0])", selector)
+    def has_keyboard(self, selector: str) -> bool:
+        return bool(self.run("return document.activeElement !== null && document.activeElement.matches(arguments[0])", selector))
 
-    def tab_to(self, selector, most=80):
+    def tab_to(self, selector: str, most: int = 80) -> int:
         """Press Tab until an element has the keyboard. Return how many times."""
         for count in range(most):
             if self.has_keyboard(selector):
@@ -63,7 +127,7 @@ class Browser:
             self.key("Tab")
         raise AssertionError(f"{self.name}: no Tab reaches {selector}")
 
-    def saved(self, name):
+    def saved(self, name: str) -> bytes:
         """Return the bytes of a file that the page saved, and remove it."""
         path = Path(self.downloads) / name
         self.until(lambda: path.exists() and path.stat().st_size > 0 and not list(Path(self.downloads).glob("*.part")), f"{name} is saved")
@@ -75,7 +139,7 @@ class Browser:
 class Chromium(Browser):
     name = "Chromium"
 
-    def __init__(self, folder, size=(1280, 900), profile=None):
+    def __init__(self, folder: str, size: tuple[int, int] = (1280, 900), profile: str | None = None) -> None:
         self.downloads = tempfile.mkdtemp(dir=folder)
         self.profile = profile or tempfile.mkdtemp(dir=folder)
         options = webdriver.ChromeOptions()
@@ -88,73 +152,73 @@ class Chromium(Browser):
         self.driver = webdriver.Chrome(service=Service("/usr/bin/chromedriver"), options=options)
         self.driver.set_script_timeout(300)
 
-    def quit(self):
+    def quit(self) -> None:
         self.driver.quit()
 
-    def open(self, url):
+    def open(self, url: str) -> None:
         self.driver.get(url)
 
-    def reload(self):
+    def reload(self) -> None:
         self.driver.refresh()
 
-    def run(self, script, *arguments):
+    def run(self, script: str, *arguments: object) -> Any:
         return self.driver.execute_script(script, *arguments)
 
-    def run_async(self, script, *arguments):
+    def run_async(self, script: str, *arguments: object) -> Any:
         return self.driver.execute_async_script(AWAITING % script, *arguments)
 
-    def find(self, selector):
+    def find(self, selector: str) -> WebElement:
         return self.driver.find_element("css selector", selector)
 
-    def click(self, selector):
+    def click(self, selector: str) -> None:
         self.run("arguments[0].scrollIntoView({ block: 'center' })", self.find(selector))
         self.find(selector).click()
 
-    def upload(self, selector, path):
+    def upload(self, selector: str, path: str | Path) -> None:
         self.find(selector).send_keys(str(path))
 
-    def type_keys(self, text):
+    def type_keys(self, text: str) -> None:
         webdriver.common.action_chains.ActionChains(self.driver).send_keys(text).perform()
 
-    def shift_tab(self):
+    def shift_tab(self) -> None:
         chain = webdriver.common.action_chains.ActionChains(self.driver)
         chain.key_down(KEYS["Shift"]).send_keys(KEYS["Tab"]).key_up(KEYS["Shift"]).perform()
 
-    def accessible(self, selector):
+    def accessible(self, selector: str) -> list[tuple[str, str]]:
         """Return the role and the name that a screen reader is given of each element that is shown."""
         found = [one for one in self.driver.find_elements("css selector", selector) if one.is_displayed()]
         return [(one.aria_role, one.accessible_name) for one in found]
 
-    def tab(self):
-        return self.driver.current_window_handle
+    def tab(self) -> str:
+        return str(self.driver.current_window_handle)
 
-    def new_tab(self):
+    def new_tab(self) -> str:
         self.driver.switch_to.new_window("tab")
         return self.tab()
 
-    def to_tab(self, handle):
+    def to_tab(self, handle: str) -> None:
         self.driver.switch_to.window(handle)
 
-    def close_tab(self, handle):
+    def close_tab(self, handle: str) -> None:
         """Close another tab, and stay in this one."""
         own = self.tab()
         self.to_tab(handle)
         self.driver.close()
         self.to_tab(own)
 
-    def size(self, width, height):
+    def size(self, width: int, height: int) -> None:
         self.driver.execute_cdp_cmd("Emulation.setDeviceMetricsOverride", {"width": width, "height": height, "deviceScaleFactor": 1, "mobile": False})
 
-    def dark(self, is_dark):
+    def dark(self, is_dark: bool) -> None:
         self.driver.execute_cdp_cmd("Emulation.setEmulatedMedia", {"features": [{"name": "prefers-color-scheme", "value": "dark" if is_dark else "light"}]})
 
-    def picture(self, path):
+    def picture(self, path: str | Path) -> None:
         self.driver.save_screenshot(str(path))
 
-    def pdf(self):
+    def pdf(self) -> bytes:
         return base64.b64decode(self.driver.execute_cdp_cmd("Page.printToPDF", {"printBackground": True})["data"])
 
-    def complaints(self):
+    def complaints(self) -> list[str]:
         """What the console was told."""
         return [entry["message"] for entry in self.driver.get_log("browser")]
 
@@ -162,7 +226,7 @@ class Chromium(Browser):
 class Firefox(Browser):
     name = "Firefox"
 
-    def __init__(self, folder, size=(1280, 900), profile=None):
+    def __init__(self, folder: str, size: tuple[int, int] = (1280, 900), profile: str | None = None) -> None:
         self.downloads = tempfile.mkdtemp(dir=folder)
         self.profile = profile or tempfile.mkdtemp(dir=folder)
         port = free_port()
@@ -188,7 +252,7 @@ class Firefox(Browser):
         self.call("WebDriver:SetTimeouts", {"script": 300000})
         self.size(*size)
 
-    def connect(self, port):
+    def connect(self, port: int) -> None:
         end = time.monotonic() + 5 * PATIENCE
         while True:
             try:
@@ -201,13 +265,13 @@ class Firefox(Browser):
         self.stream = self.socket.makefile("rb")
         self.receive()
 
-    def receive(self):
+    def receive(self) -> Any:
         digits = b""
         while (byte := self.stream.read(1)) != b":":
             digits += byte
         return json.loads(self.stream.read(int(digits)))
 
-    def call(self, name, values=None):
+    def call(self, name: str, values: dict[str, Any] | None = None) -> Any:
         self.count += 1
         text = json.dumps([0, self.count, name, values or {}]).encode()
         self.socket.sendall(str(len(text)).encode() + b":" + text)
@@ -216,7 +280,7 @@ class Firefox(Browser):
             raise AssertionError(f"Firefox: {name}: {failure['error']}: {failure['message']}")
         return result["value"] if isinstance(result, dict) and set(result) == {"value"} else result
 
-    def quit(self):
+    def quit(self) -> None:
         """End this browser: the processes of its own session, and no others."""
         try:
             self.call("Marionette:Quit", {"flags": ["eForceQuit"]})
@@ -225,64 +289,64 @@ class Firefox(Browser):
             os.killpg(self.process.pid, signal.SIGKILL)
             self.process.wait()
 
-    def open(self, url):
+    def open(self, url: str) -> None:
         self.call("WebDriver:Navigate", {"url": url})
 
-    def reload(self):
+    def reload(self) -> None:
         self.call("WebDriver:Refresh")
 
-    def run(self, script, *arguments):
+    def run(self, script: str, *arguments: object) -> Any:
         return self.call("WebDriver:ExecuteScript", {"script": script, "args": arguments})
 
-    def run_async(self, script, *arguments):
+    def run_async(self, script: str, *arguments: object) -> Any:
         return self.call("WebDriver:ExecuteAsyncScript", {"script": AWAITING % script, "args": arguments})
 
-    def find(self, selector):
-        return self.call("WebDriver:FindElement", {"using": "css selector", "value": selector})[ELEMENT]
+    def find(self, selector: str) -> str:
+        return str(self.call("WebDriver:FindElement", {"using": "css selector", "value": selector})[ELEMENT])
 
-    def click(self, selector):
+    def click(self, selector: str) -> None:
         self.run("document.querySelector(arguments[0]).scrollIntoView({ block: 'center' })", selector)
         self.call("WebDriver:ElementClick", {"id": self.find(selector)})
 
-    def upload(self, selector, path):
+    def upload(self, selector: str, path: str | Path) -> None:
         self.call("WebDriver:ElementSendKeys", {"id": self.find(selector), "text": str(path)})
 
-    def press(self, *steps):
+    def press(self, *steps: tuple[str, str]) -> None:
         actions = [{"type": "key", "id": "keyboard", "actions": [{"type": kind, "value": value} for kind, value in steps]}]
         self.call("WebDriver:PerformActions", {"actions": actions})
 
-    def type_keys(self, text):
+    def type_keys(self, text: str) -> None:
         self.press(*[(kind, character) for character in text for kind in ("keyDown", "keyUp")])
 
-    def shift_tab(self):
+    def shift_tab(self) -> None:
         shift, tab = KEYS["Shift"], KEYS["Tab"]
         self.press(("keyDown", shift), ("keyDown", tab), ("keyUp", tab), ("keyUp", shift))
 
-    def accessible(self, selector):
+    def accessible(self, selector: str) -> list[tuple[str, str]]:
         """Return the role and the name that a screen reader is given of each element that is shown."""
         found = [one[ELEMENT] for one in self.call("WebDriver:FindElements", {"using": "css selector", "value": selector})]
         shown = [one for one in found if self.call("WebDriver:IsElementDisplayed", {"id": one})]
         return [(self.call("WebDriver:GetComputedRole", {"id": one}), self.call("WebDriver:GetComputedLabel", {"id": one})) for one in shown]
 
-    def tab(self):
-        return self.call("WebDriver:GetWindowHandle")
+    def tab(self) -> str:
+        return str(self.call("WebDriver:GetWindowHandle"))
 
-    def new_tab(self):
-        handle = self.call("WebDriver:NewWindow", {"type": "tab"})["handle"]
+    def new_tab(self) -> str:
+        handle = str(self.call("WebDriver:NewWindow", {"type": "tab"})["handle"])
         self.to_tab(handle)
         return handle
 
-    def to_tab(self, handle):
+    def to_tab(self, handle: str) -> None:
         self.call("WebDriver:SwitchToWindow", {"handle": handle})
 
-    def close_tab(self, handle):
+    def close_tab(self, handle: str) -> None:
         """Close another tab, and stay in this one."""
         own = self.tab()
         self.to_tab(handle)
         self.call("WebDriver:CloseWindow")
         self.to_tab(own)
 
-    def size(self, width, height):
+    def size(self, width: int, height: int) -> None:
         """Give the page this size within its window, whose own least width is 450 pixels."""
         self.call("WebDriver:SetWindowRect", {"width": max(width, 500), "height": height + 100})
         self.call("Marionette:SetContext", {"value": "chrome"})
@@ -290,11 +354,11 @@ class Firefox(Browser):
         self.run(style, width, height)
         self.call("Marionette:SetContext", {"value": "content"})
 
-    def picture(self, path):
+    def picture(self, path: str | Path) -> None:
         Path(path).write_bytes(base64.b64decode(self.call("WebDriver:TakeScreenshot", {"full": False})))
 
-    def pdf(self):
+    def pdf(self) -> bytes:
         return base64.b64decode(self.call("WebDriver:Print", {"background": True}))
 
-    def complaints(self):
+    def complaints(self) -> list[str]:
         return []

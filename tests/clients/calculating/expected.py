@@ -1,9 +1,12 @@
 """What the page must answer, worked out once: by the counter's program, and by the tests' own arithmetic (tests/shared/exact.py)."""
+from __future__ import annotations
+
 import functools
 import pickle
 import random
 import sys
 from pathlib import Path
+from typing import TypedDict
 
 import counter
 import data
@@ -20,29 +23,58 @@ SHIPPED = (TOP / "samples" / "rates.csv").read_bytes()
 SHIPPED_PERIODS = SHIPPED.count(b"\n") - 1
 SHIPPED_MONTHS = 6 * SHIPPED_PERIODS
 STORES = 4
+#: The name of a file, its bytes, and what the program says of it.
+Case = tuple[str, bytes, str]
+
+
+class Group(TypedDict):
+    """Bonds with one value month and rates of their own, and the line of `value` for each bond."""
+
+    rates: data.Rates
+    bonds: list[data.Bond]
+    month: int
+    lines: list[str]
+
+
+class Sheet(TypedDict):
+    """A file of rates and one of bonds, and the sheet that the program prints of them for an owner in a month."""
+
+    rates: bytes
+    file: bytes
+    owner: int
+    month: str
+    sheet: str
+
+
+class Question(TypedDict):
+    """A question of the library, and its row by exact arithmetic."""
+
+    question: tuple[int, ...]
+    row: exact.Row
+    cents: int
 
 
 class Expected:
     """The answers of one program. Each list is worked out when it is first asked for."""
 
-    def __init__(self, program, seed, sheets=200, values=2000, damages=120):
+    def __init__(self, program: str, seed: str, sheets: int = 200, values: int = 2000, damages: int = 120) -> None:
         self.program, self.seed, self.sheets_wanted, self.values_wanted, self.damages = program, seed, sheets, values, damages
 
-    def take(self, path):
+    def take(self, path: str) -> None:
         """Take the answers that a file keeps."""
         if Path(path).exists():
             self.__dict__.update(pickle.loads(Path(path).read_bytes()))
 
-    def keep(self, path):
+    def keep(self, path: str) -> None:
         """Write the answers that are known by now."""
         known = {name: self.__dict__[name] for name in ("seed", "rates", "inventories", "values", "sheets") if name in self.__dict__}
         Path(path).write_bytes(pickle.dumps(known))
 
-    def dice(self, name):
+    def dice(self, name: str) -> random.Random:
         return random.Random(f"{self.seed} {name}")
 
     @functools.cached_property
-    def inventories(self):
+    def inventories(self) -> list[Case]:
         """Refusals and spellings of inventories: (name, file, what the program says)."""
         dice = self.dice("inventories")
         bonds = data.random_bonds(dice, 6, set(), 7)
@@ -51,40 +83,41 @@ class Expected:
         return counter.first_answers(self.program, SHIPPED, "inventory", files)
 
     @functools.cached_property
-    def rates(self):
+    def rates(self) -> list[Case]:
         """The same of rate files."""
         return counter.first_answers(self.program, None, "rates", list(data.rate_files()))
 
     @functools.cached_property
-    def values(self):
+    def values(self) -> list[Group]:
         """Groups of bonds with one value month and rates of their own, and the line of `value` for each bond."""
         dice = self.dice("values")
-        groups = []
+        groups: list[Group] = []
         for _ in range(self.values_wanted // 50):
             rates = data.random_rates(dice)
             bonds = data.random_bonds(dice, 50, set(), 7)
             month = data.random_month(dice, dice.choice(bonds)[2])
-            groups.append({"rates": rates, "bonds": bonds, "month": month})
+            groups.append({"rates": rates, "bonds": bonds, "month": month, "lines": []})
         asked = [self.question(group, bond) for group in groups for bond in group["bonds"]]
         lines = counter.in_turn(asked, lambda it: counter.value_line(self.program, it))
         for place, group in enumerate(groups):
             group["lines"] = lines[50 * place : 50 * place + 50]
         return groups
 
-    def question(self, group, bond):
+    def question(self, group: Group, bond: data.Bond) -> tuple[int, str, str, str, str]:
         rate, extension = group["rates"][data.period_of(bond[2])]
         return bond[1], data.month_text(bond[2]), data.month_text(group["month"]), data.rate_text(rate), data.rate_text(extension)
 
     @functools.cached_property
-    def sheets(self):
+    def sheets(self) -> list[Sheet]:
         """Inventories with rates and a value month, and the sheet that the program prints."""
         each = self.sheets_wanted // STORES
         return [one for found in counter.in_turn(range(STORES), lambda store: self.store_sheets(store, each)) for one in found]
 
-    def store_sheets(self, store, count):
+    def store_sheets(self, store: int, count: int) -> list[Sheet]:
         """Return the sheets of the customers of one store, 1 to 120 bonds each, by one run of `apply`; one is the command `sheet`'s too."""
         dice = self.dice(f"sheets {store}")
-        rates, serials = data.random_rates(dice, 40), set()
+        rates = data.random_rates(dice, 40)
+        serials: set[str] = set()
         owned = [self.owned(dice, rates, serials, customer) for customer in range(1, count + 1)]
         months = [data.month_text(data.random_month(dice, dice.choice(bonds)[2])) for bonds in owned]
         rows = [data.bond_row(bond) for bonds in owned for bond in bonds]
@@ -100,13 +133,13 @@ class Expected:
         file = data.rates_file(rates)
         return [{"rates": file, "file": data.inventory_file(bonds, dice), "owner": place + 1, "month": months[place], "sheet": printed[place]} for place, bonds in enumerate(owned)]
 
-    def owned(self, dice, rates, serials, customer):
+    def owned(self, dice: random.Random, rates: data.Rates, serials: set[str], customer: int) -> list[data.Bond]:
         """Return a customer's bonds, issued in periods that have a rate."""
         bonds = data.random_bonds(dice, dice.choice((1, 2, 5, 20, 120)), serials, customer)
         periods = list(rates)
         return [(serial, dollars, min(dice.choice(periods) + dice.randrange(6), data.LAST_ISSUE), owner, coowner) for serial, dollars, _, owner, coowner in bonds]
 
-    def questions(self, count=20_000):
+    def questions(self, count: int = 20_000) -> list[Question]:
         """Random questions of the library with their rows by exact arithmetic."""
         dice = self.dice("questions")
         asked = [exact.random_question(dice) for _ in range(count)]

@@ -1,5 +1,8 @@
 """Lists of bonds as people have them: sheets with Excel's number formats, which LibreOffice writes as text, and tables as TreasuryDirect's calculator shows them."""
+from __future__ import annotations
+
 import datetime
+import random
 import shutil
 import subprocess
 import tempfile
@@ -25,24 +28,31 @@ HEADINGS = {
 TOTALS = ("Total", "TOTAL:", "Totals", "Grand Total", "Sum")
 # The denominations' letters, by which bonds of the lists are numbered.
 LETTERS = {50: "L", 75: "K", 100: "C", 200: "R", 500: "D", 1000: "M", 5000: "V", 10000: "X"}
+#: A serial number or "", dollars, and the issue month.
+Bond = tuple[str, int, int]
+#: A cell's value and its format.
+Cell = tuple[str | float, str]
+#: A list: its source, its text and its bonds.
+Made = tuple[str, str, list[Bond]]
+
 # Words of TreasuryDirect's table, as they are generally known; the page itself isn't asked. A browser copies a heading of two lines as two lines.
 TREASURY_DIRECT = ("Serial #", "Series", "Denom", "Issue Date", "Next Accrual", "Final Maturity", "Issue Price", "Interest", "Interest Rate", "Value", "Note")
 ABOVE = ("Savings Bond Calculator\n", "Calculator Results for Redemption Date 11/2026\nTotal Price\tTotal Value\tTotal Interest\tYTD Interest\n$525.00\t$539.00\t$14.00\t$1.28\n")
 TABS, COMMAS = 9, 44
 
 
-def spelled_serial(dice, serial):
+def spelled_serial(dice: random.Random, serial: str) -> str:
     letter, number = serial[0], serial[1:-2]
-    text = dice.choice((serial, f"{letter}-{number}-EE", f"{letter} {number} EE", f"{letter}{number.zfill(10)}EE", f" {serial} "))
+    text: str = dice.choice((serial, f"{letter}-{number}-EE", f"{letter} {number} EE", f"{letter}{number.zfill(10)}EE", f" {serial} "))
     return text.lower() if dice.random() < 0.3 else text
 
 
-def day_number(month):
+def day_number(month: int) -> int:
     """Return the number by which a sheet has the first day of a month."""
     return (datetime.date(month // 12, month % 12 + 1, 1) - datetime.date(1899, 12, 30)).days
 
 
-def cell_of(dice, column, bond, formats):
+def cell_of(dice: random.Random, column: str, bond: Bond, formats: dict[str, str]) -> Cell:
     """Return (value, format) of a bond's cell."""
     if column == "serial":
         return (spelled_serial(dice, bond[0]) if bond[0] else dice.choice(("", "n/a", "none")), "General")
@@ -55,12 +65,12 @@ def cell_of(dice, column, bond, formats):
     return ("EE", "General") if column == "series" else (dice.choice(("", "safe", "desk, drawer", 'Mary "M"')), "General")
 
 
-def random_bond(dice, is_numbered):
+def random_bond(dice: random.Random, is_numbered: bool) -> Bond:
     dollars = dice.choice(data.DENOMINATIONS)
     return f"{LETTERS[dollars]}{dice.randrange(1, 10**10)}EE" if is_numbered else "", dollars, data.FIRST + dice.randrange(expected.SHIPPED_MONTHS)
 
 
-def random_list(dice):
+def random_list(dice: random.Random) -> tuple[list[list[Cell]], list[Bond]]:
     """Return the rows of a sheet as cells (value, format), and the bonds: serial or "", dollars, month."""
     numbered = dice.random() < 0.75
     bonds = [random_bond(dice, numbered) for _ in range(dice.randrange(1, 9))]
@@ -74,13 +84,14 @@ def random_list(dice):
         rows.insert(0, [(dice.choice(HEADINGS[column]), "General") for column in columns])
         if dice.random() < 0.4:
             rows[:0] = [[(dice.choice(("Savings bonds", "Bonds of May 2010", "From the safe")), "General")], []]
-    rows += dice.choice(([], [[]])) + [total(dice, columns, bonds, formats)] if dice.random() < 0.5 else []
+    between: tuple[list[list[Cell]], ...] = ([], [[]])
+    rows += dice.choice(between) + [total(dice, columns, bonds, formats)] if dice.random() < 0.5 else []
     return rows, bonds
 
 
-def total(dice, columns, bonds, formats):
+def total(dice: random.Random, columns: list[str], bonds: list[Bond], formats: dict[str, str]) -> list[Cell]:
     """Return a total line: its word stands in a column before the sum, if there is one."""
-    cells = [("", "General") for _ in columns]
+    cells: list[Cell] = [("", "General") for _ in columns]
     cells[columns.index("denom")] = (sum(bond[1] for bond in bonds), formats["denom"])
     if columns[0] != "denom":
         cells[0] = (dice.choice(TOTALS), "General")
@@ -89,7 +100,7 @@ def total(dice, columns, bonds, formats):
     return cells
 
 
-def sheet_xml(rows):
+def sheet_xml(rows: list[list[Cell]]) -> str:
     lines = []
     for row, cells in enumerate(rows, 1):
         written = []
@@ -100,7 +111,7 @@ def sheet_xml(rows):
     return f'<worksheet xmlns="http://schemas.openxmlformats.org/spreadsheetml/2006/main"><sheetData>{"".join(lines)}</sheetData></worksheet>'
 
 
-def write_workbook(path, sheets):
+def write_workbook(path: Path, sheets: list[list[list[Cell]]]) -> None:
     """Write sheets as a workbook of Excel's format."""
     main, package = "http://schemas.openxmlformats.org/spreadsheetml/2006/main", "http://schemas.openxmlformats.org/package/2006"
     office = "http://schemas.openxmlformats.org/officeDocument/2006/relationships"
@@ -120,21 +131,24 @@ def write_workbook(path, sheets):
             book.writestr(f"xl/worksheets/sheet{n}.xml", sheet_xml(rows))
 
 
-def as_text(sheets, delimiter):
+def as_text(sheets: list[list[list[Cell]]], delimiter: int) -> list[str]:
     """Return each sheet's text as LibreOffice writes it: its cells as they are shown, with this delimiter."""
     with tempfile.TemporaryDirectory() as folder:
         book, out = Path(folder) / "lists.xlsx", Path(folder) / "out"
         write_workbook(book, sheets)
         form = f"csv:Text - txt - csv (StarCalc):{delimiter},34,76,1,,1033,false,false,true,false,false,-1"
-        words = ["soffice", f"-env:UserInstallation={(Path(folder) / 'profile').as_uri()}", "--headless", "--convert-to", form, "--outdir", out, book]
+        words: list[str | Path] = ["soffice", f"-env:UserInstallation={(Path(folder) / 'profile').as_uri()}", "--headless", "--convert-to", form, "--outdir", out, book]
         subprocess.run(words, capture_output=True, check=True, timeout=300)
         return [(out / f"lists-L{place}.csv").read_text() for place in range(1, len(sheets) + 1)]
 
 
-def treasury_direct(dice):
+def treasury_direct(dice: random.Random) -> tuple[str, list[Bond]]:
     """Return a table as a browser copies it from TreasuryDirect's calculator, and its bonds: with its headings, perhaps with what stands around it, or rows alone."""
     _, bonds = random_list(dice)
-    month = lambda count: f"{count % 12 + 1:02}/{count // 12}"  # noqa: E731
+
+    def month(count: int) -> str:
+        return f"{count % 12 + 1:02}/{count // 12}"
+
     is_headed = dice.random() < 0.8
     lines = []
     for serial, dollars, issued in bonds:
@@ -147,9 +161,9 @@ def treasury_direct(dice):
     return text, bonds
 
 
-def made_lists(dice, sheets=160, tables=40):
+def made_lists(dice: random.Random, sheets: int = 160, tables: int = 40) -> list[Made]:
     """Return lists as (source, text, bonds). Those of sheets need LibreOffice; without it there are none of them."""
-    found = []
+    found: list[Made] = []
     if shutil.which("soffice") is not None:
         lists = [random_list(dice) for _ in range(sheets)]
         half = len(lists) // 2

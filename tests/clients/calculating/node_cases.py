@@ -1,11 +1,15 @@
 """The modules and the page's readers under Node, without a browser."""
+from __future__ import annotations
+
 import json
 import os
 import re
 import shutil
 import subprocess
 import tempfile
+from argparse import Namespace
 from pathlib import Path
+from typing import Any, Iterable, TypedDict
 
 import expected
 import lists
@@ -17,23 +21,32 @@ OUT = TOP / "clients" / "value" / "out"
 MODULES = {"the module of 32 bits": (OUT / "ee_value.wasm", ()), "the module of 64 bits": (OUT / "ee_value64.wasm", ("--experimental-wasm-memory64",))}
 
 
-def node(*words, text=None):
+def node(*words: object, text: str | None = None) -> str:
     done = subprocess.run(["node", "--no-warnings", *map(str, words)], input=text, capture_output=True, text=True)
     assert done.returncode == 0, done.stderr
     return done.stdout
 
 
-def compared(module, words, folder, questions):
-    return json.loads(node(*words, HERE / "modules.mjs", module, folder, questions))
+class Found(TypedDict):
+    """What modules.mjs finds of a module."""
+
+    published: dict[str, int]
+    rows: dict[str, int]
+    borders: dict[str, bool]
 
 
-def all_equal(found, count):
+def compared(module: Path, words: Iterable[str], folder: Path, questions: Path) -> Found:
+    found: Found = json.loads(node(*words, HERE / "modules.mjs", module, folder, questions))
+    return found
+
+
+def all_equal(found: Found, count: int) -> None:
     assert found["published"] == {"asked": 66048, "equal": 66048}, found
     assert found["rows"] == {"asked": count, "equal": count}, found
     assert all(found["borders"].values()), found
 
 
-def one_cent_more(folder):
+def one_cent_more(folder: Path) -> Path:
     """The published values with one of them a cent higher."""
     for name in ("rates.csv", "published-values.csv"):
         (folder / name).write_bytes((expected.PUBLISHED / name).read_bytes())
@@ -42,7 +55,7 @@ def one_cent_more(folder):
     return folder
 
 
-def broken_module(module, folder):
+def broken_module(module: Path, folder: Path) -> Path:
     """The module with 1251 in place of 1250, the unit's first value, as its machine code has it."""
     content = module.read_bytes()
     assert content.count(b"\x42\xe2\x09") == 1
@@ -51,7 +64,7 @@ def broken_module(module, folder):
     return path
 
 
-def modules(words):
+def modules(words: Namespace) -> None:
     """Both modules: the published values, random rows, borders."""
     asked = words.expected.questions()
     with tempfile.TemporaryDirectory() as name:
@@ -65,7 +78,7 @@ def modules(words):
             wrong_is_seen("a module that begins with 12.51", lambda: all_equal(compared(broken_module(module, folder), flags, expected.PUBLISHED, questions), len(asked)))
 
 
-def built(words):
+def built(words: Namespace) -> None:
     """The page is built, of the sources as they are, and a second build has the same bytes."""
     page = TOP / "clients" / "calculator"
     with tempfile.TemporaryDirectory() as name:
@@ -76,7 +89,7 @@ def built(words):
         wrong_is_seen("another file", lambda: equal_folders(page / "out", Path(name)))
 
 
-def equal_folders(one, other):
+def equal_folders(one: Path, other: Path) -> None:
     files = {folder: {path.name: path.read_bytes() for path in folder.iterdir()} for folder in (one, other)}
     assert files[one] == files[other], "run clients/calculator/build first"
 
@@ -85,7 +98,7 @@ PACKAGE_FILES = {"README.md", "ee-value.d.ts", "ee-value.js", "out/ee_value.wasm
 WITHOUT_NEWS = {**os.environ, "npm_config_update_notifier": "false", "npm_config_offline": "true"}
 
 
-def packed(sources, folder):
+def packed(sources: Path, folder: Path) -> Path:
     """Pack the npm package, and unpack it where Node finds it. Return its files."""
     made = subprocess.run(["npm", "pack", "--silent", "--pack-destination", folder, sources], capture_output=True, text=True, check=True, env=WITHOUT_NEWS)
     subprocess.run(["tar", "--extract", "--file", folder / made.stdout.strip(), "--directory", folder], check=True)
@@ -95,7 +108,7 @@ def packed(sources, folder):
     return place
 
 
-def reads_and_runs(place):
+def reads_and_runs(place: Path) -> None:
     """The package has its files and no others, and its README's example prints what the README says."""
     found = {str(path.relative_to(place)) for path in place.rglob("*") if path.is_file()}
     assert found == PACKAGE_FILES, found
@@ -107,7 +120,7 @@ def reads_and_runs(place):
     assert node(example).split() == re.findall(r"// ([0-9]+)$", examples[0][1], re.M) != [], example.read_text()
 
 
-def package(words):
+def package(words: Namespace) -> None:
     """The npm package: its README is its own, and the README's example runs as it says."""
     with tempfile.TemporaryDirectory() as name:
         reads_and_runs(packed(TOP / "clients" / "value", Path(name)))
@@ -119,18 +132,18 @@ def package(words):
         wrong_is_seen("a package with the README of the Python module", lambda: reads_and_runs(packed(sources, Path(name) / "other")))
 
 
-def answers(tasks, module="the module of 32 bits"):
+def answers(tasks: Iterable[object], module: str = "the module of 32 bits") -> list[Any]:
     path, flags = MODULES[module]
     text = "".join(json.dumps(task) + "\n" for task in tasks)
     return [json.loads(line) for line in node(*flags, HERE / "answers.mjs", path, text=text).splitlines()]
 
 
-def same(found, wanted, names):
+def same(found: Iterable[object], wanted: Iterable[object], names: Iterable[object]) -> None:
     different = [(name, one, other) for name, one, other in zip(names, found, wanted, strict=True) if one != other]
     assert not different, f"{len(different)} differ: {different[:3]}"
 
 
-def readers(words):
+def readers(words: Namespace) -> None:
     """Each refusal of the readers and of the registers, and damaged files."""
     shipped = expected.SHIPPED.hex()
     for kind, cases in (("rates", words.expected.rates), ("inventory", words.expected.inventories)):
@@ -146,7 +159,7 @@ def readers(words):
     right("each code that a file can have: 70, 71, 72, 75, and 11 to 14, 20, 21, 30 of the registers")
 
 
-def sheets(words):
+def sheets(words: Namespace) -> None:
     """Random values beside `value`, random inventories beside `sheet`, by each module."""
     groups, listed = words.expected.values, words.expected.sheets
     for module in MODULES:
@@ -162,7 +175,7 @@ def sheets(words):
         wrong_is_seen("a sheet with one byte changed", lambda: same([text.replace("P5", "P6", 1) for text in printed], [one["sheet"] for one in listed], range(len(listed))))
 
 
-def misspelled(text, cell, other):
+def misspelled(text: str, cell: str, other: str) -> tuple[str, int]:
     """Return a list with another text in a cell of its last bond, and the row of that bond."""
     lines = text.splitlines()
     place = max(at for at, line in enumerate(lines) if "\tEE\t" in line)
@@ -170,7 +183,7 @@ def misspelled(text, cell, other):
     return "\n".join(lines), place + 1
 
 
-def pasted_lists(words):
+def pasted_lists(words: Namespace) -> None:
     """Lists of spreadsheets and of TreasuryDirect's calculator: each bond is read, and one with a misspelled cell is a fault of its row."""
     made = lists.made_lists(words.expected.dice("lists"))
     found = answers([{"kind": "pasted", "text": text} for _, text, _ in made])

@@ -1,8 +1,14 @@
 """What the page keeps in the browser: nothing without the box, nothing written before what is there was read, two tabs, 50,000 bonds."""
-import json
+from __future__ import annotations
 
+import json
+from argparse import Namespace
+from typing import Any
+
+from browsers import Browser
 from page import Page
 from page_uses import BY_HAND, HEADER, fails_broken
+from serving import Site
 from telling import right
 
 OPENED = "const request = indexedDB.open('savings-bond-calculator', 1); request.onupgradeneeded = () => request.result.createObjectStore('kept'); await new Promise((resolve) => { request.onsuccess = resolve; }); const database = request.result;"
@@ -18,44 +24,47 @@ MANY = """
 EARLIER = {"inventory": HEADER.decode() + "C7EE,50,2010-05,7,\n", "rates": "from,rate,extension\n2010-05,3.40,\n", "month": "2030-06"}
 
 
-def record(browser):
+def record(browser: Browser) -> dict[str, Any] | None:
     """Return the record that the browser keeps, or None."""
-    return browser.run_async(RECORD)
+    found: dict[str, Any] | None = browser.run_async(RECORD)
+    return found
 
 
-def inventory(browser):
+def inventory(browser: Browser) -> str:
+    """Return the bonds that the browser keeps."""
     found = record(browser)
-    return None if found is None else found["inventory"]
+    assert found is not None
+    return str(found["inventory"])
 
 
-def is_ticked(browser):
-    return browser.run("return document.querySelector('#keep').checked")
+def is_ticked(browser: Browser) -> bool:
+    return bool(browser.run("return document.querySelector('#keep').checked"))
 
 
-def tick(browser):
+def tick(browser: Browser) -> None:
     """Tick the box, and wait until the page says that all is kept."""
     browser.run("document.querySelector('#keep').click()")
     is_kept(browser)
 
 
-def is_kept(browser):
+def is_kept(browser: Browser) -> None:
     browser.until(lambda: browser.run("return document.querySelector('#keep-state')?.textContent ?? 'Kept'").startswith("Kept"), "the inventory is kept")
 
 
-def again(browser):
+def again(browser: Browser) -> None:
     browser.reload()
     browser.ready()
 
 
-def opened(page, *serials):
+def opened(page: Page, *serials: str) -> None:
     page.open_inventory(HEADER + b"".join(f"{serial},50,2010-05,7,\n".encode() for serial in serials))
 
 
-def serials(text):
+def serials(text: str) -> list[str]:
     return [line.split(",")[0] for line in text.splitlines()[1:]]
 
 
-def keeps(browser, url):
+def keeps(browser: Browser, url: str) -> None:
     page = Page(browser, url)
     assert record(browser) is None and browser.run("return localStorage.length") == 0
     for is_asked in (False, True):
@@ -78,15 +87,16 @@ def keeps(browser, url):
     assert page.rows() == []
 
 
-def kept(words, browser, site):
+def kept(words: Namespace, browser: Browser, site: Site) -> None:
     """What the browser keeps, if it is asked to; and nothing else."""
     keeps(browser, site.url)
     right(f"{browser.name}: bonds, rates and month outlive a reload if the box is ticked, and leave the browser when it isn't")
     fails_broken(browser, "a page that keeps them all the same", keeps, "store.delete(RECORD)", "store.get(RECORD)")
 
 
-def leaves(browser, url):
-    for kept in ({**EARLIER, "version": "1", "inventory": HEADER.decode() + "C7EE,60,2010-05,7,\n"}, {**EARLIER, "version": "1", "rates": "from,rate,extension\n2011-05,3.40,\n"}, {"version": "1", "month": 3}):
+def leaves(browser: Browser, url: str) -> None:
+    records: tuple[dict[str, Any], ...] = ({**EARLIER, "version": "1", "inventory": HEADER.decode() + "C7EE,60,2010-05,7,\n"}, {**EARLIER, "version": "1", "rates": "from,rate,extension\n2011-05,3.40,\n"}, {"version": "1", "month": 3})
+    for kept in records:
         page = Page(browser, url)
         browser.run_async(PUT, kept)
         again(browser)
@@ -104,14 +114,14 @@ def leaves(browser, url):
         assert serials(inventory(browser)) == ["C1EE"]
 
 
-def unreadable(words, browser, site):
+def unreadable(words: Namespace, browser: Browser, site: Site) -> None:
     """What an earlier visit kept and can't be read: the page says so, leaves it, and replaces it only after a question."""
     leaves(browser, site.url)
     right(f"{browser.name}: three kept records that can't be read stay byte for byte, and are saved as a file, until the page may replace them")
     fails_broken(browser, "a page that keeps over what it can't read", leaves, "stop(TEXTS.kept_unreadable(failure.message))", "is_on = true, base = { ...base, version: record.version }, tellFault(TEXTS.kept_unreadable(failure.message))")
 
 
-def moves(browser, url):
+def moves(browser: Browser, url: str) -> None:
     page = Page(browser, url)
     browser.run("localStorage.setItem('savings-bond-calculator', arguments[0])", "{ no JSON")
     again(browser)
@@ -126,14 +136,14 @@ def moves(browser, url):
     assert serials(inventory(browser)) == ["C7EE"] and browser.run("return localStorage.length") == 0
 
 
-def earlier(words, browser, site):
+def earlier(words: Namespace, browser: Browser, site: Site) -> None:
     """What an earlier version of the page kept in localStorage is taken over once it is written elsewhere."""
     moves(browser, site.url)
     right(f"{browser.name}: what an earlier version kept is taken over; a text that can't be read is left")
     fails_broken(browser, "a page that forgets what an earlier version kept", moves, "return found ?? earlierRecord();", "return found;")
 
 
-def shares(browser, url):
+def shares(browser: Browser, url: str) -> None:
     page = Page(browser, url)
     opened(page, "C1EE")
     tick(browser)
@@ -153,7 +163,7 @@ def shares(browser, url):
     browser.close_tab(first)
 
 
-def both_at_once(browser, page, first, second):
+def both_at_once(browser: Browser, page: Page, first: str, second: str) -> None:
     """Each tab adds a bond and one removes one, while neither hears of the other."""
     for tab, serial in ((first, "C4EE"), (second, "C5EE")):
         browser.to_tab(tab)
@@ -170,10 +180,11 @@ def both_at_once(browser, page, first, second):
     assert serials(inventory(browser)) == ["C1EE", "C3EE", "C4EE", "C5EE"]
 
 
-def differing(browser, page, first, second):
+def differing(browser: Browser, page: Page, first: str, second: str) -> None:
     """Another tab keeps the same serial number with another denomination: the record stays, and this tab says so."""
     browser.to_tab(first)
     found = record(browser)
+    assert found is not None
     browser.run_async(PUT, {**found, "version": "other", "inventory": found["inventory"] + "C6EE,75,2010-05,7,\n"})
     opened(page, "C6EE")
     browser.waits_for("Another tab of this page kept other bonds or rates")
@@ -186,14 +197,14 @@ def differing(browser, page, first, second):
     assert record(browser) is None and len(page.rows()) == 5
 
 
-def two_tabs(words, browser, site):
+def two_tabs(words: Namespace, browser: Browser, site: Site) -> None:
     """Two tabs that keep: each has what the other added, also if both wrote at once; nothing is lost."""
     shares(browser, site.url)
     right(f"{browser.name}: two tabs add and remove bonds, also at once, and both are kept; what differs is left and said")
     fails_broken(browser, "a page that writes whatever is there", shares, "found?.version !== version", "false")
 
 
-def keeps_many(browser, url):
+def keeps_many(browser: Browser, url: str) -> None:
     Page(browser, url)
     browser.run(MANY)
     browser.until(lambda: "50,000 bonds added" in browser.told(), "50,000 bonds are added", 120)
@@ -206,14 +217,14 @@ def keeps_many(browser, url):
     assert text.count("\n") == 50_001 and len(text) > 1_048_576 and text.endswith("C50000EE,50,2010-05,1,\n")
 
 
-def many(words, browser, site):
+def many(words: Namespace, browser: Browser, site: Site) -> None:
     """50,000 bonds are kept."""
     keeps_many(browser, site.url)
     right(f"{browser.name}: 50,000 bonds outlive a reload")
     fails_broken(browser, "a page that reads no more than a file's bytes", keeps_many, "), Infinity))", ")))")
 
 
-def refused(browser, url):
+def refused(browser: Browser, url: str) -> None:
     page = Page(browser, url)
     opened(page, "C1EE")
     tick(browser)
@@ -225,7 +236,7 @@ def refused(browser, url):
     assert [row[0] for row in page.rows()] == ["C1EE"]
 
 
-def full(words, browser, site):
+def full(words: Namespace, browser: Browser, site: Site) -> None:
     """A browser without room: the page says so, and what was kept before stays."""
     refused(browser, site.url)
     right(f"{browser.name}: a write that the browser refuses is said, and leaves what was kept before")

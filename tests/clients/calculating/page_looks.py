@@ -1,17 +1,22 @@
 """How the page looks and reads: 320 pixels, 200 % zoom, paper, names and contrast, and the pictures of docs/pictures."""
+from __future__ import annotations
+
 import datetime
 import subprocess
 import tempfile
 import time
+from argparse import Namespace
 from pathlib import Path
+from typing import Any, Iterable
 
 from PIL import Image
+from browsers import Browser, Chromium
 
 import data
 import expected
 from page import Page
 from page_uses import put
-from serving import on_disk, variant
+from serving import Site, on_disk, variant
 from telling import right, wrong_is_seen
 
 FILE = data.INVENTORY + b"".join(
@@ -50,7 +55,7 @@ BROKEN = """
 """
 
 
-def fits(browser):
+def fits(browser: Browser) -> None:
     broken = browser.run(BROKEN)
     assert not broken, broken[:5]
     over, wide = browser.run(OVER)
@@ -65,7 +70,7 @@ VALUE_FIRST = """
 """
 
 
-def widest(page):
+def widest(page: Page) -> None:
     """Show bonds with the longest texts that a row can have: 1522468.00 at 20 %, and a serial number of 13 characters."""
     page.remove_all()
     page.open_rates(b"from,rate\n2005-05,20.00\n")
@@ -73,7 +78,7 @@ def widest(page):
     page.choose_month("2035-05")
 
 
-def narrow(words, browser, site):
+def narrow(words: Namespace, browser: Browser, site: Site) -> None:
     """At 320 pixels, at 200 % zoom of 1280, and with letters of twice the size nothing goes over the edge."""
     page = Page(browser, site.url)
     page.open_inventory(FILE)
@@ -147,7 +152,7 @@ OUTSIDE = """
 """
 
 
-def whole_dialog(browser, serial):
+def whole_dialog(browser: Browser, serial: str) -> None:
     """The dialog of a bond: it opens at its title, and nothing is cut or broken; Tab reaches what it has, and shows it."""
     browser.run(OPEN, serial)
     browser.until(lambda: browser.run("return document.querySelector('#bond-figure svg') !== null"), "the chart")
@@ -163,7 +168,7 @@ def whole_dialog(browser, serial):
     browser.until(lambda: browser.run("return document.activeElement.textContent") == serial, "Escape gives the keyboard back")
 
 
-def only_the_dialog(browser):
+def only_the_dialog(browser: Chromium) -> None:
     """In Chromium's tree there is the dialog alone, and it is modal."""
     nodes = [node for node in browser.driver.execute_cdp_cmd("Accessibility.getFullAXTree", {})["nodes"] if not node.get("ignored")]
     modal = [node["name"]["value"] for node in nodes if {"name": "modal", "value": {"type": "boolean", "value": True}} in node.get("properties", [])]
@@ -171,7 +176,7 @@ def only_the_dialog(browser):
     assert modal == ["Bond L77031EE"] and buttons == ["Close", "Remove this bond"], (modal, buttons)
 
 
-def shown_dialogs(browser, url):
+def shown_dialogs(browser: Browser, url: str) -> None:
     page = Page(browser, url)
     for width, height in WINDOWS:
         browser.size(width, height)
@@ -184,7 +189,7 @@ def shown_dialogs(browser, url):
             whole_dialog(browser, serial)
         browser.run(OPEN, "L77031EE")
         assert browser.accessible(PARTS) == DIALOG, browser.accessible(PARTS)
-        if browser.name == "Chromium":
+        if isinstance(browser, Chromium):
             only_the_dialog(browser)
         browser.run("document.querySelector('#bond').close()")
         widest(page)
@@ -192,7 +197,7 @@ def shown_dialogs(browser, url):
     browser.size(1280, 900)
 
 
-def dialogs(words, browser, site):
+def dialogs(words: Namespace, browser: Browser, site: Site) -> None:
     """The dialog of a bond in five windows: it begins at its title, nothing is cut or broken, and a screen reader is given each part."""
     shown_dialogs(browser, site.url)
     right(f"{browser.name}: dialogs in windows from 1440 to 320 pixels begin at their title, break no word and no sum, and give a screen reader {len(DIALOG)} parts by role and name")
@@ -204,7 +209,7 @@ def dialogs(words, browser, site):
         wrong_is_seen("a table without a name", lambda: shown_dialogs(browser, on_disk(broken)))
 
 
-def paper(browser):
+def paper(browser: Browser) -> list[str]:
     """Return the printed pages as texts."""
     with tempfile.TemporaryDirectory() as folder:
         path = Path(folder) / "page.pdf"
@@ -213,7 +218,7 @@ def paper(browser):
     return text.split("\f")[:-1]
 
 
-def last_pages(browser, page, counts):
+def last_pages(browser: Browser, page: Page, counts: Iterable[int]) -> None:
     """Prints inventories of different lengths. No page may begin with the total or have less than four lines, and the first one has the date."""
     for count in counts:
         page.remove_all()
@@ -229,7 +234,7 @@ def last_pages(browser, page, counts):
         assert len(page.rows()) == count, "the table has its rows again"
 
 
-def reads_on_paper(browser, serials, total):
+def reads_on_paper(browser: Browser, serials: Iterable[str], total: str) -> int:
     pages = paper(browser)
     text = "\n".join(pages)
     missing = [serial for serial in serials if serial not in text]
@@ -241,7 +246,7 @@ def reads_on_paper(browser, serials, total):
     return len(pages)
 
 
-def printing(words, browser, site):
+def printing(words: Namespace, browser: Browser, site: Site) -> None:
     """On paper: sums, all rows under headings on each page, the chart; no field and no button."""
     dice = words.expected.dice("print")
     bonds = [(serial, dollars, data.FIRST + (issued - data.FIRST) % expected.SHIPPED_MONTHS, owner, coowner) for serial, dollars, issued, owner, coowner in data.random_bonds(dice, 150, set(), 7)]
@@ -293,14 +298,14 @@ CONTRAST = """
 """
 
 
-def least_contrast(browser):
-    found = browser.run(CONTRAST)
+def least_contrast(browser: Browser) -> float:
+    found: list[list[Any]] = browser.run(CONTRAST)
     poor = [pair for pair in found if pair[0] < 4.5]
     assert not poor, poor[:5]
-    return min(ratio for ratio, _ in found)
+    return min(float(ratio) for ratio, _ in found)
 
 
-def reading(words, browser, site):
+def reading(words: Namespace, browser: Browser, site: Site) -> None:
     """Names, headings, live regions, contrast; in Chromium also what a screen reader is given, and the dark scheme."""
     page = Page(browser, site.url)
     page.open_inventory(FILE)
@@ -315,18 +320,18 @@ def reading(words, browser, site):
     assert browser.run(NAMES) == WANTED, browser.run(NAMES)
     least = min(least, least_contrast(browser))
     browser.run("document.querySelector('#bond').close()")
-    if browser.name == "Chromium":
+    if isinstance(browser, Chromium):
         least = min(least, screen_reader(browser))
     right(f"{browser.name}: each field, button and drawing has a name, headings are in order, two live regions; the least contrast of a text is {least:.1f} to 1")
     browser.run("document.querySelector('label[for=serial]').remove()")
     wrong_is_seen("a field without a label", lambda: equal(browser.run(NAMES), WANTED))
 
 
-def equal(found, wanted):
+def equal(found: object, wanted: object) -> None:
     assert found == wanted, (found, wanted)
 
 
-def screen_reader(browser):
+def screen_reader(browser: Chromium) -> float:
     """Chromium's tree for screen readers: the bonds and the chart's values as tables, on a dark ground too; the least contrast there."""
     nodes = [node for node in browser.driver.execute_cdp_cmd("Accessibility.getFullAXTree", {})["nodes"] if not node.get("ignored")]
     roles = [node["role"]["value"] for node in nodes]
@@ -345,7 +350,7 @@ def screen_reader(browser):
     return least
 
 
-def pictures(words, browser, site):
+def pictures(words: Namespace, browser: Browser, site: Site) -> None:
     """The pictures of docs/pictures, by Chromium, if --pictures names a folder."""
     if words.pictures is None or browser.name != "Chromium":
         return
@@ -368,13 +373,13 @@ def pictures(words, browser, site):
     right(f"pictures in {folder}")
 
 
-def in_few_colours(path):
+def in_few_colours(path: Path) -> None:
     """Make a picture small: 48 colours are enough for letters and lines."""
     picture = Image.open(path).convert("RGB").quantize(48, dither=Image.Dither.NONE)
     picture.save(path, optimize=True)
 
 
-def taken(browser, path, width, height, scroll="scrollTo(0, 0)"):
+def taken(browser: Browser, path: Path, width: int, height: int, scroll: str = "scrollTo(0, 0)") -> None:
     browser.size(width, height)
     browser.run(scroll)
     time.sleep(0.6)

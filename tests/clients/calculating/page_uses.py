@@ -1,11 +1,17 @@
 """How the page is used: typing and pasting, sorting and filtering, what a bond will be worth, offline, from a disk, by the keyboard alone."""
+from __future__ import annotations
+
 import csv
 import tempfile
 import time
+from argparse import Namespace
+from pathlib import Path
+from typing import Any, Callable
 
 import data
 import expected
 import lists
+from browsers import Browser
 from page import Page
 from serving import Site, on_disk, variant
 from telling import right, wrong_is_seen
@@ -18,19 +24,19 @@ BY_HAND = b"from,rate,extension\n2010-05,3.40,\n"
 ONE = "return [document.querySelector('#one-value').textContent, document.querySelector('#one-words').textContent];"
 
 
-def set_field(browser, name, text):
+def set_field(browser: Browser, name: str, text: str) -> None:
     browser.run("const field = document.querySelector(`#${arguments[0]}`); field.value = arguments[1]; field.dispatchEvent(new Event('input', { bubbles: true }))", name, text)
 
 
-def fails_broken(browser, what, check, *change):
+def fails_broken(browser: Browser, what: str, check: Callable[[Browser, str], object], old: str, new: str) -> None:
     """A control: the check fails on a page whose script has another text in one place."""
     browser.patience = 8
     with tempfile.TemporaryDirectory() as folder:
-        broken = variant(folder, "broken", ("calculator.js", *change))
+        broken = variant(folder, "broken", ("calculator.js", old, new))
         wrong_is_seen(what, lambda: check(browser, on_disk(broken)))
 
 
-def type_bond(browser, serial, denom, issued):
+def type_bond(browser: Browser, serial: str, denom: str, issued: str) -> None:
     """Type a bond with the keyboard, from the field of the serial number on."""
     browser.run("for (const name of ['serial', 'issued']) document.querySelector(`#${name}`).value = ''; document.querySelector('#serial').focus()")
     browser.type_keys(serial)
@@ -40,7 +46,7 @@ def type_bond(browser, serial, denom, issued):
     browser.key("Enter")
 
 
-def typed(browser, url):
+def typed(browser: Browser, url: str) -> None:
     page = Page(browser, url)
     type_bond(browser, "C-0012-EE", "50", "05/2010")
     browser.waits_for("1 bond added")
@@ -74,7 +80,7 @@ def typed(browser, url):
     assert [(row[0], row[2]) for row in page.rows()][1:] == [("#1", "50"), ("#2", "50"), ("#3", "75")], page.rows()
 
 
-def typing(words, browser, site):
+def typing(words: Namespace, browser: Browser, site: Site) -> None:
     """Bonds that are typed: spellings, faults by field, and the register's refusals."""
     typed(browser, site.url)
     right(f"{browser.name}: typed bonds are read by the counter's spellings; a fault takes the keyboard to its field; a bond is never there twice; a bond needs no serial number")
@@ -122,25 +128,25 @@ PREVIEW = "return [...document.querySelectorAll('#understood-rows tbody tr')].ma
 NOTES = "return [...document.querySelectorAll('#understood-notes li')].map((line) => line.textContent);"
 
 
-def put(browser, text):
+def put(browser: Browser, text: str) -> str:
     """Put a text into the field as pasting does. Return what the page tells."""
     browser.run("document.querySelector('#paste-form').closest('details').open = true; document.querySelector('#pasted').value = arguments[0]; document.querySelector('#pasted').dispatchEvent(new InputEvent('input', { inputType: 'insertFromPaste' }))", text)
     return browser.told()
 
 
-def add_pasted(browser):
+def add_pasted(browser: Browser) -> str:
     browser.run("document.querySelector('#paste-form').requestSubmit()")
     return browser.told()
 
 
-def as_shown(bonds):
+def as_shown(bonds: str) -> list[list[str]]:
     """Return what the page shows of bonds as they are written in PASTES."""
     names = "January February March April May June July August September October November December".split()
     found = [bond.split() for bond in bonds.split(", ")]
     return [[serial, f"${int(dollars):,}", f"{names[int(issued[5:]) - 1]} {issued[:4]}"] for serial, dollars, issued in found]
 
 
-def pasted(browser, url):
+def pasted(browser: Browser, url: str) -> None:
     page = Page(browser, url)
     count = 0
     for text, bonds, said in PASTES:
@@ -155,16 +161,16 @@ def pasted(browser, url):
         shown = [[row[2], f"{row[3][3:]}-{row[3][:2]}"] for row in page.rows()]
         assert len(shown) == count and all(bond.split()[1:] in shown for bond in bonds.split(", ")), (text, page.rows())
         assert browser.run("return document.querySelector('#pasted').value + document.querySelector('#understood').hidden") == "true"
-    for text, wanted in PASTE_FAULTS:
+    for text, fault in PASTE_FAULTS:
         told = put(browser, text)
-        told = told if wanted in told else add_pasted(browser)
-        assert wanted in told and len(page.rows()) == count, (text, told)
+        told = told if fault in told else add_pasted(browser)
+        assert fault in told and len(page.rows()) == count, (text, told)
     browser.run("document.querySelector('#pasted').value = 'C20EE 50 2010-05'")
     assert "1 bond understood" in add_pasted(browser) and len(page.rows()) == count, "a text that isn't shown yet is shown first"
     of_a_spreadsheet(page, browser, count)
 
 
-def of_a_spreadsheet(page, browser, count):
+def of_a_spreadsheet(page: Page, browser: Browser, count: int) -> None:
     """A CSV file that a spreadsheet wrote: the fault that the counter names, and below it what the page understood."""
     told = page.open_inventory(b'\xef\xbb\xbf"Serial","Denomination","Issue date"\r\nM23EE,"$1,000.00 ",May-10\r\n')
     assert "(row 1 code 70)" in told and browser.run(PREVIEW) == [["M23EE", "$1,000", "May 2010"]], told
@@ -172,7 +178,7 @@ def of_a_spreadsheet(page, browser, count):
     assert add_pasted(browser).startswith("1 bond added") and len(page.rows()) == count + 1
 
 
-def pasting(words, browser, site):
+def pasting(words: Namespace, browser: Browser, site: Site) -> None:
     """Columns of a spreadsheet, in the spellings that spreadsheets write: what the page understands is shown before it is added."""
     pasted(browser, site.url)
     right(f"{browser.name}: {len(PASTES)} pasted lists are understood, shown and then added; {len(PASTE_FAULTS)} faults are named")
@@ -185,11 +191,11 @@ LISTED = "return [...document.querySelectorAll('#told-list li')].map((line) => l
 SOLD = "Paper bonds were sold until December 2011."
 
 
-def bond_line(serial, dollars, issued):
+def bond_line(serial: str, dollars: int, issued: str) -> bytes:
     return f"{serial},{dollars},{issued},7,\n".encode()
 
 
-def remarked(browser, url):
+def remarked(browser: Browser, url: str) -> None:
     page = Page(browser, url)
     fitting = b"".join(bond_line(f"{letter}{place + 1}EE", dollars, "2011-12") for place, (dollars, letter) in enumerate(LETTERS.items()))
     assert page.open_inventory(HEADER + fitting) == "8 bonds added. 8 in all." and browser.run(LISTED) == []
@@ -204,7 +210,7 @@ def remarked(browser, url):
     remarked_in_lists(browser, page)
 
 
-def remarked_as_typed(browser, page, count):
+def remarked_as_typed(browser: Browser, page: Page, count: int) -> None:
     """A typed bond has its remark as it is typed, and is added all the same; its dialog has the remark too."""
     page.choose_month("2026-11")
     for name, text in (("denom", "50"), ("issued", "May 2012"), ("serial", "c-12-ee")):
@@ -224,7 +230,7 @@ def remarked_as_typed(browser, page, count):
     assert not browser.run(ONE)[1].endswith(SOLD)
 
 
-def remarked_in_lists(browser, page):
+def remarked_in_lists(browser: Browser, page: Page) -> None:
     """A pasted list has its remarks by row before it is added; of many bonds the first 20 are listed."""
     page.remove_all()
     assert put(browser, "Serial\tDenom\tIssued\nL1EE\t50\t12/2011\nL2EE\t75\t12/2011\n\t50\t1/2012\n").endswith("Compare 2 bonds with the paper.")
@@ -236,7 +242,7 @@ def remarked_in_lists(browser, page):
     assert len(listed) == 21 and listed[-1] == "Compare 3 more with the paper.", listed
 
 
-def remarks(words, browser, site):
+def remarks(words: Namespace, browser: Browser, site: Site) -> None:
     """A serial number's letter and an issue month that no paper bond has: the page says so, and adds the bond all the same."""
     remarked(browser, site.url)
     right(f"{browser.name}: each of 56 letters of another denomination, and issue months after December 2011, are remarked as they are typed, pasted and opened; every bond is added")
@@ -244,7 +250,7 @@ def remarks(words, browser, site):
     fails_broken(browser, "a page that remarks a month late", remarked, "12 * 2011 + 11", "12 * 2012")
 
 
-def understood_lists(browser, url, made):
+def understood_lists(browser: Browser, url: str, made: list[lists.Made]) -> None:
     page = Page(browser, url)
     for source, text, bonds in made:
         page.remove_all()
@@ -254,7 +260,7 @@ def understood_lists(browser, url, made):
         assert shown == sorted((serial, dollars, f"{issued % 12 + 1:02}/{issued // 12}") for serial, dollars, issued in bonds), (source, text, shown)
 
 
-def lists_pasted(words, browser, site):
+def lists_pasted(words: Namespace, browser: Browser, site: Site) -> None:
     """Lists of sheets and of TreasuryDirect's calculator, pasted into the page: what it shows, and what it adds."""
     made = lists.made_lists(words.expected.dice("lists pasted"), 20, 10)
     understood_lists(browser, site.url, made)
@@ -262,19 +268,19 @@ def lists_pasted(words, browser, site):
     fails_broken(browser, "a page that reads no cents of a denomination", lambda at, url: understood_lists(at, url, made), r"(?:\.0{0,2})?(?: ?USD", "(?: ?USD")
 
 
-def shown_serials(page):
+def shown_serials(page: Page) -> list[str]:
     return [row[0] for row in page.rows()]
 
 
-def number(text):
+def number(text: str) -> float:
     return float(text.rstrip("%") or -1)
 
 
-def month(text):
+def month(text: str) -> tuple[str, str]:
     return (text[3:], text[:2]) if text else ("", "")
 
 
-KEYS = {
+KEYS: dict[str, Callable[[list[str]], Any]] = {
     "serial": lambda row: (row[0][0], int(row[0][1:-2])),
     "denom": lambda row: int(row[2]),
     "issued": lambda row: month(row[3]),
@@ -288,7 +294,7 @@ KEYS = {
 }
 
 
-def sorted_and_filtered(browser, url, rates, bonds):
+def sorted_and_filtered(browser: Browser, url: str, rates: data.Rates, bonds: list[data.Bond]) -> None:
     page = Page(browser, url)
     page.shows_only(data.rates_file(rates), data.inventory_file(bonds), "2030-01")
     rows = page.rows()
@@ -307,7 +313,7 @@ def sorted_and_filtered(browser, url, rates, bonds):
         assert page.total()[9] == f"{total // 100}.{total % 100:02}", (note, page.total())
 
 
-def sorting(words, browser, site):
+def sorting(words: Namespace, browser: Browser, site: Site) -> None:
     """Sorting by each column both ways, and filters; the totals are those of the rows that are shown."""
     dice = words.expected.dice("sorting")
     rates = data.random_rates(dice)
@@ -318,13 +324,13 @@ def sorting(words, browser, site):
     fails_broken(browser, "a page that sorts one way alone", lambda at, url: sorted_and_filtered(at, url, rates, bonds), "is_falling ? -1 : 1", "is_falling ? 1 : 1")
 
 
-def units():
+def units() -> dict[tuple[str, str], int]:
     """Return the published cents of a 25-dollar unit by issue month and month."""
     with open(expected.PUBLISHED / "published-values.csv", newline="") as file:
         return {(row["issued"], row["redeemed"]): int(row["unit_cents"]) for row in csv.DictReader(file)}
 
 
-def valued_at_once(browser, url):
+def valued_at_once(browser: Browser, url: str) -> None:
     page, published = Page(browser, url), units()
     page.choose_month("2012-02")
     assert browser.run(ONE)[0] == "" and "Choose a denomination" in browser.run(ONE)[1]
@@ -348,14 +354,14 @@ def valued_at_once(browser, url):
     browser.size(1280, 900)
 
 
-def at_once(words, browser, site):
+def at_once(words: Namespace, browser: Browser, site: Site) -> None:
     """A value at once: the denomination and the issue month, above everything else, and nothing pressed."""
     valued_at_once(browser, site.url)
     right(f"{browser.name}: the published values of three bonds are shown as they are typed, above everything else from 360 to 1440 pixels")
     fails_broken(browser, "a page that shows a value only when a bond is added", valued_at_once, 'addEventListener("input", showOne)', 'addEventListener("reset", showOne)')
 
 
-def earned(browser, url):
+def earned(browser: Browser, url: str) -> None:
     page, published = Page(browser, url), units()
     page.open_inventory(HEADER + b"C1EE,500,2010-05,7,\nC2EE,50,2006-03,7,\nC3EE,100,2012-01,7,\n")
     sums = "return Object.fromEntries([...document.querySelectorAll('#sums dt')].map((one) => [one.textContent, one.nextSibling.textContent]));"
@@ -365,14 +371,14 @@ def earned(browser, url):
         assert browser.run(sums)[f"Interest of {year}"] == f"${cents / 100:,.2f}, {said}", (month, cents, browser.run(sums))
 
 
-def year(words, browser, site):
+def year(words: Namespace, browser: Browser, site: Site) -> None:
     """The interest of the value month's year, by the published values."""
     earned(browser, site.url)
     right(f"{browser.name}: the interest of the year is what the published values say, for a bond that wasn't issued in December too")
     fails_broken(browser, "a page that begins the year in January", earned, "Math.floor(state.month / 12) - 1", "Math.floor(state.month / 12)")
 
 
-def with_clock(folder, name, time, *changes):
+def with_clock(folder: str, name: str, time: str, *changes: tuple[str, str, str]) -> str:
     """Return a copy of the page on a device whose clock says so."""
     made = variant(folder, name, *changes, ("index.html", '<script src="calculator.js" defer>', '<script src="clock.js" defer></script><script src="calculator.js" defer>'))
     script = f"const Real = Date; window.Date = class extends Real {{ constructor(...given) {{ super(...(given.length === 0 ? [{time!r}] : given)); }} }};"
@@ -380,7 +386,7 @@ def with_clock(folder, name, time, *changes):
     return on_disk(made)
 
 
-def told_of_clocks(browser, make):
+def told_of_clocks(browser: Browser, make: Callable[[str], str]) -> None:
     last = expected.SHIPPED.decode().splitlines()[-1].partition(",")[0]
     for clock, said, month in (("1970-01-01T12:00:00", "January 1970", last), ("2004-03-01T12:00:00", "March 2004", last), ("2205-07-01T12:00:00", "July 2205", "2199-12")):
         page = Page(browser, make(clock))
@@ -391,7 +397,7 @@ def told_of_clocks(browser, make):
     assert browser.told() == "" and browser.run("return document.querySelector('#month').value") == "2026-11"
 
 
-def clocks(words, browser, site):
+def clocks(words: Namespace, browser: Browser, site: Site) -> None:
     """A device whose clock is wrong: the page says so, and bonds are valued."""
     with tempfile.TemporaryDirectory() as folder:
         told_of_clocks(browser, lambda time: with_clock(folder, time[:4], time))
@@ -401,7 +407,7 @@ def clocks(words, browser, site):
         wrong_is_seen("a page that takes any clock", lambda: told_of_clocks(browser, lambda time: with_clock(folder, f"untold {time[:4]}", time, change)))
 
 
-def looked_ahead(browser, url):
+def looked_ahead(browser: Browser, url: str) -> None:
     page = Page(browser, url)
     page.shows_only(BY_HAND, HEADER + b"C1EE,50,2010-05,7,8\n", "2014-06")
     browser.run("document.querySelector('#table .open').click()")
@@ -424,17 +430,17 @@ def looked_ahead(browser, url):
     assert inventory == points, (inventory[:3], points[:3])
 
 
-def ahead(words, browser, site):
+def ahead(words: Namespace, browser: Browser, site: Site) -> None:
     """What a bond will be worth, against values worked out by hand."""
     looked_ahead(browser, site.url)
     right(f"{browser.name}: next accrual, the penalty's end, doubling and final maturity, and 31 yearly values of the charts as tables")
     fails_broken(browser, "a page that doubles a month late", looked_ahead, "DOUBLES = 240", "DOUBLES = 241")
 
 
-def offline(words, browser, site):
+def offline(words: Namespace, browser: Browser, site: Site) -> None:
     """After the first load the page opens without its server."""
 
-    def opens_without(folder):
+    def opens_without(folder: Path) -> None:
         own = Site(folder)
         try:
             browser.visit(own.url)
@@ -453,7 +459,7 @@ def offline(words, browser, site):
     with tempfile.TemporaryDirectory() as folder:
         broken = variant(folder, "worker", ("sw.js", 'event.respondWith(answer(event.request))', 'event.respondWith(fetch(event.request))'))
 
-        def fails():
+        def fails() -> None:
             try:
                 opens_without(broken)
             except Exception as failure:
@@ -462,7 +468,7 @@ def offline(words, browser, site):
         wrong_is_seen("a service worker that keeps nothing", fails)
 
 
-def disk(words, browser, site):
+def disk(words: Namespace, browser: Browser, site: Site) -> None:
     """The page opened from a file, by each module."""
     page = Page(browser, on_disk())
     for bits in (64, 32):
@@ -478,7 +484,7 @@ def disk(words, browser, site):
         fault, script = ("is a module", 'src="calculator.js" type="module"') if browser.name == "Chromium" else ("is missing", 'src="missing.js" defer')
         broken = variant(folder, "module", ("index.html", '<script src="calculator.js" defer>', f"<script {script}>"))
 
-        def starts():
+        def starts() -> None:
             browser.open(on_disk(broken))
             browser.until(lambda: browser.run("return document.documentElement.dataset.ready !== undefined"), "it starts", 3)
 
@@ -493,7 +499,7 @@ INTERACTIVE = """
 FOCUSED = "const one = document.activeElement; return one === null || one === document.body ? '' : one.id || one.dataset.column || one.dataset.text || one.textContent;"
 
 
-def unreached(browser):
+def unreached(browser: Browser) -> tuple[set[str], list[tuple[str, str]]]:
     """Return what no Tab reaches, and whether each place is seen."""
     wanted, reached, unseen = set(browser.run(INTERACTIVE)), set(), []
     browser.run("document.querySelector('.skip').focus()")
@@ -513,7 +519,7 @@ def unreached(browser):
 PUBLISHED_TOTAL = "510.80"
 
 
-def back_to(browser, selector, most=60):
+def back_to(browser: Browser, selector: str, most: int = 60) -> None:
     """Press Shift and Tab until an element has the keyboard."""
     for _ in range(most):
         if browser.has_keyboard(selector):
@@ -522,7 +528,7 @@ def back_to(browser, selector, most=60):
     raise AssertionError(f"{browser.name}: no Tab back reaches {selector}")
 
 
-def typed_by_tabs(browser, serial):
+def typed_by_tabs(browser: Browser, serial: str) -> None:
     """Add a 500-dollar bond of May 2010 from the denomination on; a second one from the serial number on."""
     if browser.has_keyboard("#denom"):
         browser.type_keys("$500")
@@ -535,7 +541,7 @@ def typed_by_tabs(browser, serial):
     assert browser.has_keyboard("#serial")
 
 
-def opened_by_arrows(browser):
+def opened_by_arrows(browser: Browser) -> None:
     """Go down a row, open that bond and close it."""
     browser.tab_to("#table .open")
     browser.key("Down")
@@ -547,7 +553,7 @@ def opened_by_arrows(browser):
     browser.until(lambda: browser.run("return document.activeElement.textContent") == "C13EE", "Escape gives the keyboard back")
 
 
-def keyboard(words, browser, site):
+def keyboard(words: Namespace, browser: Browser, site: Site) -> None:
     """A whole use with the keyboard alone: a bond, a month, the order, a bond's page, what is saved."""
     page = Page(browser, site.url)
     browser.key("Tab")
@@ -575,11 +581,11 @@ def keyboard(words, browser, site):
     wrong_is_seen("a button that no Tab reaches", lambda: expect_none(unreached(browser)[0]))
 
 
-def expect_none(found):
+def expect_none(found: object) -> None:
     assert not found, found
 
 
-def fences(words, browser, site):
+def fences(words: Namespace, browser: Browser, site: Site) -> None:
     """Nothing is asked of elsewhere, no cookie, and the policy of the page stops what would be."""
     attempts = """
         const [other] = given;
@@ -605,7 +611,7 @@ def fences(words, browser, site):
         other.stop()
 
 
-def expect_stopped(found):
+def expect_stopped(found: object) -> None:
     assert found == ["stopped"] * 3, found
 
 
@@ -630,7 +636,7 @@ TIMES = """
 """
 
 
-def speed(words, browser, site):
+def speed(words: Namespace, browser: Browser, site: Site) -> None:
     """Milliseconds for 10,000 bonds, and the frames of a scroll through them."""
     dice = words.expected.dice("speed")
     bonds = [(serial, dollars, data.FIRST + (issued - data.FIRST) % expected.SHIPPED_MONTHS, owner, coowner) for serial, dollars, issued, owner, coowner in data.random_bonds(dice, 10_000, set(), 7)]

@@ -1,12 +1,16 @@
 """The page beside the published values and the counter's program, byte for byte, in a browser."""
+from __future__ import annotations
+
 import csv
 import re
 import shutil
 import tempfile
+from argparse import Namespace
 from pathlib import Path
 
 import data
 import expected
+from browsers import Browser
 from counter import Counter
 from page import Page
 from serving import Site, on_disk, variant
@@ -22,7 +26,13 @@ MANY_MONTHS = """
 """
 
 
-def published_bonds():
+#: An issue month, a month, and the cents of a unit.
+Unit = tuple[str, str, int]
+#: A bond's serial number, dollars and issue month.
+Written = tuple[str, int, str]
+
+
+def published_bonds() -> tuple[list[Unit], list[Written]]:
     """Return (issue month, month, cents of a unit), and a bond of each denomination for each issue month."""
     with open(expected.PUBLISHED / "published-values.csv", newline="") as file:
         rows = [(row["issued"], row["redeemed"], int(row["unit_cents"])) for row in csv.DictReader(file)]
@@ -31,7 +41,7 @@ def published_bonds():
     return rows, bonds
 
 
-def compare_published(page, rows, bonds, months):
+def compare_published(page: Page, rows: list[Unit], bonds: list[Written], months: list[str]) -> int:
     """Return how many values of these months are equal; fail at the first that isn't."""
     units = {(issued, month): cents for issued, month, cents in rows}
     count = 0
@@ -44,7 +54,7 @@ def compare_published(page, rows, bonds, months):
     return count
 
 
-def published(words, browser, site):
+def published(words: Namespace, browser: Browser, site: Site) -> None:
     """Each published value at each denomination, by each module, as the table shows it."""
     rows, bonds = published_bonds()
     months = sorted({month for _, month, _ in rows})
@@ -65,7 +75,7 @@ def published(words, browser, site):
         wrong_is_seen("a page that shows a cent more", lambda: compare_published(wrong, rows, bonds, months[:1]))
 
 
-def compare_values(page, groups):
+def compare_values(page: Page, groups: list[expected.Group]) -> None:
     """Fail if a row's value and note aren't the line of `value`."""
     for group in groups:
         page.shows_only(data.rates_file(group["rates"]), data.inventory_file(group["bonds"]), data.month_text(group["month"]))
@@ -74,7 +84,7 @@ def compare_values(page, groups):
             assert shown[bond[0]] == line, (bond, data.month_text(group["month"]), shown[bond[0]], line)
 
 
-def values(words, browser, site):
+def values(words: Namespace, browser: Browser, site: Site) -> None:
     """Random rows beside the command `value`."""
     page = Page(browser, site.url)
     groups = words.expected.values
@@ -85,13 +95,13 @@ def values(words, browser, site):
         wrong_is_seen("a page with another note", lambda: compare_values(Page(browser, on_disk(broken)), groups))
 
 
-def compare_sheets(page, listed):
+def compare_sheets(page: Page, listed: list[expected.Sheet]) -> None:
     for one in listed:
         page.shows_only(one["rates"], one["file"], one["month"])
         assert page.sheet() == one["sheet"], (one["month"], page.sheet(), one["sheet"])
 
 
-def sheets(words, browser, site):
+def sheets(words: Namespace, browser: Browser, site: Site) -> None:
     """Random inventories beside the command `sheet`; some also as the page saves them."""
     page = Page(browser, site.url)
     listed = words.expected.sheets
@@ -108,7 +118,7 @@ def sheets(words, browser, site):
         wrong_is_seen("a page that shows the extension a month late", lambda: compare_sheets(Page(browser, on_disk(broken)), listed))
 
 
-def named_as(told, answer):
+def named_as(told: str, answer: str) -> None:
     """Fail if the page doesn't name the fault or refusal that the program names, with its row, code and column."""
     fault = re.fullmatch(r"file: (row [0-9]+ code [0-9]+)\n", answer)
     code = re.search(r'"code":([0-9]+),.*"refused":"([A-Za-z]+)"', answer)
@@ -120,10 +130,11 @@ def named_as(told, answer):
             assert name in told, (told, answer)
     else:
         counts = re.fullmatch(r'\{"new":([0-9]+),"same":([0-9]+)\}\n', answer)
+        assert counts is not None, answer
         assert re.match(rf"{counts[1]} bonds? added|[0-9]+ rates? read", told), (told, answer)
 
 
-def compare_refusals(page, words):
+def compare_refusals(page: Page, words: Namespace) -> None:
     for name, file, answer in words.expected.rates:
         page.remove_all()
         told = page.open_rates(file)
@@ -138,7 +149,7 @@ def compare_refusals(page, words):
             assert column in told
 
 
-def refusals(words, browser, site):
+def refusals(words: Namespace, browser: Browser, site: Site) -> None:
     """Every refusal of the readers, as the page tells it."""
     page = Page(browser, site.url)
     compare_refusals(page, words)
@@ -149,7 +160,7 @@ def refusals(words, browser, site):
         wrong_is_seen("a reader that takes a space before a customer", lambda: compare_refusals(Page(browser, on_disk(broken)), words))
 
 
-def round_trip(words, browser, site):
+def round_trip(words: Namespace, browser: Browser, site: Site) -> None:
     """An inventory that the program exported, opened, saved and imported again: the same bonds."""
     program, dice = Counter(words.program), words.expected.dice("round trip")
     try:
@@ -172,7 +183,7 @@ def round_trip(words, browser, site):
         program.remove()
 
 
-def expect(found, wanted):
+def expect(found: str, wanted: str) -> None:
     assert found == wanted, (found, wanted)
 
 
@@ -186,7 +197,7 @@ document.querySelector("#told").textContent = value.cents(50, "2010-05", "2015-0
 """
 
 
-def shows_value(browser, text):
+def shows_value(browser: Browser, text: str) -> None:
     """A web page of these lines, with ee-value.js and its module beside it, shows 2974."""
     value = expected.TOP / "clients" / "value"
     with tempfile.TemporaryDirectory() as name:
@@ -204,7 +215,7 @@ def shows_value(browser, text):
             own.stop()
 
 
-def web_page(words, browser, site):
+def web_page(words: Namespace, browser: Browser, site: Site) -> None:
     """ee-value.js in a web page of five lines, which loads the module beside it."""
     shows_value(browser, FIVE_LINES)
     right(f"{browser.name}: a web page of five lines over ee-value.js shows 2974")
