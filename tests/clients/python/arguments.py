@@ -1,21 +1,26 @@
 """Every bad argument is one of the package's own errors, and results are what they say."""
+from __future__ import annotations
+
 import dataclasses
 import datetime
 import decimal
+import functools
 import logging
 import subprocess
 import sys
+from pathlib import Path
+from typing import Any, Callable
 
 import ee_counter_client.errors as errors
 import ee_counter_client.spelling as spelling
-from bench import DAY, Told, client, control, desks, folder, journal_text, own_environment, raises, right
+from bench import DAY, Told, client, control, desks, folder, journal_text, own_environment, raises, right, there
 from unittest import mock
 
-JUNK = (None, True, 1.5, -1, 10**30, b"bytes", "", "x" * 300, "\0", "\x1b[2J\r", "caf\u00e9", [], {}, {"\x1b[2J": 7}, object(), float("nan"), datetime.time(8), lambda: None)
-BRANCHES = (client.BadCall, client.WrongSetup, client.Retryable, client.UnknownOutcome, client.Refused)
+JUNK: tuple[Any, ...] = (None, True, 1.5, -1, 10**30, b"bytes", "", "x" * 300, "\0", "\x1b[2J\r", "caf\u00e9", [], {}, {"\x1b[2J": 7}, object(), float("nan"), datetime.time(8), lambda: None)
+BRANCHES: tuple[type[client.CounterError], ...] = (client.BadCall, client.WrongSetup, client.Retryable, client.UnknownOutcome, client.Refused)
 
 
-def arguments():
+def arguments() -> None:
     """Each kind of junk in each place of each call."""
     check_calls()
     control("a spelling that asks for a text's method raises another error", check_calls, mock.patch.object(spelling, "serial_of", str.upper), mock.patch("ee_counter_client.counter.serial_of", str.upper))
@@ -25,7 +30,7 @@ def arguments():
     named_arguments()
 
 
-def is_own(call, what):
+def is_own(call: Callable[[], object], what: str) -> bool:
     """Whether a call is answered, or refused by an error of the package."""
     try:
         call()
@@ -36,9 +41,9 @@ def is_own(call, what):
     return True
 
 
-def check_calls():
+def check_calls() -> None:
     with desks("L1EE") as (place, fake, gate), client.Counter(place / "a.journal", gate.address, desk=3, patience=1) as counter:
-        places = {
+        places: dict[str, Callable[[Any], object]] = {
             "a day": lambda junk: counter.redeem(junk, 7, ["L1EE"]),
             "a payee": lambda junk: counter.redeem(DAY, junk, ["L1EE"]),
             "serial numbers": lambda junk: counter.redeem(DAY, 7, junk),
@@ -62,17 +67,18 @@ def check_calls():
         }
         before = journal_text(place / "a.journal")
         for what, call in places.items():
-            right(all(is_own(lambda junk=junk: call(junk), what) for junk in JUNK), f"{what}: {len(JUNK)} kinds of junk")
+            right(all(is_own(functools.partial(call, junk), what) for junk in JUNK), f"{what}: {len(JUNK)} kinds of junk")
         right(journal_text(place / "a.journal") == before and fake.tickets == [] and gate.bodies == [], "and the journal is as it was")
         raises(client.BadValue, lambda: counter.open_day(datetime.datetime(2012, 2, 6, 8)))
         for junk in (b"bytes", object(), float("nan"), {"a": object()}):
             raises(client.BadValue, lambda: counter.open_day(DAY, bookmark=junk))
-        for junk in (b"bytes", 7, "", "x" * 201, "a\nb"):
-            raises(client.BadValue, lambda: counter.open_day(DAY, key=junk))
+        keys: tuple[Any, ...] = (b"bytes", 7, "", "x" * 201, "a\nb")
+        for key in keys:
+            raises(client.BadValue, lambda: counter.open_day(DAY, key=key))
         right(journal_text(place / "a.journal") == before and gate.bodies == [], "bookmarks and keys too")
 
 
-def check_openings():
+def check_openings() -> None:
     """What a Counter is opened with."""
     with folder() as place:
         (place / "no.pem").write_text("no certificate\n")
@@ -89,20 +95,23 @@ def check_openings():
         }
         for name, values in wrong.items():
             for value in values:
-                words = {"journal": place / "a.journal", "address": "http://127.0.0.1:9", "desk": 3, **({"user": "u"} if name == "password" and value != "alone" else {}), name: value}
+                words: dict[str, Any] = {"journal": place / "a.journal", "address": "http://127.0.0.1:9", "desk": 3, **({"user": "u"} if name == "password" and value != "alone" else {}), name: value}
                 raises(client.BadValue, lambda: client.Counter(words.pop("journal"), words.pop("address"), **words))
             right(not (place / "a.journal").exists(), f"{name}: {len(values)} wrong ones, and no journal is made")
         for certificate in (place / "no.pem", place / "missing.pem"):
             raises(client.BadValue, lambda: client.Counter(place / "a.journal", "https://127.0.0.1:9", desk=3, certificate=certificate))
-        for desks_of in ((), [1, 1], [1000], "12", None, 7):
+        lists: tuple[Any, ...] = ((), [1, 1], [1000], "12", None, 7)
+        for desks_of in lists:
             raises(client.BadValue, lambda: client.Pool(place, desks=desks_of))
-        raises(TypeError, lambda: client.Pool(place, desks=[1], pacience=3))
-        for path, kind in ((place, client.FileFailed), (place / "missing" / "a.journal", client.FileFailed), ("/proc/a.journal", client.FileFailed)):
-            raises(kind, lambda: client.Counter(path, desk=3))
+        pool: Callable[..., client.Pool] = client.Pool
+        raises(TypeError, lambda: pool(place, desks=[1], pacience=3))
+        paths: tuple[str | Path, ...] = (place, place / "missing" / "a.journal", "/proc/a.journal")
+        for path in paths:
+            raises(client.FileFailed, lambda: client.Counter(path, desk=3))
         right(True, "certificates, pools, and places where no journal can be")
 
 
-def check_texts():
+def check_texts() -> None:
     """No error's text, and none of the log, has a control character of what it quotes."""
     sign = "\x1b[2J\x07\n\u202e"
     told = Told()
@@ -133,21 +142,23 @@ def check_texts():
     right(all(text.isprintable() for text in told.texts) and any("because of" in text for text in told.texts), f"and so do {len(told.texts)} texts of the log", told.texts)
 
 
-def named_arguments():
+def named_arguments() -> None:
     """What is read in more than one way."""
-    with desks("L1EE") as (place, fake, gate), client.Counter(str(place / "a.journal"), gate.address + "/", desk="3") as counter:
+    opened: Callable[..., client.Counter] = client.Counter
+    with desks("L1EE") as (place, fake, gate), opened(str(place / "a.journal"), gate.address + "/", desk="3") as counter:
         fake.answered("POST", "/day/close", b'{"number":2,"day":"2012-02-06"}')
         counter.add_rates([client.Rates(client.Month(2010, 5), decimal.Decimal("3.5"), decimal.Decimal("4.00")), {"from": datetime.date(2010, 11, 1), "rate": "3.50%"}])
         counter.add_bonds([client.Bond("K-0002-EE", 75, "10/2010", 7, 8)])
         counter.open_day(datetime.date(2012, 2, 7), even_so=True)
-        ticket = counter.redeem(datetime.date(2012, 2, 7), "7", ("K2EE", "L-1EE"))
+        redeem: Callable[..., client.Ticket] = counter.redeem
+        ticket = redeem(datetime.date(2012, 2, 7), "7", ("K2EE", "L-1EE"))
         right([line.serial for line in ticket.lines] == ["K2EE", "L1EE"] and counter.inventory(7, client.Month(2012, 2)).rows == (), "dates, Months, Decimals and other spellings are read")
 
 
 # ---- results and errors
 
 
-def results():
+def results() -> None:
     """Frozen classes with Decimal, dates and numbers."""
     with desks("L1EE", "L2EE", values={"L1EE": "25.16"}) as (place, _, gate), client.Counter(place / "a.journal", gate.address, desk=3) as counter:
         sheet = counter.inventory(7, "2012-02")
@@ -155,7 +166,7 @@ def results():
         right((row.value, row.issued, row.next, row.is_payable, sheet.value) == (decimal.Decimal("25.16"), client.Month(2010, 11), client.Month(2012, 3), True, decimal.Decimal("50.16")), f"a row: {row}")
         ticket = counter.redeem(DAY, 7, ["L1EE"])
         right(ticket == client.Ticket(1, datetime.date(2012, 2, 6), 7, (client.Line("L1EE", decimal.Decimal("25.16")),), decimal.Decimal("25.16")), f"a ticket: {ticket}")
-        right(counter.ticket(1) == ticket and counter.ticket(1).text == ticket.text and counter.ticket(2) is None, "looked up it is the same; a missing one is None")
+        right(counter.ticket(1) == ticket and there(counter.ticket(1)).text == ticket.text and counter.ticket(2) is None, "looked up it is the same; a missing one is None")
         batch = counter.close_day(DAY)
         right(batch == client.Batch(datetime.date(2012, 2, 6), 1, 1, decimal.Decimal("25.16")) == counter.batch(DAY), f"a batch: {batch}")
         for result in (row, sheet, ticket, ticket.lines[0], batch, ticket.request, counter.last):
@@ -164,7 +175,7 @@ def results():
     right(type(unknown) is client.Refused and (unknown.code, unknown.name) == (99, "Later"), "a refusal of a later program is a plain Refused")
 
 
-def tree():
+def tree() -> None:
     """Each error is in one branch, and says what its branch says."""
     kinds = [kind for name in client.__all__ if isinstance(kind := getattr(client, name), type) and issubclass(kind, client.CounterError) and kind is not client.CounterError]
     for kind in kinds:
@@ -176,7 +187,7 @@ def tree():
     right(undocumented == [], f"{len(public)} public names have a docstring", undocumented)
 
 
-def words():
+def words() -> None:
     """The package logs, and prints nothing; without a handler its warnings reach standard error."""
     script = "import logging, sys\n{}\nfrom ee_counter_client import *\ntry:\n    Counter(sys.argv[1], 'http://127.0.0.1:9', desk=3, patience=0.1).ticket(1)\nexcept NoAnswer:\n    pass\n"
     for setting, wanted in (("logging.getLogger('ee_counter_client').addHandler(logging.NullHandler())", ""), ("logging.getLogger('ee_counter_client').setLevel(logging.ERROR)", ""), ("", "no reply: [Errno 111] Connection refused\n")):

@@ -1,4 +1,6 @@
 """What the cases of the Python client share: verdicts, controls, folders, the true counter, and servers that aren't a counter."""
+from __future__ import annotations
+
 import contextlib
 import io
 import logging
@@ -11,12 +13,18 @@ import tempfile
 import threading
 import time
 from pathlib import Path
+from typing import Any, Callable, ContextManager, Iterator, Optional, TypeVar
 
 import ee_counter_client
 from ee_counter_client.testing import FakeCounter, Gate
 
 #: The package that is tested, for the modules beside this one.
 client = ee_counter_client
+
+T = TypeVar("T")
+E = TypeVar("E", bound=BaseException)
+#: What a server does with a connection.
+Serving = Callable[[socket.socket], None]
 
 TOP = Path(__file__).resolve().parents[3]
 DAY = "2012-02-06"
@@ -25,15 +33,15 @@ DAY = "2012-02-06"
 class Told(logging.Handler):
     """What the package logs while it is kept, as texts."""
 
-    def __init__(self):
+    def __init__(self) -> None:
         super().__init__()
-        self.texts = []
+        self.texts: list[str] = []
 
-    def emit(self, record):
+    def emit(self, record: logging.LogRecord) -> None:
         self.texts.append(record.getMessage())
 
     @contextlib.contextmanager
-    def kept(self):
+    def kept(self) -> Iterator[Told]:
         logging.getLogger("ee_counter_client").addHandler(self)
         try:
             yield self
@@ -41,13 +49,13 @@ class Told(logging.Handler):
             logging.getLogger("ee_counter_client").removeHandler(self)
 
 
-def right(is_right, what, found=""):
+def right(is_right: object, what: str, found: object = "") -> None:
     if not is_right:
         raise SystemExit(f"WRONG: {what}\n{found}")
     print(f"right: {what}", flush=True)
 
 
-def control(what, check, *broken):
+def control(what: str, check: Callable[[], object], *broken: ContextManager[object]) -> None:
     """The check has to fail while the broken parts stand in for the true ones."""
     with contextlib.ExitStack() as stack, contextlib.redirect_stdout(io.StringIO()):
         for part in broken:
@@ -61,7 +69,7 @@ def control(what, check, *broken):
     right(failed, f"control: {what}")
 
 
-def raises(kind, call):
+def raises(kind: type[E], call: Callable[[], object]) -> E:
     """The error that a call raises, which is of that kind."""
     try:
         found = call()
@@ -72,8 +80,14 @@ def raises(kind, call):
     raise SystemExit(f"WRONG: {kind.__name__} is wanted\n{found}")
 
 
+def there(found: Optional[T]) -> T:
+    """What was found, which has to be there."""
+    assert found is not None
+    return found
+
+
 @contextlib.contextmanager
-def folder():
+def folder() -> Iterator[Path]:
     """A folder for journals, which goes with the case."""
     path = Path(tempfile.mkdtemp(prefix="python_client"))
     try:
@@ -83,7 +97,7 @@ def folder():
 
 
 @contextlib.contextmanager
-def desks(*serials, **values):
+def desks(*serials: str, **values: Any) -> Iterator[tuple[Path, FakeCounter, Gate]]:
     """A folder, a fake counter in which a day is open and customer 7 has these bonds of 50 dollars, and a gate before it."""
     with folder() as place, FakeCounter(**values) as fake, Gate(fake) as gate:
         fake.answered("POST", "/day/open", b'{"number":1,"day":"2012-02-06"}')
@@ -93,7 +107,7 @@ def desks(*serials, **values):
 
 
 @contextlib.contextmanager
-def timed(most, least=0.0):
+def timed(most: float, least: float = 0.0) -> Iterator[None]:
     """What is done within takes from `least` to `most` seconds."""
     begun = time.monotonic()
     yield
@@ -103,7 +117,7 @@ def timed(most, least=0.0):
 
 
 @contextlib.contextmanager
-def true_counter(program, place):
+def true_counter(program: str, place: Path) -> Iterator[int]:
     """The program itself, over a new store. Yields its port."""
     port = free_port()
     with open(place / "serve.lines", "ab") as lines:
@@ -120,18 +134,19 @@ def true_counter(program, place):
         process.wait()
 
 
-def free_port():
+def free_port() -> int:
     with socket.socket() as trial:
         trial.bind(("127.0.0.1", 0))
-        return trial.getsockname()[1]
+        port: int = trial.getsockname()[1]
+        return port
 
 
 @contextlib.contextmanager
-def listener(serve):
+def listener(serve: Serving) -> Iterator[int]:
     """A server that isn't a counter: `serve` is called with each connection, in a thread of its own. Yields its port."""
     with socket.create_server(("127.0.0.1", 0)) as server:
 
-        def listen():
+        def listen() -> None:
             while True:
                 try:
                     connection, _ = server.accept()
@@ -139,7 +154,7 @@ def listener(serve):
                     return
                 threading.Thread(target=quiet, args=(connection,), daemon=True).start()
 
-        def quiet(connection):
+        def quiet(connection: socket.socket) -> None:
             with connection, contextlib.suppress(OSError):
                 serve(connection)
 
@@ -149,7 +164,7 @@ def listener(serve):
             server.shutdown(socket.SHUT_RDWR)
 
 
-def certificate(place):
+def certificate(place: Path) -> tuple[Path, Path]:
     """A certificate of 127.0.0.1 that no system trusts, and its key."""
     names = place / "certificate.pem", place / "key.pem"
     words = ["openssl", "req", "-x509", "-newkey", "rsa:2048", "-nodes", "-days", "2", "-subj", "/CN=counter", "-addext", "subjectAltName=IP:127.0.0.1"]
@@ -157,12 +172,12 @@ def certificate(place):
     return names
 
 
-def encrypted(place, to):
+def encrypted(place: Path, to: int) -> Serving:
     """A server with TLS that passes each connection on to a port."""
     context = ssl.SSLContext(ssl.PROTOCOL_TLS_SERVER)
     context.load_cert_chain(*certificate(place))
 
-    def serve(plain):
+    def serve(plain: socket.socket) -> None:
         with context.wrap_socket(plain, server_side=True) as secret, socket.create_connection(("127.0.0.1", to)) as inner:
             threading.Thread(target=pump, args=(secret, inner), daemon=True).start()
             pump(inner, secret)
@@ -170,15 +185,15 @@ def encrypted(place, to):
     return serve
 
 
-def pump(one, other):
+def pump(one: socket.socket, other: socket.socket) -> None:
     with contextlib.suppress(OSError):
         while data := one.recv(65536):
             other.sendall(data)
 
 
-def journal_text(path):
+def journal_text(path: str | Path) -> bytes:
     return Path(path).read_bytes()
 
 
-def own_environment():
+def own_environment() -> dict[str, str]:
     return {**os.environ, "PYTHONPATH": str(TOP / "clients" / "python" / "src"), "PYTHONDONTWRITEBYTECODE": "1"}

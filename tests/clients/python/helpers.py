@@ -1,23 +1,30 @@
 """The helpers for a bank's own tests: the fake counter beside the program, byte by byte, and each fault of the gate."""
+from __future__ import annotations
+
 import http.client
 import json
+from typing import Any, Iterator, Optional, Tuple
 from unittest import mock
 
 import ee_counter_client.counter as counter_module
-from bench import DAY, client, control, desks, folder, right, true_counter
+from bench import DAY, client, control, desks, folder, right, there, true_counter
 from ee_counter_client.testing import AFTER, BEFORE, FAULTS, OF_ONE_SENDING, FakeCounter, fake as fake_module
 
+#: The method, the path and the body of a message.
+Message = Tuple[str, str, Optional[str]]
+#: The status, the type and the text of an answer.
+Answer = Tuple[int, Optional[str], str]
 #: Rates of 0.00 % for each May and November, since the fake's values are those of such rates.
 RATES = [{"from": f"{year}-{month}", "rate": "0.00"} for year in range(2005, 2013) for month in ("05", "11")]
 
 
-def messages():
+def messages() -> Iterator[Message]:
     """What is sent to both: method, path and body, in an order in which each refusal of the fake comes about."""
 
-    def post(path, number, **fields):
+    def post(path: str, number: int, **fields: Any) -> Message:
         return "POST", path, json.dumps({"desk": 3, "number": number, **fields})
 
-    def bond(serial, issued, denom=50, owner=7, **more):
+    def bond(serial: str, issued: str, denom: int = 50, owner: int = 7, **more: Any) -> dict[str, Any]:
         return {"serial": serial, "denom": denom, "issued": issued, "owner": owner, **more}
 
     bonds = [bond("L1EE", "2010-11"), bond("K-002-EE", "10/2010", 75, coowner=8), bond("M3EE", "2005-06", 10000), bond("N4EE", "2011-09"), bond("O5EE", "2012-05"), bond("L10EE", "2007-02", 200)]
@@ -55,7 +62,7 @@ def messages():
     yield "GET", "/inventory/7/2012-02", None
 
 
-def answer(port, method, path, body):
+def answer(port: int, method: str, path: str, body: str | None) -> Answer:
     """The status, the type and the text."""
     connection = http.client.HTTPConnection("127.0.0.1", port, timeout=60)
     connection.request(method, path, body, {"Connection": "close"})
@@ -65,14 +72,14 @@ def answer(port, method, path, body):
     return found
 
 
-def fake_counter(program):
+def fake_counter(program: str) -> None:
     """The fake counter and the program answer the same."""
     check_fake(program)
     control("a fake that pays a cent more is found", lambda: check_fake(program), mock.patch.object(fake_module, "printed", lambda cents: f"{(cents + 1) // 100}.{(cents + 1) % 100:02}"))
     control("a fake with another order of refusals is found", lambda: check_fake(program), mock.patch.object(fake_module, "first_twice", lambda serials: None))
 
 
-def check_fake(program):
+def check_fake(program: str) -> None:
     with folder() as place, true_counter(program, place) as port, FakeCounter() as fake:
         count, codes = 0, set()
         for method, path, body in messages():
@@ -85,10 +92,10 @@ def check_fake(program):
         right(len(codes) >= 20, f"{count} messages: the fake counter and the program give the same bytes, codes {sorted(codes)}")
 
 
-def gate_faults():
+def gate_faults() -> None:
     """Each fault of the gate over the fake counter: the request is done once, and the client says how often it was sent."""
     for fault in FAULTS:
-        kills = []
+        kills: list[str] = []
         with desks("L1EE") as (place, fake, gate), client.Counter(place / "a.journal", gate.address, desk=3, time_limit=1) as counter, mock.patch.object(counter_module, "SIGN_IN_PAUSE", 0.1):
             gate.kill = lambda: kills.append(fault)
             gate.faults = [fault]
@@ -100,10 +107,10 @@ def gate_faults():
                     continue
             ticket = counter.redeem(DAY, 7, ["L1EE"])
             wanted = 2 if fault in BEFORE + AFTER else 1
-            right((len(fake.tickets), ticket.request.sent, gate.met) == (1, wanted, [fault]) and len(kills) == ("killed" in fault), f"{fault}: sent {wanted} times, done once")
+            right((len(fake.tickets), there(ticket.request).sent, gate.met) == (1, wanted, [fault]) and len(kills) == ("killed" in fault), f"{fault}: sent {wanted} times, done once")
 
 
-def scripted():
+def scripted() -> None:
     """Values and refusals that a bank's test gives."""
     with desks("L1EE", "L2EE", values={"L1EE": "25.16"}) as (place, fake, gate), client.Counter(place / "a.journal", gate.address, desk=3) as counter:
         fake.refusals.append({"code": 30, "refused": "NoRate", "serial": "L1EE"})

@@ -1,15 +1,21 @@
 """The interest of paid bonds as CSV: over the program, beside arithmetic of the tests' own, and with each thing missing in turn."""
+from __future__ import annotations
+
 import csv
 import datetime
+import hashlib
 import io
+import itertools
 import json
 import subprocess
 import sys
 from decimal import Decimal
+from pathlib import Path
+from typing import Callable, Iterable, List, Optional, Tuple, Union
 from unittest import mock
 
 import ee_counter_client.interest as interest_module
-from bench import TOP, client, control, desks, folder, raises, right, true_counter
+from bench import TOP, client, control, desks, folder, raises, right, there, true_counter
 from ee_counter_client.testing import FakeCounter, Gate
 from other_programs import ran
 
@@ -17,10 +23,16 @@ sys.path.insert(0, str(TOP / "tests" / "shared"))
 
 import exact  # noqa: E402
 
+#: A bond of the inventory: serial number, denomination, issue month, owner, and its co-owner or "".
+Bond = Tuple[str, int, str, int, Union[int, str]]
+#: Whether a payment is wanted, by its day, its ticket and its payee.
+Wanted = Callable[[str, int, int], bool]
+#: A CSV, and the sums of its prices, its interest and its values.
+Expected = Tuple[str, List[Decimal]]
 HEADER = "day,ticket,payee,serial,denom,issued,price,interest,value\n"
 INVENTORY = "serial,denom,issued,owner,coowner\n"
 #: Each denomination, with issue months in several periods: younger and older than 5 years, and older than 20 years at the last day.
-BONDS = (
+BONDS: tuple[Bond, ...] = (
     ("L1EE", 50, "2010-11", 7, ""),
     ("K1EE", 75, "2010-10", 7, 8),
     ("C1EE", 100, "2005-05", 7, ""),
@@ -33,7 +45,7 @@ BONDS = (
     ("X2EE", 10000, "2006-05", 8, ""),
 )
 #: Days, and what is paid on each: payees with their bonds.
-DAYS = (
+DAYS: tuple[tuple[str, tuple[tuple[int, tuple[str, ...]], ...]], ...] = (
     ("2012-02-06", ((7, ("L1EE", "K1EE")), (9, ("D1EE",)))),
     ("2012-02-07", ()),
     ("2012-12-31", ((8, ("R1EE",)),)),
@@ -41,24 +53,27 @@ DAYS = (
     ("2026-11-27", ((7, ("L2EE",)), (8, ("X2EE",)))),
 )
 
+#: The numbers of the requests that the fake counter is given without a desk.
+NUMBERS = itertools.count(2)
 
-def fields_of(bond):
+
+def fields_of(bond: Bond) -> dict[str, object]:
     serial, denom, issued, owner, coowner = bond
     return {"serial": serial, "denom": denom, "issued": issued, "owner": owner, **({"coowner": coowner} if coowner else {})}
 
 
-def rate_of(issued):
+def rate_of(issued: str) -> int:
     """The fixed rate of samples/rates.csv in hundredths of a percent."""
     with open(TOP / "samples" / "rates.csv", encoding="utf-8", newline="") as file:
         rows = [(row["from"], row["rate"]) for row in csv.DictReader(file)]
     return int(Decimal(max(row for row in rows if row[0] <= issued)[1]) * 100)
 
 
-def dollars(cents):
+def dollars(cents: int) -> str:
     return f"{cents // 100}.{cents % 100:02}"
 
 
-def expected(is_wanted):
+def expected(is_wanted: Wanted) -> Expected:
     """The rows of the payments that are wanted, by the tests' own arithmetic, and the sums of price, interest and value in cents."""
     lines, sums, ticket = [], [0, 0, 0], 0
     for day, payments in DAYS:
@@ -73,7 +88,7 @@ def expected(is_wanted):
     return HEADER + "".join(lines), [Decimal(dollars(cents)) for cents in sums]
 
 
-def worked_through(place, port):
+def worked_through(place: Path, port: int) -> None:
     """The days, by a desk that keeps an archive. Half of the bonds are registered by a file, and the others by a call."""
     with client.Counter(place / "a.journal", f"http://127.0.0.1:{port}", desk=3, archive=place / "a.archive") as counter:
         counter.add_rates(client.rates_in(TOP / "samples" / "rates.csv"))
@@ -91,7 +106,7 @@ def worked_through(place, port):
 # ---- over the program
 
 
-def interest(program):
+def interest(program: str) -> None:
     """Each ticket, each day and several spans, by the package and by the command."""
     with folder() as place:
         with true_counter(program, place):
@@ -113,26 +128,27 @@ def interest(program):
         right(client.bonds_known(place / "store.archive") == known and len(known) == len(BONDS), "the archive of the store has the same bonds")
 
 
-def archived(place):
+def archived(place: Path) -> None:
     """The archive of the store at rest."""
     (place / "store.archive").mkdir(exist_ok=True)
     ran_so = subprocess.run([TOP / "samples" / "restore" / "archive", place / "day.db", place / "store.archive"], capture_output=True, text=True, timeout=300)
     right(ran_so.returncode == 0, "samples/restore/archive", ran_so)
 
 
-def same(found, wanted, what):
+def same(found: client.Interest, wanted: Expected, what: str) -> None:
     text, sums = wanted
     right(found.text == text and [found.price, found.interest, found.value] == sums and found.price + found.interest == found.value and found.missing == (), f"{what}: {len(found.rows)} bonds, interest {found.interest}", f"{found.text}\n{text}")
 
 
-def check_interest(lookups, known):
+def check_interest(lookups: client.Lookups, known: dict[str, client.Bond]) -> None:
     for number in range(1, 8):
         same(client.interest_of_ticket(lookups, number, known), expected(lambda day, ticket, payee: ticket == number), f"ticket {number}")
-        right(client.interest_of_ticket(lookups, number, known).value == lookups.ticket(number).total, "its value is the ticket's total")
+        right(client.interest_of_ticket(lookups, number, known).value == there(lookups.ticket(number)).total, "its value is the ticket's total")
     for wanted, _ in DAYS[:-1]:
         found = client.interest_of_day(lookups, wanted, known)
         same(found, expected(lambda day, ticket, payee: day == wanted), wanted)
-        right((found.value, len(found.rows)) == (lookups.batch(wanted).total, lookups.batch(wanted).bonds), "its sums are the batch's")
+        batch = there(lookups.batch(wanted))
+        right((found.value, len(found.rows)) == (batch.total, batch.bonds), "its sums are the batch's")
     for payee in (7, 8, 9, 10):
         for first, last in (("2012-01-01", "2012-12-31"), ("2012-02-06", "2013-01-02"), ("2013-01-01", "2026-11-26"), ("2012-02-07", "2012-12-30"), ("2005-05-01", "2012-02-05")):
             same(client.interest_of_payee(lookups, payee, first, last, known), expected(lambda day, ticket, paid: paid == payee and first <= day <= last), f"customer {payee} from {first} to {last}")
@@ -140,7 +156,7 @@ def check_interest(lookups, known):
     right(row == client.Paid(datetime.date(2012, 2, 6), 1, 7, "K1EE", 75, client.Month(2010, 10), Decimal("37.50"), Decimal("0.57"), Decimal("38.07")), f"a row: {row}")
 
 
-def commands(place, address):
+def commands(place: Path, address: str) -> None:
     """The command prints the same; its sources are an inventory, an archive, or both."""
     whole = place / "whole.csv"
     whole.write_text(INVENTORY + "".join(f"{','.join(map(str, bond))}\n" for bond in BONDS))
@@ -165,7 +181,7 @@ def commands(place, address):
         right((status, out) == (2, ""), f"{' '.join(map(str, words[:2]))}..: status 2, {told.splitlines()[-1][-70:]}", told)
 
 
-def not_closed(lookups, known):
+def not_closed(lookups: client.Lookups, known: dict[str, client.Bond]) -> None:
     for call in (lambda: client.interest_of_day(lookups, DAYS[-1][0], known), lambda: client.interest_of_payee(lookups, 7, "2013-01-01", "2026-12-31", known)):
         error = raises(client.Incomplete, call)
         right(error.missing == (f"{DAYS[-1][0]} isn't closed, so its tickets may not be all",) and len(error.interest.rows) >= 2, f"an open day: {error}")
@@ -174,42 +190,35 @@ def not_closed(lookups, known):
 # ---- what is missing, over the fake counter
 
 
-def missing_interest():
+def missing_interest() -> None:
     """Each thing that isn't right is named, and raises Incomplete."""
     check_missing()
     control("a client that takes the file's word for the denomination", check_missing, mock.patch.object(interest_module.Question, "row", trusting))
     control("a client that doesn't look at the batch", check_missing, mock.patch.object(interest_module.Question, "untied", lambda *_: []))
     sources()
-    control("a reader that doesn't look at the chain", sources, mock.patch.object(interest_module.hashlib, "sha256", lambda line: mock.Mock(hexdigest=lambda: Any())))
+    control("a reader that doesn't look at the chain", sources, mock.patch.object(hashlib, "sha256", lambda line: mock.Mock(hexdigest=lambda: mock.ANY)))
     few_messages()
     full_disk()
 
 
-class Any:
-    def __eq__(self, other):
-        return True
-
-    __hash__ = None
-
-
-def trusting(question, ticket, line, bond):
+def trusting(question: interest_module.Question, ticket: client.Ticket, line: client.Line, bond: client.Bond) -> tuple[Optional[client.Row], str]:
     row = question.lookups.value(bond.denom, bond.issued, "2012-02")
     return row, ""
 
 
-def day_of_fake(fake, day, serials, payee=7):
-    fake.number = getattr(fake, "number", 1)
-    for path, fields in (("/day/open", {}), *(("/redeem", {"payee": payee, "serials": [serial]}) for serial in serials), ("/day/close", {})):
-        fake.number += 1
-        status, text = fake.answered("POST", path, json.dumps({"number": fake.number, "day": day, **fields}).encode())
+def day_of_fake(fake: FakeCounter, day: str, serials: Iterable[str], payee: int = 7) -> None:
+    payments = [("/redeem", {"payee": payee, "serials": [serial]}) for serial in serials]
+    messages: list[tuple[str, dict[str, object]]] = [("/day/open", {}), *payments, ("/day/close", {})]
+    for path, fields in messages:
+        status, text = fake.answered("POST", path, json.dumps({"number": next(NUMBERS), "day": day, **fields}).encode())
         assert status == 200, text
 
 
-def bond_of(serial, denom=50):
+def bond_of(serial: str, denom: int = 50) -> dict[str, object]:
     return {"serial": serial, "denom": denom, "issued": "2010-11", "owner": 7}
 
 
-def check_missing():
+def check_missing() -> None:
     with FakeCounter() as fake:
         fake.bonds = {serial: bond_of(serial) for serial in ("L1EE", "L2EE", "L3EE")}
         day_of_fake(fake, "2012-02-06", ("L1EE", "L2EE"))
@@ -218,10 +227,11 @@ def check_missing():
         known = {serial: client.Bond(serial, 50, "2010-11", 7) for serial in fake.bonds}
         found = client.interest_of_payee(lookups, 7, "2012-02-06", "2012-02-07", known)
         right(found.text.splitlines()[3] == "2012-02-07,3,7,L3EE,50,2010-11,25.00,0.00,25.00" and found.value == Decimal("75.00"), "control: all is known", found.text)
-        for what, changed, sentence in (
+        lacks: tuple[tuple[str, dict[str, client.Bond], str], ...] = (
             ("no bond", {}, "L1EE, on ticket 1, is in none of the files"),
             ("another denomination", {"L1EE": client.Bond("L1EE", 100, "2010-11", 7)}, "L1EE, on ticket 1: 25.00 was paid, and the files' bond, of 100 dollars and 2010-11, is worth 50.00 in 2012-02"),
-        ):
+        )
+        for what, changed, sentence in lacks:
             kept = {**{serial: bond for serial, bond in known.items() if serial != "L1EE"}, **changed}
             for call in (lambda: client.interest_of_day(lookups, "2012-02-06", kept), lambda: client.interest_of_payee(lookups, 7, "2012-01-01", "2012-12-31", kept), lambda: client.interest_of_ticket(lookups, 1, kept)):
                 error = raises(client.Incomplete, call)
@@ -234,7 +244,7 @@ def check_missing():
                     right(len(error.missing) == 1 and "2012-02-06" in str(error) and str(value) in str(error), f"a batch with other {name}: {error}")
 
 
-def full_disk():
+def full_disk() -> None:
     """A CSV that can't be written whole has status 3."""
     with FakeCounter() as fake, folder() as place, open("/dev/full", "w") as full:
         fake.bonds = {"L1EE": bond_of("L1EE")}
@@ -247,7 +257,7 @@ def full_disk():
         right(ran("--at", fake.address, "interest-day", "2012-02-06", place / "bonds.csv")[0] == 0, "control: with room it is printed")
 
 
-def sources():
+def sources() -> None:
     """Inventories and archives: what is refused, and what isn't taken."""
     with desks() as (place, fake, gate):
         with client.Counter(place / "a.journal", gate.address, desk=3, archive=place / "a.archive") as counter:
@@ -259,18 +269,19 @@ def sources():
         whole = (place / "a.archive").read_bytes()
         (place / "cut.archive").write_bytes(whole + b'{"before":"12')
         right(client.bonds_known(place / "cut.archive") == client.bonds_known(place / "a.archive"), "a last line that a stop cut is left out")
-        for what, text in (("changed", whole.replace(b'"denom":50', b'"denom":75', 1)), ("without a line", b"\n".join(whole.split(b"\n")[:1] + whole.split(b"\n")[2:])), ("of junk", b'{"archive":1,\n[]\n7\n')):
-            (place / "b.archive").write_bytes(text)
+        for what, changed in (("changed", whole.replace(b'"denom":50', b'"denom":75', 1)), ("without a line", b"\n".join(whole.split(b"\n")[:1] + whole.split(b"\n")[2:])), ("of junk", b'{"archive":1,\n[]\n7\n')):
+            (place / "b.archive").write_bytes(changed)
             right("archive was changed" in str(raises(client.BadFile, lambda: client.bonds_known(place / "b.archive"))), f"an archive that is {what} is refused")
         for what, text, row in (("a row that can't be read", "L1EE,51,2010-11,7,", 2), ("another denomination", "L9EE,50,2010-11,7,\nL1EE,75,2010-11,7,", 3), ("another issue month", "L1EE,50,2010-10,7,", 2)):
             (place / "b.csv").write_text(f"{INVENTORY}{text}\n")
             error = raises(client.BadFile, lambda: client.bonds_known(place / "a.archive", place / "b.csv"))
             right(error.row == row and str(place / "b.csv") in str(error), f"{what}, beside the archive: {str(error)[:60]}")
+        read: Callable[..., object] = client.bonds_known
         for junk in (None, 7, "", "a\0b", place / "none"):
-            raises(client.BadCall, lambda: client.bonds_known(junk))
+            raises(client.BadCall, lambda: read(junk))
 
 
-def few_messages():
+def few_messages() -> None:
     """A day is found by doubling and halving, and not by reading all tickets."""
     with FakeCounter() as fake, Gate(fake) as gate:
         for day in range(1, 29):

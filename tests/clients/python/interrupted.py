@@ -1,7 +1,10 @@
 """Interruptions of a process that lives on: Ctrl-C at a moment of a call's own code, and a call on a file that fails. Journal, keys and archive stay right."""
+from __future__ import annotations
+
 import collections
 import contextlib
 import errno
+import functools
 import hashlib
 import json
 import os
@@ -10,12 +13,21 @@ import shutil
 import subprocess
 import sys
 import threading
+import types
+from pathlib import Path
+from typing import Any, Callable, Optional, Tuple, TypeVar
 from unittest import mock
 
 import ee_counter_client.archive as archive_module
 import ee_counter_client.journal as journal_module
 from bench import DAY, TOP, client, control, desks, folder, right, true_counter
-from ee_counter_client.testing import fake as fake_module
+from ee_counter_client.testing import FakeCounter, fake as fake_module
+
+T = TypeVar("T")
+#: What Python calls at each moment of a function.
+Tracing = Callable[[types.FrameType, str, Any], Any]
+#: A function of the package, and the number of one of its moments.
+Moment = Tuple[str, int]
 
 #: How many moments of a call are tried: one of each function, and others by chance. 0 is each of them.
 MOMENTS = 100
@@ -31,28 +43,28 @@ class Interrupt:
     """Raises KeyboardInterrupt in this thread, at one moment of what is done within: the `nth` in a function of the package, or in all of them if `function` is None. 0 is no
     moment. It counts the moments of each function."""
 
-    def __init__(self, function=None, nth=0):
+    def __init__(self, function: Optional[str] = None, nth: int = 0) -> None:
         self.function, self.nth = function, nth
-        self.counts = collections.Counter()
+        self.counts: collections.Counter[str] = collections.Counter()
 
-    def __enter__(self):
+    def __enter__(self) -> Interrupt:
         self.hook, sys.unraisablehook = sys.unraisablehook, lambda _: None  # Python ignores what is raised in __del__
         sys.settrace(self.entered)
         return self
 
-    def __exit__(self, kind, *_):
+    def __exit__(self, kind: Optional[type[BaseException]], *_: object) -> bool:
         sys.settrace(None)
         sys.unraisablehook = self.hook
         return kind is KeyboardInterrupt
 
-    def entered(self, frame, *_):
+    def entered(self, frame: types.FrameType, *_: object) -> Optional[Tracing]:
         folder, name = os.path.split(frame.f_code.co_filename)
         if not folder.endswith("ee_counter_client") or name not in BY_INSTRUCTION + BY_LINE:
             return None
         frame.f_trace_opcodes, frame.f_trace_lines = name in BY_INSTRUCTION, name in BY_LINE
         return self.met
 
-    def met(self, frame, event, _):
+    def met(self, frame: types.FrameType, event: str, _: object) -> Tracing:
         if event in ("opcode", "line"):
             function = frame.f_code.co_qualname
             self.counts[function] += 1
@@ -61,7 +73,7 @@ class Interrupt:
         return self.met
 
 
-def all_moments(call):
+def all_moments(call: Callable[[], object]) -> list[Moment]:
     """Each moment of a call, function by function."""
     with Interrupt() as whole:
         call()
@@ -70,7 +82,7 @@ def all_moments(call):
     return moments
 
 
-def moments_of(call, within=None):
+def moments_of(call: Callable[[], object], within: Optional[str] = None) -> list[Moment]:
     """The moments of a call to try: each one in the function `within`, or MOMENTS of them."""
     moments = all_moments(call)
     if within is not None:
@@ -84,7 +96,7 @@ def moments_of(call, within=None):
     return first + others[: max(0, MOMENTS - len(first))]
 
 
-def same_on_disk(counter, place, when):
+def same_on_disk(counter: client.Counter, place: Path, when: str) -> None:
     """What a Counter knows is what another process would read of its files."""
     copy = place / "copy"
     shutil.rmtree(copy, ignore_errors=True)
@@ -99,29 +111,29 @@ def same_on_disk(counter, place, when):
 
 
 #: Parts of the package whose lack shows at a few moments of one function: what is said of it, the key, the function, the part, and what stands in for it.
-LACKS = (
+LACKS: tuple[tuple[str, Optional[str], str, tuple[type, str, Callable[..., object]]], ...] = (
     ("a journal that doesn't take a reply from its keys", "job", "Journal.write", (journal_module.Journal, "settled", lambda journal: journal.record)),
     ("a journal that leaves an interrupted change on the disk", None, "Journal.write", (journal_module.Journal, "restore", lambda journal: None)),
     ("an archive that doesn't read back its last line", "job", "Archive.write", (archive_module.Archive, "read_back", lambda archive: None)),
 )
 
 
-def interrupted_calls():
+def interrupted_calls() -> None:
     """Ctrl-C in a call, and the Counter is used further: the same call has its reply, each bond is paid once, and the files are right."""
     check_interrupted("job")
     check_interrupted(None)
     for lack, key, function, broken in LACKS:
         check_interrupted(key, function)
-        control(lack, lambda key=key, function=function: check_interrupted(key, function), mock.patch.object(*broken))
+        control(lack, functools.partial(check_interrupted, key, function), mock.patch.object(*broken))
     interrupted_openings()
 
 
-def bonds_of(fake, count):
+def bonds_of(fake: FakeCounter, count: int) -> None:
     """Two more bonds."""
     fake.bonds.update({serial: {"serial": serial, "denom": 50, "issued": "2010-11", "owner": 7} for serial in (f"A{count}EE", f"B{count}EE")})
 
 
-def check_interrupted(key, within=None):
+def check_interrupted(key: Optional[str], within: Optional[str] = None) -> None:
     """Moment after moment: MOMENTS of them, or each one in the function `within`. With keys, another call comes in between every second time."""
     with desks("X1EE") as (place, fake, _), mock.patch.object(fake_module, "MOST_TICKETS", 10**6):
         with client.Counter(place / "a.journal", fake.address, desk=3, archive=place / "a.archive", patience=60) as counter:
@@ -131,12 +143,12 @@ def check_interrupted(key, within=None):
                 bonds_of(fake, count)
                 with Interrupt(*moment):
                     counter.redeem(DAY, 7, [f"A{count}EE"], key=key and f"A{count}", bookmark=count)
-                made_again(counter, place, f"moment {moment[1]} of {moment[0]}", count, key, key and count % 2 == 0)
+                made_again(counter, place, f"moment {moment[1]} of {moment[0]}", count, key, key is not None and count % 2 == 0)
         paid_once(place, fake)
         right(True, f"{len(moments)} moments of {within or 'a call'} {'with' if key else 'without'} a key were interrupted, and each bond is paid once")
 
 
-def made_again(counter, place, when, count, key, with_other=False):
+def made_again(counter: client.Counter, place: Path, when: str, count: int, key: Optional[str], with_other: bool = False) -> None:
     """The call that was interrupted, made again."""
     same_on_disk(counter, place, when)
     if with_other:
@@ -150,10 +162,10 @@ def made_again(counter, place, when, count, key, with_other=False):
     same_on_disk(counter, place, when)
 
 
-def paid_once(place, fake):
+def paid_once(place: Path, fake: FakeCounter) -> None:
     """Each bond that was asked for is on one ticket; each reply that the archive has is the one that the counter gave, and each reply is in the archive."""
     paid = [line["serial"] for ticket in fake.tickets for line in ticket["lines"]]
-    archived = {}
+    archived: dict[int, object] = {}
     lines = (place / "a.archive").read_bytes().split(b"\n")
     if lines.pop() != b"":
         right(False, "the archive ends with a whole line")
@@ -167,11 +179,11 @@ def paid_once(place, fake):
     right(len(set(paid)) == len(paid) == len(fake.paid) and archived == given, f"{len(paid)} bonds, each on one ticket; the archive has the {len(given)} replies, and is whole", (len(archived), len(given)))
 
 
-def interrupted_openings():
+def interrupted_openings() -> None:
     """Ctrl-C while a journal with an archive is opened, or closed: it can be opened again."""
     with desks("L1EE") as (place, fake, _):
 
-        def opened():
+        def opened() -> None:
             with client.Counter(place / "a.journal", fake.address, desk=3, archive=place / "a.archive"):
                 pass
 
@@ -191,12 +203,12 @@ def interrupted_openings():
 class Failing:
     """The call number `at` on a file fails, before it is done or after. Without it, it counts the calls."""
 
-    def __init__(self, at=0, number=errno.EIO, is_after=False):
+    def __init__(self, at: int = 0, number: int = errno.EIO, is_after: bool = False) -> None:
         self.at, self.number, self.is_after, self.count = at, number, is_after, 0
         self.patches = [mock.patch.object(os, name, self.wrapped(getattr(os, name))) for name in FILE_CALLS]
 
-    def wrapped(self, true):
-        def call(*words, **more):
+    def wrapped(self, true: Callable[..., T]) -> Callable[..., T]:
+        def call(*words: object, **more: object) -> T:
             if threading.current_thread() is not threading.main_thread():
                 return true(*words, **more)
             self.count += 1
@@ -208,17 +220,17 @@ class Failing:
 
         return call
 
-    def __enter__(self):
+    def __enter__(self) -> Failing:
         for patch in self.patches:
             patch.start()
         return self
 
-    def __exit__(self, *_):
+    def __exit__(self, *_: object) -> None:
         for patch in self.patches:
             patch.stop()
 
 
-def failing_calls():
+def failing_calls() -> None:
     """EIO and ENOSPC of each call on the files, once, before it is done or after, and the Counter is used further."""
     for key in ("job", None):
         check_failing(key)
@@ -226,7 +238,7 @@ def failing_calls():
     control("an archive that doesn't read back its last line", lambda: check_failing(None), mock.patch.object(archive_module.Archive, "read_back", lambda archive: None))
 
 
-def check_failing(key):
+def check_failing(key: Optional[str]) -> None:
     with desks("X1EE") as (place, fake, _), client.Counter(place / "a.journal", fake.address, desk=3, archive=place / "a.archive", patience=60) as counter:
         counter.ticket(1)
         with Failing() as whole:
@@ -253,7 +265,7 @@ def check_failing(key):
 PAYMENTS = 24
 
 
-def restored(program):
+def restored(program: str) -> None:
     """A day over the program, each payment interrupted by Ctrl-C or a failed call: samples/restore/replay makes the store anew from the archive alone."""
     chance = random.Random(3)
     with folder() as place, true_counter(program, place) as port:
@@ -264,14 +276,14 @@ def restored(program):
             tickets = [paid(counter, f"A{number}EE", chance) for number in range(1, PAYMENTS + 1)]
             batch = counter.close_day(DAY)
         right([ticket.number for ticket in tickets] == list(range(1, PAYMENTS + 1)) and batch.tickets == PAYMENTS, f"{PAYMENTS} payments, each interrupted three times: one ticket each")
-        line = [TOP / "samples" / "restore" / "replay", place / "new.db", place / "a.archive", "--program", program, "--by", "apply"]
+        line: list[str | Path] = [TOP / "samples" / "restore" / "replay", place / "new.db", place / "a.archive", "--program", program, "--by", "apply"]
         ran = subprocess.run(line, capture_output=True, text=True, timeout=300)
         right(ran.returncode == 0, "samples/restore/replay makes the store anew from its archive", ran)
         again = subprocess.run([program, "export", "1", "--db", place / "new.db"], capture_output=True, text=True)
         right(again.returncode == 0, "and the store is one", again)
 
 
-def paid(counter, serial, chance):
+def paid(counter: client.Counter, serial: str, chance: random.Random) -> client.Ticket:
     """A payment with a key, after three interruptions of it."""
     for _ in range(3):
         if chance.random() < 0.5:

@@ -1,6 +1,7 @@
 """The first integration of docs/PYTHON_CLIENT.md, as written, over the program: killed, interrupted, or failed at each of its calls on its files. Run again it goes on, and pays once."""
+from __future__ import annotations
+
 import collections
-import contextlib
 import datetime
 import os
 import random
@@ -10,6 +11,7 @@ import subprocess
 import sys
 import threading
 from pathlib import Path
+from typing import Optional, Union
 
 from bench import TOP, client, folder, own_environment, right, true_counter
 
@@ -21,6 +23,8 @@ ON_FILES = ("openat", "read", "write", "pwrite64", "ftruncate", "fsync", "rename
 WITH_COUNTER = ("connect", "sendto", "recvfrom")
 HARM = ("signal=SIGKILL", "signal=SIGKILL", "signal=SIGINT", "error=EIO", "error=ENOSPC")
 FIRST_DAY = datetime.date(2012, 2, 6)
+#: A word of a command.
+Word = Union[str, Path]
 #: Runs the program again in the same process after Ctrl-C or a failed call, as a notebook does. The last status is its own.
 LIVES_ON = """
 import signal, sys
@@ -38,15 +42,16 @@ else:
 """
 
 
-def documented():
+def documented() -> str:
     """The program of the document."""
-    return re.findall(r"^```python\n(.*?)^```$", (TOP / "docs" / "PYTHON_CLIENT.md").read_text(), re.M | re.S)[0]
+    programs: list[str] = re.findall(r"^```python\n(.*?)^```$", (TOP / "docs" / "PYTHON_CLIENT.md").read_text(), re.M | re.S)
+    return programs[0]
 
 
 class Trial:
     """A folder with the documented program, for a day and two bonds of its own."""
 
-    def __init__(self, place, port, count, chance, with_archive=False):
+    def __init__(self, place: Path, port: int, count: int, chance: random.Random, with_archive: bool = False) -> None:
         self.day, self.serials = (FIRST_DAY + datetime.timedelta(days=count)).isoformat(), (f"L{count + 1}EE", f"K{count + 1}EE")
         self.place, self.scripts = place / "trial", place / "scripts"
         for path in (self.place, self.scripts):
@@ -62,25 +67,25 @@ class Trial:
         (self.scripts / "program.py").write_text(text)
         (self.scripts / "lives_on.py").write_text(LIVES_ON)
 
-    def run(self, *before, lives_on=False):
-        line = [sys.executable, "-B", *([self.scripts / "lives_on.py"] if lives_on else []), self.scripts / "program.py"]
+    def run(self, *before: Word, lives_on: bool = False) -> subprocess.CompletedProcess[str]:
+        line: list[Word] = [sys.executable, "-B", *([self.scripts / "lives_on.py"] if lives_on else []), self.scripts / "program.py"]
         return subprocess.run([*before, *line], cwd=self.place, env=own_environment(), capture_output=True, text=True, timeout=120)
 
-    def harmed(self, call, at, harm):
+    def harmed(self, call: str, at: int, harm: str) -> subprocess.CompletedProcess[str]:
         """One run, in which the `at`th of such a call on the journal's files, or with the counter, is harmed."""
         return self.run(*tracer(self.place, "/dev/null", call in ON_FILES), f"--inject={call}:{harm}:when={at}", lives_on="KILL" not in harm)
 
 
-def tracer(place, log, is_on_files):
+def tracer(place: Path, log: Word, is_on_files: bool) -> list[Word]:
     """Traces the calls on a journal's files and their folder, or those with the counter."""
-    line = ["strace", "-f", "-qq", "-o", log, f"--trace={','.join(ON_FILES if is_on_files else WITH_COUNTER)}"]
+    line: list[Word] = ["strace", "-f", "-qq", "-o", log, f"--trace={','.join(ON_FILES if is_on_files else WITH_COUNTER)}"]
     names = ("", "desk3.journal", "desk3.journal.new", "desk3.journal.lock", "desk3.journal.keys", "desk3.archive")
     return line + [word for name in names if is_on_files for word in ("-P", os.path.realpath(place / name))]
 
 
-def points_of(place, port, chance):
+def points_of(place: Path, port: int, chance: random.Random) -> list[tuple[str, int]]:
     """Each call that an unharmed run makes on its files, and with the counter: its name and its number. The two runs take a day each."""
-    points = []
+    points: list[tuple[str, int]] = []
     for count, is_on_files in enumerate((True, False)):
         trial = Trial(place, port, count, chance, with_archive=True)
         log = place / "calls"
@@ -93,12 +98,13 @@ def points_of(place, port, chance):
     return points
 
 
-def documented_program(program):
+def documented_program(program: str) -> None:
     """Each desk goes through its own days. A day is a trial: harm, and the program once more."""
     if shutil.which("strace") is None:
         raise SystemExit("Debian's strace isn't there")
     right(len(documented().splitlines()) > 15, f"the documented program: {KILLS} runs are harmed")
-    told, results = collections.Counter(), []
+    told: collections.Counter[str] = collections.Counter()
+    results: list[Optional[str]] = []
     threads = [threading.Thread(target=worked, args=(program, worker, results, told)) for worker in range(min(WORKERS, KILLS))]
     for thread in threads:
         thread.start()
@@ -109,7 +115,7 @@ def documented_program(program):
     right(sum(told[harm] for harm in set(HARM)) == KILLS and told["killed"] >= KILLS // 5, f"{dict(told)}; each bond was paid once, and each archive is whole")
 
 
-def worked(program, worker, results, told):
+def worked(program: str, worker: int, results: list[Optional[str]], told: collections.Counter[str]) -> None:
     chance = random.Random(100 + worker)
     try:
         with folder() as place, true_counter(program, place) as port:
@@ -119,7 +125,7 @@ def worked(program, worker, results, told):
         results.append(f"{type(failure).__name__}: {failure}")
 
 
-def worked_through(place, port, numbers, chance, told):
+def worked_through(place: Path, port: int, numbers: range, chance: random.Random, told: collections.Counter[str]) -> None:
     with client.Counter(place / "other.journal", f"http://127.0.0.1:{port}", desk=1) as other:
         other.add_rates(client.rates_in(TOP / "samples" / "rates.csv"))
         bonds = [bond for number in range(1, len(numbers) + 3) for bond in (client.Bond(f"L{number}EE", 50, "2010-11", 7), client.Bond(f"K{number}EE", 75, "2010-10", 7))]
@@ -131,7 +137,7 @@ def worked_through(place, port, numbers, chance, told):
             tried(Trial(place, port, 2 + turn, chance), other, call, at, HARM[(number + turn // len(points)) % len(HARM)], told)
 
 
-def tried(trial, other, call, at, harm, told):
+def tried(trial: Trial, other: client.Counter, call: str, at: int, harm: str, told: collections.Counter[str]) -> None:
     """Harms a run and makes another one, in which nothing is harmed."""
     if trial.is_opened:
         other.open_day(trial.day, even_so=True)
@@ -154,15 +160,16 @@ def tried(trial, other, call, at, harm, told):
         whole_archive(trial, ticket)
 
 
-def paid_on(other, trial):
+def paid_on(other: client.Counter, trial: Trial) -> Optional[client.Ticket]:
     """The last ticket, if it is the trial's."""
     number = int(trial.serials[0][1:-2])
     ticket = other.ticket(number)
-    with contextlib.suppress(AttributeError):
-        return ticket if [line.serial for line in ticket.lines] == list(trial.serials) and other.ticket(number + 1) is None else None
+    if ticket is None:
+        return None
+    return ticket if [line.serial for line in ticket.lines] == list(trial.serials) and other.ticket(number + 1) is None else None
 
 
-def whole_archive(trial, ticket):
+def whole_archive(trial: Trial, ticket: client.Ticket) -> None:
     """The archive opens, and has the ticket."""
     from ee_counter_client.archive import Archive
 

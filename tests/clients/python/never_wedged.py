@@ -1,7 +1,11 @@
 """A call ends: limits before the journal, a wrong set-up at once, the patience as a deadline, and requests that are given up."""
+from __future__ import annotations
+
+import os
 import random
 import socket
 import time
+from typing import Any
 from unittest import mock
 
 import ee_counter_client.counter as counter_module
@@ -9,7 +13,7 @@ import ee_counter_client.journal as journal_module
 import ee_counter_client.lookups as lookups_module
 import ee_counter_client.spelling as spelling
 import ee_counter_client.way as way
-from bench import DAY, client, control, desks, encrypted, folder, journal_text, listener, raises, right, timed
+from bench import DAY, client, control, desks, encrypted, folder, journal_text, listener, raises, right, there, timed
 from ee_counter_client.testing import Gate
 
 BOND = {"serial": "L1EE", "denom": 50, "issued": "2010-11", "owner": 7}
@@ -18,13 +22,13 @@ BOND = {"serial": "L1EE", "denom": 50, "issued": "2010-11", "owner": 7}
 # ---- limits
 
 
-def limits():
+def limits() -> None:
     """What the counter, or the proxy, refuses by its size or range is refused before the journal is written."""
     check_limits()
     control("without the limit of a list 101 serial numbers are sent", check_limits, mock.patch.object(spelling, "MOST_SERIALS", 1000), mock.patch.object(counter_module, "MOST_SERIALS", 1000))
 
 
-def check_limits():
+def check_limits() -> None:
     with desks("L1EE") as (place, _, gate), client.Counter(place / "a.journal", gate.address, desk=3) as counter:
         before = journal_text(place / "a.journal")
         wrong = (
@@ -44,7 +48,7 @@ def check_limits():
 
 # ---- the set-up
 
-PAGES = (
+PAGES: tuple[tuple[str, type[client.CounterError], type[client.CounterError]], ...] = (
     ("other page", client.ForeignAnswer, client.WrongSetup),
     ("redirect", client.ForeignAnswer, client.WrongSetup),
     ("signed out", client.ForeignAnswer, client.WrongSetup),
@@ -53,7 +57,7 @@ PAGES = (
 )
 
 
-def set_up():
+def set_up() -> None:
     """Before the first good exchange a page that no counter wrote, a wrong password, host or certificate end a call at once, with nothing in the journal."""
     check_pages()
     control("a client that takes the first answer for granted goes on trying", check_pages, mock.patch.object(client.Counter, "_try_the_way", lambda *_: None), mock.patch.object(client.Counter, "_is_known", property(lambda _: True, lambda *_: None), create=True))
@@ -62,7 +66,7 @@ def set_up():
     while_open()
 
 
-def check_pages():
+def check_pages() -> None:
     for fault, kind, branch in PAGES:
         with desks("L1EE") as (place, fake, gate), client.Counter(place / "a.journal", gate.address, desk=3, patience=3) as counter:
             gate.is_wide, gate.faults = True, [fault] * 50
@@ -77,28 +81,28 @@ def check_pages():
             right(counter.redeem(DAY, 7, ["L1EE"]).number == 1, "with the set-up corrected, the same call pays")
 
 
-def check_ways():
+def check_ways() -> None:
     """An unknown host, and a certificate that isn't trusted; with that certificate named it is."""
     with desks("L1EE") as (place, fake, gate), listener(encrypted(place, gate.port)) as port:
         with client.Counter(place / "a.journal", "http://no-such-host.invalid", desk=3) as counter, timed(20):
-            error = raises(client.UnknownHost, lambda: counter.redeem(DAY, 7, ["L1EE"]))
-            right(counter.open_request is None, f"an unknown host: {error}")
+            unknown = raises(client.UnknownHost, lambda: counter.redeem(DAY, 7, ["L1EE"]))
+            right(counter.open_request is None, f"an unknown host: {unknown}")
         with client.Counter(place / "a.journal", f"https://127.0.0.1:{port}") as counter, timed(2):
-            error = raises(client.UntrustedCertificate, lambda: counter.redeem(DAY, 7, ["L1EE"]))
-            right(counter.open_request is None and fake.tickets == [], f"a certificate: {error}")
+            untrusted = raises(client.UntrustedCertificate, lambda: counter.redeem(DAY, 7, ["L1EE"]))
+            right(counter.open_request is None and fake.tickets == [], f"a certificate: {untrusted}")
         with client.Counter(place / "a.journal", f"https://127.0.0.1:{port}", certificate=place / "certificate.pem") as counter:
             right(counter.redeem(DAY, 7, ["L1EE"]).number == 1, "control: with the certificate named, the same call pays")
 
 
-def after_good():
+def after_good() -> None:
     """After the first good exchange the same pages are met on the way, and the request is sent again."""
     with desks("L1EE", "L2EE") as (place, _, gate), client.Counter(place / "a.journal", gate.address, desk=3) as counter, mock.patch.object(counter_module, "SIGN_IN_PAUSE", 0.1):
         gate.faults = [fault for fault, _, _ in PAGES]
         ticket = counter.redeem(DAY, 7, ["L1EE"])
-        right((ticket.number, ticket.request.sent) == (1, 6), "after a good exchange each of them is met, and the ticket comes")
+        right((ticket.number, there(ticket.request).sent) == (1, 6), "after a good exchange each of them is met, and the ticket comes")
 
 
-def while_open():
+def while_open() -> None:
     """A request that an earlier run left open stays open, and the error says that it may have been done."""
     with desks("L1EE") as (place, _, gate):
         gate.faults = ["lost answer"] * 50
@@ -107,22 +111,23 @@ def while_open():
         gate.is_wide, gate.faults = True, ["no password"] * 2
         with client.Counter(place / "a.journal", gate.address) as counter:
             error = raises(client.SignInRefused, counter.finish)
-            right(error.may_be_done and counter.open_request.sent > 1, "with a wrong password an open request stays open, and may have been done")
+            right(error.may_be_done and there(counter.open_request).sent > 1, "with a wrong password an open request stays open, and may have been done")
             gate.faults = []
-            right(counter.finish().number == 1, "control: with the right one it gets its ticket")
+            paid = counter.finish()
+            right(isinstance(paid, client.Ticket) and paid.number == 1, "control: with the right one it gets its ticket")
 
 
 # ---- signed out
 
 
-def signed_out():
+def signed_out() -> None:
     """A password that isn't accepted any more: a look-up ends at once, and an act waits so long that no proxy locks the address out, also over several calls."""
     check_signed_out()
     control("without the pause an act is sent again and again", check_signed_out, mock.patch.object(counter_module, "SIGN_IN_PAUSE", 0.0))
     signed_in_again()
 
 
-def check_signed_out():
+def check_signed_out() -> None:
     right(counter_module.SIGN_IN_PAUSE >= 150, "four sendings in ten minutes at most")
     with desks("L1EE", "L2EE") as (place, fake, gate), client.Counter(place / "a.journal", gate.address, desk=3, patience=1) as counter:
         lookups = client.Lookups(gate.address)
@@ -136,17 +141,17 @@ def check_signed_out():
         before = len(gate.heads)
         for _ in range(3):
             with timed(2, 0.99):
-                error = raises(client.NoReply, lambda: counter.redeem(DAY, 7, ["L1EE"], key="a"))
-        right(len(gate.heads) <= before + 2 and error.may_be_done, f"three calls of an act don't ask again and again: {error}", gate.heads[before:])
+                unsure = raises(client.NoReply, lambda: counter.redeem(DAY, 7, ["L1EE"], key="a"))
+        right(len(gate.heads) <= before + 2 and unsure.may_be_done, f"three calls of an act don't ask again and again: {unsure}", gate.heads[before:])
 
 
-def signed_in_again():
+def signed_in_again() -> None:
     with desks("L1EE", "L2EE") as (place, fake, gate), client.Counter(place / "a.journal", gate.address, desk=3, patience=60) as counter, mock.patch.object(counter_module, "SIGN_IN_PAUSE", 0.7):
         counter.ticket(1)
         gate.faults = ["no password"]
         with timed(5, 0.69):
             ticket = counter.redeem(DAY, 7, ["L1EE"])
-        right((ticket.number, ticket.request.sent) == (1, 2), "with the password accepted again, the act is done after the pause")
+        right((ticket.number, there(ticket.request).sent) == (1, 2), "with the password accepted again, the act is done after the pause")
         with timed(0.6):
             right(counter.redeem(DAY, 7, ["L2EE"]).number == 2, "and the next one without any")
 
@@ -154,7 +159,7 @@ def signed_in_again():
 # ---- patience
 
 
-def patience():
+def patience() -> None:
     """The patience ends the whole call, whatever the server does. It ends by itself."""
     with folder() as place, client.Counter(place / "a.journal", desk=3) as counter, client.Pool(place, desks=[4]) as pool:
         right(counter.patience == client.Lookups().patience == pool._patience == 300, "without one a call ends after 300 seconds")
@@ -174,12 +179,12 @@ def patience():
     control("pauses without chance are all alike", check_jitter, mock.patch.object(random, "uniform", lambda least, most: most))
 
 
-def silent(connection):
+def silent(connection: socket.socket) -> None:
     connection.recv(65536)
     time.sleep(5)
 
 
-def drip(connection):
+def drip(connection: socket.socket) -> None:
     connection.recv(65536)
     connection.sendall(b"HTTP/1.1 200 OK\r\n")
     for _ in range(100):
@@ -187,7 +192,7 @@ def drip(connection):
         time.sleep(0.05)
 
 
-def check_dripping():
+def check_dripping() -> None:
     with desks("L1EE") as (place, fake, gate), client.Counter(place / "a.journal", gate.address, desk=3, patience=0.8) as counter:
         counter.ticket(1)
         gate.faults, gate.drip = ["dripping"] * 9, 0.05
@@ -196,11 +201,11 @@ def check_dripping():
         right(error.may_be_done and error.request == counter.open_request and len(fake.tickets) == 1, f"a dripping answer: {error}")
 
 
-def resolver():
+def resolver() -> None:
     """A resolver of the system that takes its time."""
     true = socket.getaddrinfo
 
-    def slow(host, *words, **more):
+    def slow(host: str, *words: Any, **more: Any) -> Any:
         if not more.get("flags"):
             time.sleep(5)
         return true(host, *words, **more)
@@ -209,13 +214,13 @@ def resolver():
         right("resolver" in str(raises(client.NoAnswer, lambda: counter.batch(DAY))), "a resolver that takes 5 seconds")
 
 
-def check_jitter():
+def check_jitter() -> None:
     """Each pause is from half of its time to all of it, and no two clients have the same."""
     with desks("L1EE") as (place, _, gate), client.Counter(place / "a.journal", gate.address, desk=3, patience=60) as counter:
-        pauses = []
+        pauses: list[float] = []
         for _ in range(2):
             gate.faults = ["lost request"] * 6
-            with mock.patch.object(lookups_module.time, "sleep", pauses.append):
+            with mock.patch.object(time, "sleep", pauses.append):
                 counter.redeem(DAY, 7, ["L1EE"]) if not pauses else raises(client.AlreadyPaid, lambda: counter.redeem(DAY, 7, ["L1EE"]))
         full = lookups_module.PAUSES[:6] * 2
         pauses = [pause for pause in pauses if pause != gate.drip]
@@ -226,25 +231,25 @@ def check_jitter():
 # ---- giving up
 
 
-def abandoning():
+def abandoning() -> None:
     """A request that its caller gives up is written down, and others go on."""
     check_abandoned()
     true = journal_module.Journal.change
     control("a client that forgets what was given up", check_abandoned, mock.patch.object(journal_module.Journal, "change", lambda journal, **changes: true(journal, **{name: value for name, value in changes.items() if name != "abandoned"})))
 
 
-def check_abandoned():
+def check_abandoned() -> None:
     with desks("L1EE", "L2EE") as (place, fake, gate):
         with client.Counter(place / "a.journal", gate.address, desk=3, patience=1) as counter:
             counter.ticket(1)
             right(counter.abandon("nothing is open") is None, "nothing is open: nothing is given up")
             gate.faults = ["lost answer"] * 20
-            number = raises(client.NoReply, lambda: counter.redeem(DAY, 7, ["L1EE"], key="invoice-1")).request.number
-            right(raises(client.NoReply, lambda: counter.redeem(DAY, 7, ["L2EE"])).request.number == number, "another request waits for it")
+            number = there(raises(client.NoReply, lambda: counter.redeem(DAY, 7, ["L1EE"], key="invoice-1")).request).number
+            right(there(raises(client.NoReply, lambda: counter.redeem(DAY, 7, ["L2EE"])).request).number == number, "another request waits for it")
             gate.faults = []
-            given_up = counter.abandon("the customer left")
+            given_up = there(counter.abandon("the customer left"))
             right(given_up.may_be_done and "AlreadyPaid" in given_up.outcome and counter.open_request is None, f"given up: {given_up.outcome}")
-            right(counter.redeem(DAY, 7, ["L2EE"]).request.number > number, "the next request has a number of its own")
+            right(there(counter.redeem(DAY, 7, ["L2EE"]).request).number > number, "the next request has a number of its own")
         with client.Counter(place / "a.journal", gate.address) as counter:
             kept = counter.abandoned
             right([(one.request.number, one.request.key, one.reason) for one in kept] == [(number, "invoice-1", "the customer left")], "it is in the journal, with the reason and the key", kept)
@@ -252,13 +257,13 @@ def check_abandoned():
             right(paid.ticket == 1 and len(fake.tickets) == 2, "the payment that was done is found by AlreadyPaid, with its ticket")
 
 
-def full_disk():
+def full_disk() -> None:
     """A journal that can't be written ends the call before anything is sent."""
     with desks("L1EE") as (place, fake, gate), client.Counter(place / "a.journal", gate.address, desk=3) as counter:
-        with mock.patch.object(journal_module.os, "fsync", side_effect=OSError(28, "No space left on device")):
+        with mock.patch.object(os, "fsync", side_effect=OSError(28, "No space left on device")):
             error = raises(client.FileFailed, lambda: counter.redeem(DAY, 7, ["L1EE"]))
         right(fake.tickets == [] and isinstance(error.__cause__, OSError), f"a full disk: {error}")
-        right(counter.redeem(DAY, 7, ["L1EE"]).request.sent == 1, "control: with room the same call pays")
+        right(there(counter.redeem(DAY, 7, ["L1EE"]).request).sent == 1, "control: with room the same call pays")
 
 
 CASES = (limits, set_up, signed_out, patience, abandoning, full_disk)

@@ -1,4 +1,6 @@
 """What reaches other programs: errors in other processes, look-ups without a desk, responses that are junk, and the command's help."""
+from __future__ import annotations
+
 import concurrent.futures
 import copy
 import datetime
@@ -8,8 +10,10 @@ import multiprocessing
 import pickle
 import random
 import re
+import socket
 import subprocess
 import sys
+from typing import IO, Any, Callable, Iterator
 from unittest import mock
 
 import ee_counter_client.errors as errors
@@ -24,7 +28,7 @@ JUNK = 600
 # ---- errors in other processes
 
 
-def pickled():
+def pickled() -> None:
     """Each error is the same in another process."""
     check_pickled()
     control("errors as Python pickles them are lost", check_pickled, mock.patch.object(client.CounterError, "__reduce__", Exception.__reduce__))
@@ -40,35 +44,39 @@ def pickled():
         right(ends == ["NoReply", "AlreadyPaid", "Forbidden", "BadFile"], f"ProcessPoolExecutor: {ends}")
 
 
-def raised(number):
+def raised(number: int) -> None:
     raise samples()[number]
 
 
-def samples():
+def request_of_samples() -> client.Request:
+    return client.Request(3, 17, "/redeem", {"day": DAY, "payee": 7, "serials": ["L1EE"]}, 2, "invoice-1", {"row": 4})
+
+
+def samples() -> list[client.CounterError]:
     """An error of each kind that has attributes, for the processes."""
-    request = client.Request(3, 17, "/redeem", {"day": DAY, "payee": 7, "serials": ["L1EE"]}, 2, "invoice-1", {"row": 4})
+    request = request_of_samples()
     return [client.NoReply("no reply", request), errors.refusal_of({"code": 52, "refused": "AlreadyPaid", "serial": "L1EE", "ticket": 4}, request), client.Forbidden("/redeem"), client.BadFile(3, "no bond")]
 
 
-def one_of(kind):
+def one_of(kind: type[client.CounterError]) -> client.CounterError:
     """An error of a class, as the package makes it."""
-    request = samples()[0].request
+    request = request_of_samples()
     if issubclass(kind, client.Refused):
         code = next((code for code, found in errors.REFUSALS.items() if found is kind), 99)
         error = kind({"code": code, "refused": kind.__name__, **{key: "L1EE" if form is str else 5 for key, form in kind.keys}}, request)
         error.rows, error.line = (2, 501), 17
         return error
-    made = {client.BadFile: (3, "no bond"), client.KeyReused: ("invoice-1", 17), client.Fault: ({"code": 65, "fault": "BadField", "field": "day"},), client.Forbidden: ("/redeem",), client.ForeignAnswer: (200, "a page"), client.Implausible: (["a doubt"] * 9,), client.Incomplete: (lacking(),)}
+    made: dict[type[client.CounterError], tuple[Any, ...]] = {client.BadFile: (3, "no bond"), client.KeyReused: ("invoice-1", 17), client.Fault: ({"code": 65, "fault": "BadField", "field": "day"},), client.Forbidden: ("/redeem",), client.ForeignAnswer: (200, "a page"), client.Implausible: (["a doubt"] * 9,), client.Incomplete: (lacking(),)}
     return kind(*made.get(kind, ("a text", request) if issubclass(kind, client.UnknownOutcome) else ("a text",)))
 
 
-def lacking():
+def lacking() -> client.Interest:
     """An interest of which something is missing."""
     row = client.Paid(datetime.date(2012, 2, 6), 1, 7, "L1EE", None, None, None, None, decimal.Decimal("25.16"))
     return client.Interest((row,), decimal.Decimal(0), decimal.Decimal(0), row.value, ("L1EE",), "a CSV")
 
 
-def check_pickled():
+def check_pickled() -> None:
     kinds = [kind for name in client.__all__ if isinstance(kind := getattr(client, name), type) and issubclass(kind, client.CounterError)]
     for kind in kinds:
         error = one_of(kind)
@@ -85,7 +93,7 @@ def check_pickled():
 # ---- look-ups
 
 
-def look_ups():
+def look_ups() -> None:
     """Without a journal and a desk, from several threads at once, and in a forked process."""
     with desks("L1EE", "L2EE", values={"L1EE": "25.16"}) as (place, fake, gate):
         with client.Counter(place / "a.journal", gate.address, desk=3) as counter:
@@ -101,8 +109,9 @@ def look_ups():
             right(list(workers.map(lambda number: lookups.ticket(1 + number % 2), range(40))) == [ticket, None] * 20, "from 8 threads at once, 8 messages harmed")
         with multiprocessing.Pool(2) as workers:
             right(workers.map(lookups.ticket, [1, 2]) == [ticket, None], "and from forked processes")
+        made: Callable[..., object] = client.Lookups
         for junk in ("", 7, "ftp://x", "http://x y"):
-            raises(client.BadValue, lambda: client.Lookups(junk))
+            raises(client.BadValue, lambda: made(junk))
 
 
 # ---- junk
@@ -131,7 +140,7 @@ HEADS = (
 SIGNS = ("-5", "9" * 5000, '"', "\x1b[31m", "\x00", "{", "[" * 3000, "NaN", "1e999", "\u0661", '"\\ud800"', "null", "true", ",", ":", "}", ".00")
 
 
-def changed(chance, text):
+def changed(chance: random.Random, text: str) -> str:
     """A text with some of its parts replaced."""
     for _ in range(chance.randint(1, 3)):
         begin = chance.randint(0, len(text))
@@ -139,7 +148,7 @@ def changed(chance, text):
     return text
 
 
-def responses():
+def responses() -> Iterator[bytes]:
     """Junk: of HTTP, and of the counter's own texts."""
     chance = random.Random(5)
     yield from HEADS
@@ -151,12 +160,12 @@ def responses():
         yield response_of(chance.choice((200, 200, 409, 503, 400, 404, 401, 403, 429)), changed(chance, chance.choice(texts)))
 
 
-def response_of(status, text):
+def response_of(status: int, text: str) -> bytes:
     body = text.encode("utf-8", "surrogatepass")
     return b"HTTP/1.1 %d X\r\nContent-Length: %d\r\n\r\n%s" % (status, len(body), body)
 
 
-def junk():
+def junk() -> None:
     """Each response that is junk is answered, or raises an error of the package, whose text has no control characters."""
     check_junk(list(responses()))
     heads = list(HEADS)
@@ -167,11 +176,12 @@ def junk():
     control("names of a fault of the way as they came", lambda: check_junk([response_of(400, FAULT)] * 4), mock.patch.object(lookups_module, "shown", str))
 
 
-def check_junk(kinds):
-    told, ends, at = Told(), {}, iter(kinds)
+def check_junk(kinds: list[bytes]) -> None:
+    told, at = Told(), iter(kinds)
+    ends: dict[str, int] = {}
     now = [b""]
 
-    def serve(connection):
+    def serve(connection: socket.socket) -> None:
         connection.recv(65536)
         connection.sendall(now[0])
 
@@ -195,7 +205,7 @@ def check_junk(kinds):
 # ---- the command
 
 
-def command_line():
+def command_line() -> None:
     """Each command says what its arguments are, with an example, and what its statuses mean. Look-ups need no journal."""
     from ee_counter_client.command import ACTS, LOOK_UPS
 
@@ -217,13 +227,13 @@ def command_line():
         right(status == 0 and json.loads(out)["ticket"] == 1, "control: with one it pays", told)
 
 
-def is_help(out, does, named):
+def is_help(out: str, does: str, named: list[str]) -> bool:
     """Whether a text of help says what the command does, what each argument is, with examples, and what the statuses mean."""
     are_told = all(re.search(rf"^  {name} +\w.{{9,}}; for example \S", out, re.M) for name in named)
     return does in " ".join(out.split()) and are_told and "\nexample:\n" in out and re.search(r"^statuses:\n  0  .*\n  1  .*\n  2  .*\n  3  ", out, re.M) is not None
 
 
-def ran(*words, into=subprocess.PIPE):
+def ran(*words: object, into: int | IO[str] = subprocess.PIPE) -> tuple[int, str, str]:
     done = subprocess.run([sys.executable, "-B", TOP / "clients" / "counter.py", *map(str, words)], stdout=into, stderr=subprocess.PIPE, text=True, env={**own_environment(), "COLUMNS": "200"}, timeout=120)
     return done.returncode, done.stdout, done.stderr
 

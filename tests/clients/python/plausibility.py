@@ -1,11 +1,16 @@
 """Implausible values, which the counter would take, are questioned before they are sent: letters, issue months, and days to open."""
+from __future__ import annotations
+
 import datetime
+import itertools
 import json
+from pathlib import Path
+from typing import Callable, ContextManager, Iterable, Sequence
 from unittest import mock
 
 import ee_counter_client.counter as counter_module
 import ee_counter_client.plausible as plausible
-from bench import DAY, client, control, desks, folder, journal_text, raises, right, timed
+from bench import DAY, client, control, desks, folder, journal_text, raises, right, there, timed
 from ee_counter_client.testing import FakeCounter, Gate
 from other_programs import ran
 
@@ -13,18 +18,20 @@ from other_programs import ran
 LETTERS = {"L": 50, "K": 75, "C": 100, "R": 200, "D": 500, "M": 1000, "V": 5000, "X": 10000}
 TODAY = datetime.date(2026, 11, 27)
 HEADER = "serial,denom,issued,owner,coowner\n"
+#: The numbers of the requests that the fake counter is given without a desk.
+NUMBERS = itertools.count(1)
 
 
-def on(day=TODAY):
+def on(day: datetime.date = TODAY) -> ContextManager[object]:
     """It is this day."""
     return mock.patch.object(plausible, "today", lambda: day)
 
 
-def after(days):
+def after(days: int) -> str:
     return (TODAY + datetime.timedelta(days=days)).isoformat()
 
 
-def questioned(counter, place, gate, call):
+def questioned(counter: client.Counter, place: Path, gate: Gate, call: Callable[[], object]) -> Sequence[str]:
     """The doubts about a call, of which nothing was sent and no number used."""
     before, sent = journal_text(place / "a.journal"), len(gate.bodies)
     error = raises(client.Implausible, call)
@@ -36,7 +43,7 @@ def questioned(counter, place, gate, call):
 # ---- bonds
 
 
-def questioned_bonds():
+def questioned_bonds() -> None:
     """Each letter with each denomination, and the issue months around the end of paper."""
     check_bonds()
     control("with another letter for a denomination", check_bonds, mock.patch.dict(plausible.LETTERS, {10000: "M"}))
@@ -44,7 +51,7 @@ def questioned_bonds():
     control("with paper bonds of a month less", check_bonds, mock.patch.object(plausible, "LAST_PAPER", "2011-11"))
 
 
-def check_bonds():
+def check_bonds() -> None:
     pairs = [(letter, denom) for letter in "ABCDEFGHIJKLMNOPQRSTUVWXYZ" for denom in LETTERS.values()]
     with desks() as (place, fake, gate), client.Counter(place / "a.journal", gate.address, desk=3) as counter:
         for letter, denom in pairs:
@@ -58,11 +65,11 @@ def check_bonds():
                     right(False, "the doubt names the bond and the letter", doubts)
         right(len(fake.bonds) == 8, f"{len(pairs)} pairs of a letter and a denomination: 8 fit, and the others are questioned")
         for count, (month, is_paper) in enumerate((("2005-05", True), ("2011-12", True), ("12/2011", True), ("2012-01", False), ("01/2012", False), ("2099-12", False)), 1):
-            bond = {"serial": f"L{count}EE", "denom": 50, "issued": month, "owner": 7}
+            fields = {"serial": f"L{count}EE", "denom": 50, "issued": month, "owner": 7}
             if is_paper:
-                counter.add_bonds([bond])
+                counter.add_bonds([fields])
             else:
-                right(f"L{count}EE" in questioned(counter, place, gate, lambda: counter.add_bonds([bond]))[0], f"an issue month of {month} is questioned")
+                right(f"L{count}EE" in questioned(counter, place, gate, lambda: counter.add_bonds([fields]))[0], f"an issue month of {month} is questioned")
         both = questioned(counter, place, gate, lambda: counter.add_bonds([client.Bond("C1EE", 100, "2010-11", 7), client.Bond("A1EE", 50, "2015-03", 7), client.Bond("B1EE", 50, "2010-11", 7)]))
         right([doubt[:4] for doubt in both] == ["A1EE", "A1EE", "B1EE"] and "C1EE" not in fake.bonds, f"every doubt is reported: {both}")
         many = [client.Bond(f"A{number}EE", 50, "2010-11", 7) for number in range(1, 501)]
@@ -77,7 +84,7 @@ def check_bonds():
 # ---- days
 
 
-def questioned_days():
+def questioned_days() -> None:
     """Days around today, and around the last one that was opened."""
     check_today()
     control("with days of a week and a day", check_today, mock.patch.object(plausible, "MOST_DAYS", 8))
@@ -88,7 +95,7 @@ def questioned_days():
     not_answered()
 
 
-def check_today():
+def check_today() -> None:
     for days in (-5409, -30, -8, -7, -1, 0, 1, 7, 8, 30, 365):
         with folder() as place, FakeCounter() as fake, Gate(fake) as gate, on(), client.Counter(place / "a.journal", gate.address, desk=3) as counter:
             day = after(days)
@@ -100,15 +107,16 @@ def check_today():
             right(counter.open_day(day, even_so=True).day.isoformat() == fake.day == day, "said to be meant even so, it is opened")
 
 
-def worked_on(fake, day, is_paid):
+def worked_on(fake: FakeCounter, day: str, is_paid: bool) -> None:
     """A day of the fake counter that was opened, perhaps paid on, and closed."""
-    for path, fields in (("/day/open", {}), *((("/redeem", {"payee": 7, "serials": ["L1EE"]}),) if is_paid else ()), ("/day/close", {})):
-        fake.number = getattr(fake, "number", 0) + 1
-        status, text = fake.answered("POST", path, json.dumps({"number": fake.number, "day": day, **fields}).encode())
+    paid: dict[str, object] = {"payee": 7, "serials": ["L1EE"]}
+    messages: list[tuple[str, dict[str, object]]] = [("/day/open", {}), *([("/redeem", paid)] if is_paid else []), ("/day/close", {})]
+    for path, fields in messages:
+        status, text = fake.answered("POST", path, json.dumps({"number": next(NUMBERS), "day": day, **fields}).encode())
         assert status == 200, text
 
 
-def check_last():
+def check_last() -> None:
     """By the batches of the seven days before: a day without one is questioned, unless nothing was ever paid."""
     for last, is_paid, is_near in ((-1, True, True), (-3, False, True), (-7, True, True), (-8, True, False), (-60, True, False), (-60, False, True), (None, False, True)):
         with folder() as place, FakeCounter() as fake, Gate(fake) as gate, on(), client.Counter(place / "a.journal", gate.address, desk=3) as counter:
@@ -124,7 +132,7 @@ def check_last():
             right(len(gate.heads) <= 1 + 8 + 1 + 2, "with eight look-ups at most", gate.heads)
 
 
-def asked_once():
+def asked_once() -> None:
     """A request that was asked about, and has no reply yet, isn't questioned again; nor is one that has its reply."""
     with folder() as place, FakeCounter() as fake, Gate(fake) as gate, on():
         with client.Counter(place / "a.journal", gate.address, desk=3, patience=1) as counter:
@@ -133,11 +141,11 @@ def asked_once():
             raises(client.NoReply, lambda: counter.open_day(DAY, key="open", even_so=True))
             gate.faults = []
         with client.Counter(place / "a.journal", gate.address) as counter:
-            right(counter.open_day(DAY, key="open").request.sent > 1, "an open request is sent again without a question")
+            right(there(counter.open_day(DAY, key="open").request).sent > 1, "an open request is sent again without a question")
             right(counter.open_day(DAY, key="open").day == datetime.date(2012, 2, 6), "and a key that has its reply gives it")
 
 
-def not_answered():
+def not_answered() -> None:
     """The look-ups before a day is opened end as look-ups do, and nothing is open."""
     with folder() as place, FakeCounter() as fake, Gate(fake) as gate, on(), client.Counter(place / "a.journal", gate.address, desk=3, patience=1) as counter:
         counter.ticket(1)
@@ -160,7 +168,7 @@ def not_answered():
 # ---- the command, and registration in bulk
 
 
-def questioned_commands():
+def questioned_commands() -> None:
     """`open` and `register` end with status 2, name what they question, and send nothing; with --even-so they do."""
     with folder() as place, FakeCounter() as fake, Gate(fake) as gate:
         words = ("--journal", place / "a.journal", "--desk", "3", "--at", gate.address)
@@ -177,11 +185,11 @@ def questioned_commands():
     registered()
 
 
-def rows(numbers, letter="L"):
+def rows(numbers: Iterable[int], letter: str = "L") -> str:
     return "".join(f"{letter}{number}EE,50,2010-11,7,\n" for number in numbers)
 
 
-def registered():
+def registered() -> None:
     with folder() as place, FakeCounter() as fake, Gate(fake) as gate:
         words, file = ("--journal", place / "a.journal", "--desk", "3", "--at", gate.address), place / "bonds.csv"
         file.write_text(HEADER + rows(range(1, 601)) + "A1EE,50,2010-11,7,\nL601EE,50,2012-01,7,\n")
@@ -201,7 +209,7 @@ def registered():
     resumed()
 
 
-def resumed():
+def resumed() -> None:
     """A registration that was stopped on its way is continued: what was sent isn't questioned, what comes after is."""
     with folder() as place, FakeCounter() as fake, Gate(fake) as gate:
         file = place / "bonds.csv"

@@ -1,14 +1,16 @@
 """Threads, forked processes, closing, and two paths to one journal."""
+from __future__ import annotations
+
 import os
 import threading
 import time
 import types
 from concurrent.futures import ThreadPoolExecutor
+from pathlib import Path
 from unittest import mock
 
 import ee_counter_client.counter as counter_module
-import ee_counter_client.journal as journal_module
-from bench import DAY, client, control, desks, folder, raises, right, timed
+from bench import DAY, client, control, desks, folder, raises, right, there, timed
 
 THREADS, PAYMENTS = 6, 5
 
@@ -16,37 +18,37 @@ THREADS, PAYMENTS = 6, 5
 class NoLock:
     """A lock that keeps nobody out."""
 
-    def acquire(self, timeout=-1):
+    def acquire(self, timeout: float = -1) -> bool:
         return True
 
-    def release(self):
+    def release(self) -> None:
         pass
 
     __enter__ = acquire
 
-    def __exit__(self, *_):
+    def __exit__(self, *_: object) -> None:
         pass
 
 
-def threads():
+def threads() -> None:
     """Threads that share a Counter wait for one another: each request is done once, and one at a time."""
     check_threads()
     control("without its lock, threads meet each other's open requests", check_threads, mock.patch.object(counter_module, "threading", types.SimpleNamespace(RLock=NoLock)))
     busy()
 
 
-def check_threads():
+def check_threads() -> None:
     serials = [f"A{number}EE" for number in range(1, THREADS * PAYMENTS + 1)]
     with desks(*serials) as (place, fake, gate), client.Counter(place / "a.journal", gate.address, desk=3) as counter:
         gate.faults = ["lost answer", "lost request"] * 5
         with ThreadPoolExecutor(THREADS) as workers:
             tickets = list(workers.map(lambda serial: counter.redeem(DAY, 7, [serial]), serials))
-        numbers = [ticket.request.number for ticket in tickets]
+        numbers = [there(ticket.request).number for ticket in tickets]
         right(len(fake.tickets) == len(set(numbers)) == len(serials) and counter.open_request is None, f"{THREADS} threads with {PAYMENTS} payments each, 10 of them harmed: one ticket each")
         right([[line.serial for line in ticket.lines] for ticket in tickets] == [[serial] for serial in serials], "and each thread got its own")
 
 
-def busy():
+def busy() -> None:
     """A thread that waits longer than the patience sends nothing."""
     with desks("L1EE", "L2EE") as (place, _, gate), client.Counter(place / "a.journal", gate.address, desk=3, patience=1.5) as counter:
         counter.ticket(1)
@@ -61,7 +63,7 @@ def busy():
         other.join()
 
 
-def processes():
+def processes() -> None:
     """A forked process may not use the counter, and doesn't hold the journal once its parent has closed it."""
     with desks("L1EE", "L2EE") as (place, fake, gate):
         counter = client.Counter(place / "a.journal", gate.address, desk=3)
@@ -85,7 +87,7 @@ def processes():
         right(os.waitpid(child, 0)[1] == 0, "the child was told by Closed")
 
 
-def closing():
+def closing() -> None:
     """Closing twice does nothing; after closing each call says so."""
     with desks("L1EE") as (place, fake, gate):
         counter = client.Counter(place / "a.journal", gate.address, desk=3, archive=place / "a.archive")
@@ -115,22 +117,23 @@ def closing():
             right(again.redeem(DAY, 7, ["L1EE"]).number == 1, "control: opened again it pays")
 
 
-def two_paths():
+def two_paths() -> None:
     """Whichever way a path leads to a journal, one Counter has it."""
     check_paths()
-    control("without resolving the path, a link has a lock of its own", check_paths, mock.patch.object(journal_module.os.path, "realpath", os.path.abspath))
+    control("without resolving the path, a link has a lock of its own", check_paths, mock.patch.object(os.path, "realpath", os.path.abspath))
 
 
-def check_paths():
+def check_paths() -> None:
     with folder() as place:
         (place / "inner").mkdir()
         (place / "link").symlink_to(place / "inner")
         journal = place / "inner" / "a.journal"
         with client.Counter(journal, desk=3):
             (place / "b.journal").symlink_to(journal)
-            for path in (journal, os.path.relpath(journal), place / "inner" / ".." / "inner" / "a.journal", place / "link" / "a.journal", place / "b.journal"):
-                error = raises(client.JournalInUse, lambda: client.Counter(path))
-            right(error.retryable, "five paths to one journal: it is in use")
+            paths: tuple[Path | str, ...] = (journal, os.path.relpath(journal), place / "inner" / ".." / "inner" / "a.journal", place / "link" / "a.journal", place / "b.journal")
+            for path in paths:
+                in_use = raises(client.JournalInUse, lambda: client.Counter(path))
+            right(in_use.retryable, "five paths to one journal: it is in use")
         os.link(journal, place / "hard.journal")
         for path in (journal, place / "hard.journal"):
             error = raises(client.BadJournal, lambda: client.Counter(path))
@@ -144,7 +147,7 @@ def check_paths():
             right(True, "one archive for two journals: it is in use")
 
 
-def lock_file():
+def lock_file() -> None:
     """A lock file that somebody removes doesn't let two in."""
     with folder() as place:
         first = client.Counter(place / "a.journal", desk=3)
