@@ -1,15 +1,10 @@
-use Rattle.std.proofs.Common.{Bool, cond, List, [], ◌∷◌, ℕ, ◌≡◌, ◌∙◌, Option, Some, None, true, false, inl, inr, sym, ap, ap₂, subst, IfSome, IsSomeAnd}
+use Rattle.std.proofs.Common.{Bool, cond, List, [], ◌∷◌, ℕ, ◌≡◌, ◌∙◌, Option, Some, None, inl, inr, sym, ap, ap₂, subst, IfSome, IsSomeAnd}
 use Rattle.std.proofs.lemmas.Result.{IfOk-weaker, IfErr-weaker}
 use Rattle.sqlite_disk.specs.Events.{Event, replay, settled}
 use Rattle.sqlite_disk.specs.History.{MayLeave, Reaches}
-use Rattle.sqlite_std_file.specs.File.{IsFresh}
 use Rattle.sqlite.specs.Recovery.{Image}
 use Rattle.sqlite.specs.Held.{Held}
-use Rattle.sqlite.specs.Files.{file_state, IsCleanLeft}
-use Rattle.sqlite.specs.WalFiles.{image_at}
-use Rattle.ee_store_files.specs.Files.{Leaves}
 use Rattle.ee_store.specs.Holding.{KeepsHeld}
-use Rattle.ee_store_files.specs.Causes.{IsOfSystem}
 use Rattle.ee_store.specs.declared.opening.Rest.{Rest}
 use Rattle.ee_store.specs.declared.opening.Rest.TheVariants.{Connection, Files}
 use Rattle.ee_store.specs.Adopted.{IsOpenedFrom, IsRefusedFrom, IfConnection, IfFiles}
