@@ -190,12 +190,12 @@ impl<S: Alter> Keeper for SqlKeeper<S> {
 
     ghost one = { λ k c d is_open has other. one_content _ c d is_open has.0 other.0 };
 
-    ghost missed = { λ k start events request went. (
+    ghost missed = { λ _ start events request went. (
       ∥∥₁_map went.0 (λ (w, happened, up, follows). (
         unserved w request,
         happens_missed start events w request happened up.up,
         record { up = up.up; among = in_tail (one w.now request) w.may w.now up.among },
-        (follows.0, leaves_unserved StandsFor (state S.Store k.conn).may_leave (state S.Store k.conn).may_leave w request (λ _ may. inl may) follows.1),
+        (follows.0, leaves_unserved StandsFor _ _ w request (λ _ may. inl may) follows.1),
       )),
       went.1,
     ) };
