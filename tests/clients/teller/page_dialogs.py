@@ -42,6 +42,22 @@ UNSEEN = """
 """
 #: A pause of eight seconds ends by its button alone, so each width can be looked at, however slow the test is.
 HELD = "const real = window.setTimeout; window.setTimeout = (act, wait, ...more) => (wait === 8000 ? 0 : real(act, wait, ...more));"
+#: The cells of the first bond of a sheet whose texts lie over one another, or less than three pixels apart in a line.
+OVER = """
+    const cells = [...document.querySelector(".sheet tbody tr").cells].filter((cell) => cell.checkVisibility() && cell.textContent !== "");
+    const boxes = cells.map((cell) => {
+        const range = document.createRange();
+        range.selectNodeContents(cell);
+        return [...range.getClientRects()];
+    });
+    const meet = (one, other) => one.left < other.right + 3 && other.left < one.right + 3 && one.top < other.bottom && other.top < one.bottom;
+    const pairs = cells.flatMap((cell, at) => cells.slice(at + 1).map((other, after) => [cell, other, boxes[at].some((one) => boxes[at + 1 + after].some((two) => meet(one, two)))]));
+    return pairs.filter(([, , do_meet]) => do_meet).map(([one, other]) => `${one.textContent} ${other.textContent}`);
+"""
+#: 683 by 384 is a window of 1366 by 768 at 200 %, and 641 the narrowest whose cards have five columns.
+CARDS = ((1440, 900), (1088, 768), (1024, 768), (768, 1024), (683, 384), (641, 900), (640, 900), (360, 740))
+#: The lines of the first bond in a question.
+LINES = "return new Set([...document.querySelectorAll('#confirm .bonds li:first-child span')].flatMap((one) => { const range = document.createRange(); range.selectNodeContents(one); return [...range.getClientRects()].map((box) => Math.round(box.top)); })).size"
 LARGE = [{"serial": f"Z{9_999_999_900 + place}EE", "denom": 10000, "issued": "2005-05", "owner": 900_000_001} for place in range(1, 61)]
 
 
@@ -67,6 +83,29 @@ def given(page: Page, what: str, name: str, said: Sequence[str], buttons: list[s
         return
     in_question = [("heading", name), *([("list", name)] if items else []), *[("listitem", "")] * items, *[("button", button) for button in buttons]]
     right(found[0] == name and found[2] and all(part in found[1] for part in said) and sorted(found[3]) == sorted(in_question) and found[4] == buttons, f"{what}: its title names it, its text describes it, and nothing beside it is there", found)
+
+
+def long_serials(bank: Bank) -> None:
+    """Serial numbers of the greatest length: no text of a sheet lies over another one, and a question has a line for every bond."""
+    page = joined(bank)
+    bank.expect(200, "/bonds", {"desk": 900, "number": 61, "bonds": LARGE})
+    page.show_sheet(900_000_001)
+    wrong: list[tuple[int, list[str]]] = []
+    for width, height in CARDS:
+        page.resize(width, height)
+        page.sleep(0.3)
+        wrong += [(width, page.run(OVER))] if page.run(OVER) else []
+    right(wrong == [], f"the longest serial numbers: no text lies over another one at {', '.join(str(width) for width, _ in CARDS)} pixels", wrong)
+    page.resize(683, 384)
+    page.run("for (const row of document.querySelectorAll('.sheet tbody tr')) row.style.gridTemplateColumns = 'auto repeat(4, 1fr)'")
+    right(page.run(OVER) != [], "control: with five equal columns the value lies over the serial number", page.run(OVER))
+    page.resize(1440, 900)
+    page.press("#choose-all")
+    page.ask_to_pay()
+    right(page.run(LINES) == 1, "a question has one line for every bond", page.run(LINES))
+    page.run("document.querySelector('#confirm .bonds li:first-child').style.gridTemplateColumns = '8.5rem 4.5rem 3rem auto'")
+    right(page.run(LINES) > 1, "control: where the month has less room it has two", page.run(LINES))
+    page.quit()
 
 
 def questions(bank: Bank) -> None:
