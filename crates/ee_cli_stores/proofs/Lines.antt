@@ -5,9 +5,9 @@ use Rattle.ee_store.specs.History.{HasLeft, RestsHistory, stop_and_reopen}
 use Rattle.ee_cli_stores.specs.Lines.{ClosesLine, LeadsInARow}
 
 pub closes_line : {D : Type 0} (g : Ghosts D) → RestsHistory g → ClosesLine g
-closes_line g rests held found attempts left informed files lead clean at_rest finds start earlier more was are =
+closes_line g rests held found attempts left files lead clean at_rest finds start earlier more was are =
     subst (λ l. HasLeft start l found) (append_assoc earlier more stop_and_reopen)
-    (rests start (earlier ++ more) left files found (lead start earlier more was are).0 clean at_rest finds)
+    (rests start (earlier ++ more) left files found (lead start earlier more was are) clean at_rest finds)
 
 pub leads_in_a_row : LeadsInARow
 leads_in_a_row held found [] same start earlier more was none =

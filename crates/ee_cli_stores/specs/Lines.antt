@@ -21,8 +21,8 @@ LineLeads held attempts found = (start : Content) (earlier more : List Event) �
 -- A line's requests led on from what its files held to the store that it closed, which is at rest in two files. So the line leads to
 -- these files, however they are found: as they read, or as a stop of the machine leaves them.
 abbrev pub ClosesLine : {D : Type 0} → Ghosts D → Type 0
-ClosesLine {D} g = (held found : Image) (attempts : List Attempt) (left : Held (FileStore D g)) (informed : Type 0) (files : Files D)
-    → LeadOn (λ start events. HasLeft start events held) attempts (λ start events. HasCome start events (file_state left) × informed)
+ClosesLine {D} g = (held found : Image) (attempts : List Attempt) (left : Held (FileStore D g)) (files : Files D)
+    → LeadOn (λ start events. HasLeft start events held) attempts (λ start events. HasCome start events (file_state left))
     → AreClean g files.log files.db → RestsIn left files → AreFoundAs g files found → LineLeads held attempts found
 
 -- each line opens what the line before it left
