@@ -87,6 +87,9 @@ impl Stores for InMemory {
 
     ghost holds = { λ _ _ c. c ≡ nothing };
 
+    // Nothing is said of the history of a store in memory.
+    ghost opens = { λ _ _ _ _. ⊥ };
+
     ghost rests = { λ store rest. rest ≡ store };
 
     ghost refuses = { λ _ _ _ _. ⊥ };
