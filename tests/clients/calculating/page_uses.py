@@ -213,7 +213,7 @@ def remarked(browser: Browser, url: str) -> None:
 def remarked_as_typed(browser: Browser, page: Page, count: int) -> None:
     """A typed bond has its remark as it is typed, and is added all the same; its dialog has the remark too."""
     page.choose_month("2026-11")
-    for name, text in (("denom", "50"), ("issued", "May 2012"), ("serial", "c-12-ee")):
+    for name, text in (("denom", "50"), ("issued", "Apr 2012"), ("serial", "c-12-ee")):
         set_field(browser, name, text)
     words = f"Serial numbers of $50 bonds begin with L. {SOLD}"
     assert browser.run(ONE)[1].endswith(words) and browser.run(ONE)[0] != "", browser.run(ONE)
