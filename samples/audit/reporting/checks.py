@@ -165,7 +165,7 @@ def bonds_have_terms(store: Store, findings: Findings) -> None:
 
 
 def tickets_are_in_order(store: Store, findings: Findings) -> None:
-    open_day = store.one("SELECT day FROM desk")[0]
+    open_day = store.open_day()
     closed = {day for (day,) in store.rows("SELECT day FROM batches")}
     before, last = texts.FIRST_DAY, 0
     for ticket, day in store.rows("SELECT ticket, day FROM tickets ORDER BY ticket"):
@@ -240,7 +240,8 @@ def batches_are_their_tickets(store: Store, findings: Findings) -> None:
 
 def days_follow(store: Store, findings: Findings) -> None:
     findings.tested = store.count("batches") + 1
-    (open_day, last_day), (latest,) = store.one("SELECT day, last_day FROM desk"), store.one("SELECT max(day) FROM batches")
+    # If the desk has no row, the test of the tables says so.
+    (open_day, last_day), (latest,) = store.one("SELECT day, last_day FROM desk") or (None, None), store.one("SELECT max(day) FROM batches")
     findings.compare("desk", "1", "last_day", last_day, latest)
     if open_day is not None and latest is not None and open_day <= latest:
         findings.differs("desk", "1", "day", texts.day_text(open_day), f"a day after {texts.day_text(latest)}")

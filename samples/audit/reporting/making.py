@@ -180,8 +180,7 @@ def if_readable(made: Callable[..., M], *of: object) -> M | None:
 
 def about_store(store: Store) -> StoreRow:
     first, last = store.one("SELECT min(day), max(day) FROM (SELECT day FROM batches UNION SELECT day FROM tickets UNION SELECT day FROM desk)")
-    (open_day,) = store.one("SELECT day FROM desk")
-    first_day, last_day, opened = (None if day is None else texts.day_text(day) for day in (first, last, open_day))
+    first_day, last_day, opened = (None if day is None else texts.day_text(day) for day in (first, last, store.open_day()))
     return {
         "version": store.version,
         "first_day": first_day,

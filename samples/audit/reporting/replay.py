@@ -269,7 +269,11 @@ def books_are_the_replays(store: Store, books: desk.Books, findings: Findings) -
     for day in sorted(books.batches):
         findings.differs("batches", name_of("batches", (day,)), "row", None, "a batch")
     findings.tested += 1
-    compare_row(findings, "desk", (1,), ("day", "last_day"), store.one("SELECT day, last_day FROM desk"), (books.day, books.last_day))
+    desk = store.one("SELECT day, last_day FROM desk")
+    if desk is None:
+        findings.differs("desk", name_of("desk", (1,)), "row", None, "the desk's row")
+    else:
+        compare_row(findings, "desk", (1,), ("day", "last_day"), desk, (books.day, books.last_day))
 
 
 def compare_row(findings: Findings, table: str, key: Key, columns: tuple[str, ...], found: Sequence[object], wanted: Sequence[object] | None) -> None:

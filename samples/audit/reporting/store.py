@@ -62,6 +62,11 @@ class Store:
     def one(self, statement: str, *values: Any) -> Any:
         return self.base.execute(statement, values).fetchone()
 
+    def open_day(self) -> int | None:
+        """The open day; None if there is none, or the desk has no row."""
+        found = self.one("SELECT day FROM desk")
+        return found[0] if found else None
+
     def count(self, table: str) -> int:
         (rows,) = self.one(f"SELECT count(*) FROM {table}")
         return int(rows)

@@ -1,4 +1,4 @@
-"""The 99 kinds of damage of tests/samples/damaged_books: what each does to a store, and what has to find it.
+"""The 100 kinds of damage of tests/samples/damaged_books: what each does to a store, and what has to find it.
 
 What finds a kind was worked out by hand, from docs/MODEL.md ("Sound books") and docs/FORMATS.md: `o`, the program as it opens the store; `r`, the report
 alone; `a`, the report with the archive; `e`, the report with the earlier report, which was made after 42 of the 52 requests."""
@@ -265,6 +265,7 @@ DAYS = [
     Kind("the batch of a day without tickets is added", "r", statements(f"INSERT INTO batches VALUES ({DAY_2 + 30}, 0, 0, 0)")),
     Kind("the day of a batch", "or", statements(f"UPDATE batches SET day = day + 1 WHERE day = {DAY_2}")),
     Kind("no day is open", "or", statements("UPDATE desk SET day = NULL")),
+    Kind("the desk's row is taken out", "or", statements("DELETE FROM desk")),
     Kind("the day that was closed last", "or", statements("UPDATE desk SET last_day = last_day - 1")),
     Kind("a day has another date in its month, wherever it stands", "ae", rewritten(other_day("2011-03-08", "2011-03-09"))),
     Kind("a day without tickets is gone", "ae", rewritten(taken_out(22, 23))),
