@@ -183,7 +183,7 @@ def shown_dialogs(browser: Browser, url: str) -> None:
         browser.until(lambda: browser.run("return innerWidth") == width, f"a window of {width} pixels", 10)
         page.remove_all()
         page.run("document.querySelector('#shipped').click()")
-        page.open_inventory(FILE + b"C12EE,50,2012-05,7,\n")
+        page.open_inventory(FILE + b"C12EE,50,2012-04,7,\n")
         page.choose_month("2012-02")
         for serial in ("L77031EE", "C12EE", "K20488EE"):
             whole_dialog(browser, serial)
