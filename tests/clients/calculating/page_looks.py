@@ -136,7 +136,7 @@ DIALOG = [
     *(("columnheader", name) for name in ("When", "Month", "Value")),
     *(("rowheader", name) for name in ("Interest is next added", "The penalty ends, 5 years old", "It is worth twice its price at least, 20 years old", "Final maturity, 30 years old")),
     ("heading", "Its value over 30 years"),
-    ("image", "The value of bond L77031EE from $25.00 in November 2010 to $53.20 in November 2040. The table has each year."),
+    ("image", "The value of bond L77031EE from $25.00 in November 2010 to $53.20 in November 2040. The table has every year."),
     ("table", "Bond L77031EE"),
     *(("columnheader", name) for name in ("Month", "Value")),
     *(("rowheader", f"November {year}") for year in range(2010, 2041)),
