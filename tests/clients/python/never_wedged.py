@@ -122,13 +122,13 @@ def while_open() -> None:
 
 def signed_out() -> None:
     """A password that isn't accepted any more: a look-up ends at once, and an act waits so long that no proxy locks the address out, also over several calls."""
+    right(counter_module.SIGN_IN_PAUSE >= 150, "four sendings in ten minutes at most")
     check_signed_out()
     control("without the pause an act is sent again and again", check_signed_out, mock.patch.object(counter_module, "SIGN_IN_PAUSE", 0.0))
     signed_in_again()
 
 
 def check_signed_out() -> None:
-    right(counter_module.SIGN_IN_PAUSE >= 150, "four sendings in ten minutes at most")
     with desks("L1EE", "L2EE") as (place, fake, gate), client.Counter(place / "a.journal", gate.address, desk=3, patience=1) as counter:
         lookups = client.Lookups(gate.address)
         right(counter.ticket(1) is None and lookups.ticket(1) is None, "a good exchange")
@@ -218,6 +218,7 @@ def check_jitter() -> None:
     """Each pause is from half of its time to all of it, and no two clients have the same."""
     with desks("L1EE") as (place, _, gate), client.Counter(place / "a.journal", gate.address, desk=3, patience=60) as counter:
         pauses: list[float] = []
+        gate.drip = 0.03  # no pause of the client's
         for _ in range(2):
             gate.faults = ["lost request"] * 6
             with mock.patch.object(time, "sleep", pauses.append):
