@@ -29,7 +29,7 @@ use json::{Error, Scratch, Value};
 use std::alloc::{AllocError, Global};
 
 #[tactic(auto, unfolding(crate::specs::Reading::rate_row_of))]
-fn rate_row_of(value: &Value<'_>) -> Option<RateRow>
+fn rate_row_in(value: &Value<'_>) -> Option<RateRow>
     ensures { result ≡ rate_row_of (value_view value.now) }
 {
     let from = issue_at(value, "from")?;
@@ -41,12 +41,12 @@ fn rate_row_of(value: &Value<'_>) -> Option<RateRow>
     })
 }
 
-fn rate_rows_of(alloc: Global, values: &[Value<'_>]) -> Result<Option<Vec<RateRow>>, AllocError>
+fn rate_rows_in(alloc: Global, values: &[Value<'_>]) -> Result<Option<Vec<RateRow>>, AllocError>
     ensures { IfOk result (λ o. option_map (λ v. v.items) o ≡ each rate_row_of (items_view values.now)) }
 {
     let mut rows = Vec::new(alloc);
     for value in values {
-        let Some(row) = rate_row_of(value) else {
+        let Some(row) = rate_row_in(value) else {
             return Ok(None);
         };
         rows.push(row)?;
@@ -71,7 +71,7 @@ fn bond_with(coowner: Option<Customer>, value: &Value<'_>) -> Option<Bond>
     })
 }
 
-fn bonds_of(alloc: Global, values: &[Value<'_>]) -> Result<Option<Vec<Bond>>, AllocError>
+fn bonds_in(alloc: Global, values: &[Value<'_>]) -> Result<Option<Vec<Bond>>, AllocError>
     ensures { IfOk result (λ o. option_map (λ v. v.items) o ≡ each bond_of (items_view values.now)) }
 {
     let mut bonds = Vec::new(alloc);
@@ -91,7 +91,7 @@ fn serial_in(value: &Value<'_>) -> Option<Serial>
     read_serial(value.as_str()?).ok()
 }
 
-fn serials_of(alloc: Global, values: &[Value<'_>]) -> Result<Option<Vec<Serial>>, AllocError>
+fn serials_in(alloc: Global, values: &[Value<'_>]) -> Result<Option<Vec<Serial>>, AllocError>
     ensures { IfOk result (λ o. option_map (λ v. v.items) o ≡ each serial_in (items_view values.now)) }
 {
     let mut serials = Vec::new(alloc);
@@ -104,38 +104,38 @@ fn serials_of(alloc: Global, values: &[Value<'_>]) -> Result<Option<Vec<Serial>>
     Ok(Some(serials))
 }
 
-fn add_rates_of(alloc: Global, value: &Value<'_>) -> Result<Option<Act>, AllocError>
+fn rates_act_in(alloc: Global, value: &Value<'_>) -> Result<Option<Act>, AllocError>
     ensures { IfOk result (λ o. o ≡ add_rates_of (value_view value.now)) }
 {
     let Some(list) = items_at(value, "rates") else {
         return Ok(None);
     };
-    let Some(rows) = rate_rows_of(alloc, list)? else {
+    let Some(rows) = rate_rows_in(alloc, list)? else {
         return Ok(None);
     };
     Ok(Some(Act::AddRates(Rows::new(rows))))
 }
 
-fn add_bonds_of(alloc: Global, value: &Value<'_>) -> Result<Option<Act>, AllocError>
+fn bonds_act_in(alloc: Global, value: &Value<'_>) -> Result<Option<Act>, AllocError>
     ensures { IfOk result (λ o. o ≡ add_bonds_of (value_view value.now)) }
 {
     let Some(list) = items_at(value, "bonds") else {
         return Ok(None);
     };
-    let Some(bonds) = bonds_of(alloc, list)? else {
+    let Some(bonds) = bonds_in(alloc, list)? else {
         return Ok(None);
     };
     Ok(Some(Act::AddBonds(Rows::new(bonds))))
 }
 
-fn open_of(value: &Value<'_>) -> Option<Act>
+fn opening_in(value: &Value<'_>) -> Option<Act>
     ensures { result ≡ open_of (value_view value.now) }
 {
     Some(Act::OpenDay(day_at(value, "day")?))
 }
 
 #[tactic(auto, unfolding(crate::specs::Reading::redeem_of))]
-fn redeem_of(alloc: Global, value: &Value<'_>) -> Result<Option<Act>, AllocError>
+fn redemption_in(alloc: Global, value: &Value<'_>) -> Result<Option<Act>, AllocError>
     ensures { IfOk result (λ o. o ≡ redeem_of (value_view value.now)) }
 {
     let Some(day) = day_at(value, "day") else {
@@ -147,7 +147,7 @@ fn redeem_of(alloc: Global, value: &Value<'_>) -> Result<Option<Act>, AllocError
     let Some(list) = items_at(value, "serials") else {
         return Ok(None);
     };
-    let Some(serials) = serials_of(alloc, list)? else {
+    let Some(serials) = serials_in(alloc, list)? else {
         return Ok(None);
     };
     Ok(Some(Act::Redeem {
@@ -157,21 +157,21 @@ fn redeem_of(alloc: Global, value: &Value<'_>) -> Result<Option<Act>, AllocError
     }))
 }
 
-fn close_of(value: &Value<'_>) -> Option<Act>
+fn closing_in(value: &Value<'_>) -> Option<Act>
     ensures { result ≡ close_of (value_view value.now) }
 {
     Some(Act::CloseDay(day_at(value, "day")?))
 }
 
-fn act_of(alloc: Global, value: &Value<'_>) -> Result<Option<Act>, AllocError>
+fn act_in(alloc: Global, value: &Value<'_>) -> Result<Option<Act>, AllocError>
     ensures { IfOk result (λ o. o ≡ act_of (value_view value.now)) }
 {
     match text_at(value, "act") {
-        Some("rates") => add_rates_of(alloc, value),
-        Some("bonds") => add_bonds_of(alloc, value),
-        Some("open") => Ok(open_of(value)),
-        Some("redeem") => redeem_of(alloc, value),
-        Some("close") => Ok(close_of(value)),
+        Some("rates") => rates_act_in(alloc, value),
+        Some("bonds") => bonds_act_in(alloc, value),
+        Some("open") => Ok(opening_in(value)),
+        Some("redeem") => redemption_in(alloc, value),
+        Some("close") => Ok(closing_in(value)),
         _ => Ok(None),
     }
 }
@@ -187,7 +187,7 @@ pub fn read_act(alloc: Global, text: &str) -> Result<Option<Act>, AllocError>
         Err(Error::Invalid) => return Ok(None),
         Err(_) => return Err(AllocError),
     };
-    let Some(act) = act_of(alloc, &value)? else {
+    let Some(act) = act_in(alloc, &value)? else {
         return Ok(None);
     };
     if canonical(alloc, &act)?.as_str() == text {

@@ -6,7 +6,7 @@ ghost use Rattle.std.specs.List.{list_all};
 ghost use Rattle.json.specs.Value.{value_view, items_view};
 ghost use Rattle.ee_desk_texts.specs.Reading.{text_at, is_whole, count_of, count_at, customer_at, day_at, rate_at, issue_at, serial_at, cents_at, items_at};
 
-use crate::money::cents_of;
+use crate::money::cents_in;
 use ee_units::{
     Cents, Customer, Day, IssueMonth, Rate, Serial, read_day, read_issue, read_rate, read_serial,
 };
@@ -33,7 +33,7 @@ fn is_whole(text: &str) -> bool
 }
 
 #[tactic(auto, unfolding(crate::specs::Reading::count_of))]
-fn count_of(text: &str) -> Option<u64>
+fn count_in(text: &str) -> Option<u64>
     ensures { result ≡ count_of text.now }
 {
     if is_whole(text) {
@@ -47,7 +47,7 @@ fn count_of(text: &str) -> Option<u64>
 pub fn count_at(value: &Value<'_>, key: &str) -> Option<u64>
     ensures { result ≡ count_at key.now (value_view value.now) }
 {
-    count_of(value.get(key)?.as_number()?)
+    count_in(value.get(key)?.as_number()?)
 }
 
 /// Returns the items of the array under `key`; `None` if there is no array.
@@ -95,9 +95,9 @@ pub fn serial_at(value: &Value<'_>, key: &str) -> Option<Serial>
     read_serial(text_at(value, key)?).ok()
 }
 
-/// Returns the amount under `key`, as `cents_of` reads it.
+/// Returns the amount under `key`, as `cents_in` reads it.
 pub fn cents_at(value: &Value<'_>, key: &str) -> Option<Cents>
     ensures { option_map (λ cents. cents.0) result ≡ cents_at key.now (value_view value.now) }
 {
-    cents_of(text_at(value, key)?)
+    cents_in(text_at(value, key)?)
 }

@@ -9,7 +9,7 @@ use ee_units::pieces::{digits, number, parts_at_point};
 /// The amount that whole dollars, a point and two digits write; `None` if it doesn't fit. Leading zeros are
 /// accepted.
 #[tactic(auto, unfolding(crate::specs::Reading::cents_of))]
-pub fn cents_of(text: &str) -> Option<Cents>
+pub fn cents_in(text: &str) -> Option<Cents>
     ensures { option_map (λ cents. cents.0) result ≡ cents_of text.now }
 {
     let (whole, part) = parts_at_point(text)?;

@@ -38,7 +38,7 @@ fn named_by(
     }
 }
 
-fn named_of(value: &Value<'_>) -> Named
+fn named_in(value: &Value<'_>) -> Named
     ensures { result ≡ named_of (value_view value.now) }
 {
     let serial = serial_at(value, "serial");
@@ -108,9 +108,9 @@ fn refusal_with(code: u64, named: Named) -> Option<Refusal>
 
 /// The refusal that a JSON value represents, by its code and by what it names.
 #[tactic(auto, unfolding(crate::specs::Reading::refused_of))]
-pub fn refused_of(value: &Value<'_>) -> Option<Reply>
+pub fn refused_in(value: &Value<'_>) -> Option<Reply>
     ensures { result ≡ refused_of (value_view value.now) }
 {
     let code = count_at(value, "code")?;
-    Some(Reply::Refused(refusal_with(code, named_of(value))?))
+    Some(Reply::Refused(refusal_with(code, named_in(value))?))
 }

@@ -5,14 +5,14 @@ ghost use Rattle.json.specs.Value.{value_view, items_view};
 ghost use Rattle.ee_desk_texts.specs.Reading.{each, added_of, opened_of, batch_of, line_of, ticket_of, short_reply_of, reply_of, ReadsReply};
 
 use crate::fields::{cents_at, count_at, customer_at, day_at, items_at, serial_at};
-use crate::refusal_reading::refused_of;
+use crate::refusal_reading::refused_in;
 use crate::replies::reply_text;
 use ee_desk_model::{Batch, Line, Reply, Rows, Ticket};
 use json::{Error, Scratch, Value};
 use std::alloc::{AllocError, Global};
 
 #[tactic(auto, unfolding(crate::specs::Reading::added_of))]
-fn added_of(value: &Value<'_>) -> Option<Reply>
+fn added_in(value: &Value<'_>) -> Option<Reply>
     ensures { result ≡ added_of (value_view value.now) }
 {
     let new = count_at(value, "new")?;
@@ -20,14 +20,14 @@ fn added_of(value: &Value<'_>) -> Option<Reply>
     Some(Reply::Added { new, same })
 }
 
-fn opened_of(value: &Value<'_>) -> Option<Reply>
+fn opened_in(value: &Value<'_>) -> Option<Reply>
     ensures { result ≡ opened_of (value_view value.now) }
 {
     Some(Reply::Opened(day_at(value, "opened")?))
 }
 
 #[tactic(auto, unfolding(crate::specs::Reading::batch_of))]
-fn batch_of(value: &Value<'_>) -> Option<Reply>
+fn batch_in(value: &Value<'_>) -> Option<Reply>
     ensures { result ≡ batch_of (value_view value.now) }
 {
     let bonds = count_at(value, "bonds")?;
@@ -43,7 +43,7 @@ fn batch_of(value: &Value<'_>) -> Option<Reply>
 }
 
 #[tactic(auto, unfolding(crate::specs::Reading::line_of))]
-fn line_of(value: &Value<'_>) -> Option<Line>
+fn line_in(value: &Value<'_>) -> Option<Line>
     ensures { result ≡ line_of (value_view value.now) }
 {
     let cents = cents_at(value, "paid")?;
@@ -51,12 +51,12 @@ fn line_of(value: &Value<'_>) -> Option<Line>
     Some(Line { serial, cents })
 }
 
-fn lines_of(alloc: Global, values: &[Value<'_>]) -> Result<Option<Vec<Line>>, AllocError>
+fn lines_in(alloc: Global, values: &[Value<'_>]) -> Result<Option<Vec<Line>>, AllocError>
     ensures { IfOk result (λ o. option_map (λ v. v.items) o ≡ each line_of (items_view values.now)) }
 {
     let mut lines = Vec::new(alloc);
     for value in values {
-        let Some(line) = line_of(value) else {
+        let Some(line) = line_in(value) else {
             return Ok(None);
         };
         lines.push(line)?;
@@ -65,7 +65,7 @@ fn lines_of(alloc: Global, values: &[Value<'_>]) -> Result<Option<Vec<Line>>, Al
 }
 
 #[tactic(auto, unfolding(crate::specs::Reading::ticket_of))]
-fn ticket_of(alloc: Global, value: &Value<'_>) -> Result<Option<Reply>, AllocError>
+fn ticket_in(alloc: Global, value: &Value<'_>) -> Result<Option<Reply>, AllocError>
     ensures { IfOk result (λ o. o ≡ ticket_of (value_view value.now)) }
 {
     let Some(day) = day_at(value, "day") else {
@@ -83,7 +83,7 @@ fn ticket_of(alloc: Global, value: &Value<'_>) -> Result<Option<Reply>, AllocErr
     let Some(list) = items_at(value, "lines") else {
         return Ok(None);
     };
-    let Some(lines) = lines_of(alloc, list)? else {
+    let Some(lines) = lines_in(alloc, list)? else {
         return Ok(None);
     };
     Ok(Some(Reply::Ticket(Ticket {
@@ -95,18 +95,18 @@ fn ticket_of(alloc: Global, value: &Value<'_>) -> Result<Option<Reply>, AllocErr
     })))
 }
 
-fn short_reply_of(value: &Value<'_>) -> Option<Reply>
+fn short_reply_in(value: &Value<'_>) -> Option<Reply>
     ensures { result ≡ short_reply_of (value_view value.now) }
 {
-    added_of(value).or(opened_of(value).or(batch_of(value).or(refused_of(value))))
+    added_in(value).or(opened_in(value).or(batch_in(value).or(refused_in(value))))
 }
 
-fn reply_of(alloc: Global, value: &Value<'_>) -> Result<Option<Reply>, AllocError>
+fn reply_in(alloc: Global, value: &Value<'_>) -> Result<Option<Reply>, AllocError>
     ensures { IfOk result (λ o. o ≡ reply_of (value_view value.now)) }
 {
-    match short_reply_of(value) {
+    match short_reply_in(value) {
         Some(reply) => Ok(Some(reply)),
-        None => ticket_of(alloc, value),
+        None => ticket_in(alloc, value),
     }
 }
 
@@ -120,7 +120,7 @@ pub fn read_reply(alloc: Global, text: &str) -> Result<Option<Reply>, AllocError
         Err(Error::Invalid) => return Ok(None),
         Err(_) => return Err(AllocError),
     };
-    let Some(reply) = reply_of(alloc, &value)? else {
+    let Some(reply) = reply_in(alloc, &value)? else {
         return Ok(None);
     };
     if reply_text(alloc, &reply)?.as_str() == text {

@@ -1,6 +1,6 @@
 use Rattle.std.proofs.Common.{rules, arith}
 use Rattle.std.proofs.lemmas.Grind.{common_steps}
-use Rattle.ee_desk_texts.proofs.act_reading.bonds_of.Goals as goal
+use Rattle.ee_desk_texts.proofs.act_reading.bonds_in.Goals as goal
 
 pub loop-value-init : goal.loop-value-init
 loop-value-init c = search rules
