@@ -188,7 +188,7 @@ fn redeem(alloc: Global, body: &Value) -> Result<Request, BodyFault>
 }
 
 /// The request of a body.
-pub fn request_of(alloc: Global, post: Post, body: &Value) -> Result<Request, BodyFault>
+pub fn request_in(alloc: Global, post: Post, body: &Value) -> Result<Request, BodyFault>
     ensures { Gives (λ q. q) result (request_of post (view body.now)) }
 {
     match post {

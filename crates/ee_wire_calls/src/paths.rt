@@ -96,7 +96,7 @@ fn issued_at(path: &str, slashes: usize) -> Result<IssueMonth, Field>
 }
 
 #[tactic(auto, unfolding(crate::specs::Paths::query_of))]
-fn inventory_of(path: &str) -> Result<Query, Field>
+fn inventory_in(path: &str) -> Result<Query, Field>
     ensures { result ≡ query_of Get.Inventory path.now }
 {
     let customer = customer_at(path, 2)?;
@@ -105,7 +105,7 @@ fn inventory_of(path: &str) -> Result<Query, Field>
 }
 
 #[tactic(auto, unfolding(crate::specs::Paths::query_of))]
-fn ticket_of(path: &str) -> Result<Query, Field>
+fn ticket_in(path: &str) -> Result<Query, Field>
     ensures { result ≡ query_of Get.Ticket path.now }
 {
     let n = number_text(segment(path, 2)).ok_or(Field::Ticket)?;
@@ -113,7 +113,7 @@ fn ticket_of(path: &str) -> Result<Query, Field>
 }
 
 #[tactic(auto, unfolding(crate::specs::Paths::query_of))]
-fn batch_of(path: &str) -> Result<Query, Field>
+fn batch_in(path: &str) -> Result<Query, Field>
     ensures { result ≡ query_of Get.Batch path.now }
 {
     let day = day_at(path, 2)?;
@@ -121,7 +121,7 @@ fn batch_of(path: &str) -> Result<Query, Field>
 }
 
 #[tactic(auto, unfolding(crate::specs::Paths::query_of))]
-fn value_of(path: &str) -> Result<Query, Field>
+fn value_in(path: &str) -> Result<Query, Field>
     ensures { result ≡ query_of Get.Value path.now }
 {
     let denom = denom_at(path, 2)?;
@@ -135,13 +135,13 @@ fn value_of(path: &str) -> Result<Query, Field>
 }
 
 /// The query of a path.
-pub fn query_of(get: Get, path: &str) -> Result<Query, Field>
+pub fn query_in(get: Get, path: &str) -> Result<Query, Field>
     ensures { result ≡ query_of get path.now }
 {
     match get {
-        Get::Inventory => inventory_of(path),
-        Get::Ticket => ticket_of(path),
-        Get::Batch => batch_of(path),
-        Get::Value => value_of(path),
+        Get::Inventory => inventory_in(path),
+        Get::Ticket => ticket_in(path),
+        Get::Batch => batch_in(path),
+        Get::Value => value_in(path),
     }
 }

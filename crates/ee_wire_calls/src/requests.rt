@@ -2,10 +2,10 @@
 ghost use Rattle.std.specs.Prelude.{◌≡◌};
 ghost use Rattle.ee_wire_calls.specs.Calls.{decoded, posted, asked, routed, called, json_of, IsUnlessMemory};
 
-use crate::bodies::request_of;
+use crate::bodies::request_in;
 use crate::calls::Call;
 use crate::faults::WireFault;
-use crate::paths::query_of;
+use crate::paths::query_in;
 use crate::routes::{Get, Post, Route, Routes};
 use serde_json::Value;
 use std::alloc::Global;
@@ -14,7 +14,7 @@ fn posted(alloc: Global, post: Post, body: &[u8]) -> Result<Call, WireFault>
     ensures { IsUnlessMemory result (posted post (json_of body.now)) }
 {
     match Value::from_slice(alloc, body) {
-        Ok(value) => Ok(Call::Request(request_of(alloc, post, &value)?)),
+        Ok(value) => Ok(Call::Request(request_in(alloc, post, &value)?)),
         Err(e) if e.is_memory() => Err(WireFault::NoMemory),
         Err(_) => Err(WireFault::BadJson),
     }
@@ -23,7 +23,7 @@ fn posted(alloc: Global, post: Post, body: &[u8]) -> Result<Call, WireFault>
 fn asked(get: Get, path: &str) -> Result<Call, WireFault>
     ensures { result ≡ asked get path.now }
 {
-    match query_of(get, path) {
+    match query_in(get, path) {
         Ok(query) => Ok(Call::Query(query)),
         Err(field) => Err(WireFault::BadField(field)),
     }

@@ -1,6 +1,6 @@
 use Rattle.std.proofs.Common.{rules}
 use Rattle.ee_wire_calls.specs.Paths.{query_of}
-use Rattle.ee_wire_calls.proofs.paths.value_of.Goals as goal
+use Rattle.ee_wire_calls.proofs.paths.value_in.Goals as goal
 
 pub returns : goal.returns
 unfolding query_of
