@@ -49,7 +49,7 @@ fn asked_by(
     let issued = read_issue(issued).ok()?;
     let month = read_month(month).ok()?;
     let rate = read_rate(rate).ok()?;
-    let extension = extension_of(rest)?;
+    let extension = extension_in(rest)?;
     Some(ValueLine {
         denom,
         issued,
@@ -59,7 +59,7 @@ fn asked_by(
 }
 
 // The extension in the words after the rate, if there is one.
-fn extension_of(rest: &[String]) -> Option<Option<Rate>>
+fn extension_in(rest: &[String]) -> Option<Option<Rate>>
     ensures { result ≡ extension_of (map (λ w. string_bytes w) rest.now) }
 {
     match rest {
