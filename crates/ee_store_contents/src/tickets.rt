@@ -9,7 +9,7 @@ use ee_store_load::{StoredLine, StoredTicket};
 use ee_units::{Cents, Customer, Day};
 use std::alloc::{AllocError, Global};
 
-fn line_at(ticket: u64, place: u64, row: &StoredLine) -> Option<Line>
+fn line_in(ticket: u64, place: u64, row: &StoredLine) -> Option<Line>
     ensures { result ≡ line_at ticket place row.now }
 {
     if row.ticket == ticket && row.place == place {
@@ -20,7 +20,7 @@ fn line_at(ticket: u64, place: u64, row: &StoredLine) -> Option<Line>
 }
 
 /// The lines of a ticket, with the places 1, 2, 3 and so on.
-fn lines_of(
+fn lines_in(
     alloc: Global,
     ticket: u64,
     rows: &[StoredLine],
@@ -29,7 +29,7 @@ fn lines_of(
 {
     let mut lines = Vec::new(alloc);
     for (i, row) in rows.iter().enumerate() {
-        let Some(line) = line_at(ticket, i as u64 + 1, row) else {
+        let Some(line) = line_in(ticket, i as u64 + 1, row) else {
             return Ok(None);
         };
         lines.push(line)?;
@@ -60,7 +60,7 @@ fn ticket_in(
 ) -> Result<Option<Ticket>, AllocError>
     ensures { IfOk result (λ o. o ≡ ticket_in row.now own.now) }
 {
-    match lines_of(alloc, row.ticket, own)? {
+    match lines_in(alloc, row.ticket, own)? {
         Some(lines) => Ok(ticket_with(row, lines)),
         None => Ok(None),
     }

@@ -1,6 +1,6 @@
 use Rattle.std.proofs.Common.{rules, arith}
 use Rattle.std.proofs.lemmas.Grind.{common_steps}
-use Rattle.ee_store_contents.proofs.tickets.lines_of.Goals as goal
+use Rattle.ee_store_contents.proofs.tickets.lines_in.Goals as goal
 
 pub loop-i-init : goal.loop-i-init
 loop-i-init c = search rules
