@@ -88,7 +88,7 @@ fn days_in<S: Alter>(tx: &mut Transaction<'_, S>) -> Result<DaysFound, Failure>
 }
 
 /// The terms of a period: known already, or else read now and known from then on.
-fn terms_of<S: Alter>(
+fn terms_in<S: Alter>(
     tx: &mut Transaction<'_, S>,
     alloc: Global,
     tables: &mut UnitTables,
@@ -129,7 +129,7 @@ fn terms_for<S: Alter>(
 {
     let mut found = no_terms(alloc);
     for period in periods {
-        let terms = terms_of(tx, alloc, tables, known, *period)?;
+        let terms = terms_in(tx, alloc, tables, known, *period)?;
         note_terms(&mut found, *period, terms)?;
     }
     Ok(found)

@@ -23,20 +23,20 @@ pub loop-period-preserved : goal.loop-period-preserved
 loop-period-preserved g c =
     let old = state g.S.Store c.args.tx.now.conn.now in
     let middle = state g.S.Store c.loop-period.tx.conn.now in
-    let new = state g.S.Store c.terms_of.new.tx.conn.now in
+    let new = state g.S.Store c.terms_in.new.tx.conn.now in
     let was = c.loop-period.invariant in
     record {
-      same_reference = c.terms_of.ensures.same_reference ∙ was.same_reference;
-      stays = done_then old middle new was.stays c.terms_of.ensures.only_reads.crash c.terms_of.ensures.only_reads.commit c.in_ok-terms.ensures.only_reads.still_open c.in_ok-terms.ensures.only_reads.inside;
+      same_reference = c.terms_in.ensures.same_reference ∙ was.same_reference;
+      stays = done_then old middle new was.stays c.terms_in.ensures.only_reads.crash c.terms_in.ensures.only_reads.commit c.in_ok-terms.ensures.only_reads.still_open c.in_ok-terms.ensures.only_reads.inside;
       rows = λ clean inside rows sees.
-          let before = clean_before middle new c.terms_of.ensures.only_reads.crash clean in
+          let before = clean_before middle new c.terms_in.ensures.only_reads.crash clean in
           seen_then old middle new rows (was.rows before inside rows sees) (c.in_ok-terms.ensures.only_reads.rows clean (was.stays.inside before inside) rows);
       learns = λ clean inside S sees are.
-          let before = clean_before middle new c.terms_of.ensures.only_reads.crash clean in
+          let before = clean_before middle new c.terms_in.ensures.only_reads.crash clean in
           let still : SeesContent middle S = record { right = sees.right; rows = (was.rows before inside (rows_of S) sees.rows).0 } in
           c.in_ok-terms.ensures.learns clean (was.stays.inside before inside) S still (was.learns before inside S sees are);
       found = λ clean inside S sees are.
-          let before = clean_before middle new c.terms_of.ensures.only_reads.crash clean in
+          let before = clean_before middle new c.terms_in.ensures.only_reads.crash clean in
           let still : SeesContent middle S = record { right = sees.right; rows = (was.rows before inside (rows_of S) sees.rows).0 } in
           let terms = c.in_ok-terms.ensures.found clean (was.stays.inside before inside) S still (was.learns before inside S sees are) in
           c.in_ok-note_terms.ensures
@@ -48,10 +48,10 @@ pub returns-in_err-terms-clause-cause : goal.returns-in_err-terms-clause-cause
 returns-in_err-terms-clause-cause g c clean inside endless S sees _ =
     let old = state g.S.Store c.args.tx.now.conn.now in
     let middle = state g.S.Store c.loop-period.tx.conn.now in
-    let new = state g.S.Store c.terms_of.new.tx.conn.now in
+    let new = state g.S.Store c.terms_in.new.tx.conn.now in
     let was = c.loop-period.invariant in
-    let before = clean_before middle new c.terms_of.ensures.only_reads.crash clean in
+    let before = clean_before middle new c.terms_in.ensures.only_reads.crash clean in
     let still : SeesContent middle S = record { right = sees.right; rows = (was.rows before inside (rows_of S) sees.rows).0 } in
     handed_on _ c.from_residual.result c.in_err-terms.field-0.0 c.from_residual.ensures.1
-    (excused_later old middle new clean was.stays.crash c.terms_of.ensures.only_reads.crash _
+    (excused_later old middle new clean was.stays.crash c.terms_in.ensures.only_reads.crash _
     (c.in_err-terms.ensures.cause clean (was.stays.inside before inside) (was.stays.crash.limit ∙ endless) S still tt))

@@ -2,7 +2,7 @@ use Rattle.std.proofs.Common.{sym, subst}
 use Rattle.ee_store_books.specs.Found.{terms_found}
 use Rattle.ee_store_delivery.specs.Known.{AreTermsOf}
 use Rattle.ee_store_delivery.proofs.Knowing.{learned}
-use Rattle.ee_store_delivery.proofs.view.terms_of.Goals as goal
+use Rattle.ee_store_delivery.proofs.view.terms_in.Goals as goal
 
 pub returns-clause-learns : goal.returns-clause-learns
 returns-clause-learns g c clean inside S sees are =
