@@ -37,7 +37,7 @@ fn note_rate(
 }
 
 /// Notes the terms of a bond's issue period, if the bond is registered.
-fn note_rate_of(
+fn note_bond_rate(
     found: &mut BTreeMap<IssueMonth, Terms>,
     ledger: &Ledger,
     serial: Serial,
@@ -91,7 +91,7 @@ fn rates_of_serials(
 {
     let mut found = BTreeMap::new(alloc);
     for serial in serials {
-        note_rate_of(&mut found, ledger, *serial)?;
+        note_bond_rate(&mut found, ledger, *serial)?;
     }
     Ok(found)
 }

@@ -13,5 +13,5 @@ use Rattle.ee_desk.proofs.seeing.rates_of_serials.Goals as goal
 pub loop-serial-preserved : goal.loop-serial-preserved
 loop-serial-preserved c =
     let key : SerialNumber → Option ℕ = λ s. option_map period_of_held (held_of c.args.ledger.now s) in
-    c.in_ok-note_rate_of.ensures ∙ (λ i. noted_at (finite.get c.args.ledger.now.rates) (c.loop-serial.invariant i) (key (c.serial-item.is i)))
+    c.in_ok-note_bond_rate.ensures ∙ (λ i. noted_at (finite.get c.args.ledger.now.rates) (c.loop-serial.invariant i) (key (c.serial-item.is i)))
     ∙ sym (found_for_next_if nat_cmp_total nat_cmp-IsAntisymmetric (finite.get c.args.ledger.now.rates) key c.args.serials.now c.loop-serial.serial-index c.serial-item.result c.loop-serial-test.true)
