@@ -1,5 +1,5 @@
 -- Queries, which don't change the books (this project's rule).
-use Rattle.std.specs.Prelude.{ℕ, Bool, ◌&&◌, ◌==◌, List, filter, find, is_none, Option, Some, None, sum_by, map}
+use Rattle.std.specs.Prelude.{◌≡◌, ⊤, ℕ, Bool, ◌&&◌, ◌==◌, List, filter, find, is_none, Option, Some, None, sum_by, map}
 use Rattle.std.specs.Option.{option_map}
 use Rattle.std.specs.List.{filter_map}
 use Rattle.std.specs.FinMap as finite
@@ -14,6 +14,10 @@ use Rattle.ee_calculator.specs.declared.bonds.Bond.{Bond}
 use Rattle.ee_calculator.specs.declared.rows.Row.{Row}
 use Rattle.ee_calculator.specs.declared.sheets.Sheet.{Sheet}
 use Rattle.ee_calculator.specs.Rows.{Columns, columns_in, columns_of}
+use Rattle.ee_desk_model.specs.declared.queries.Query.{Query}
+use Rattle.ee_desk_model.specs.declared.queries.Query.TheVariants as query
+use Rattle.ee_desk_model.specs.declared.queries.Shown.{Shown}
+use Rattle.ee_desk_model.specs.declared.queries.Shown.TheVariants as shown
 use Rattle.ee_desk_model.specs.declared.replies.Batch.{Batch}
 use Rattle.ee_desk_model.specs.declared.replies.Ticket.{Ticket}
 use Rattle.ee_desk_model.specs.PlainBooks.{PlainBooks, ticket_of}
@@ -88,3 +92,29 @@ sheet_in rates month bonds = sheet_of (filter_map (row_of rates month) bonds)
 -- the sheet of a customer's unpaid bonds in a month
 abbrev pub inventory : PlainBooks → ℕ → ℕ → PlainSheet
 inventory books customer month = sheet_in books.rates month (bonds_of books customer)
+
+-- the sheet, in a month, of the unpaid bonds of an owner
+abbrev pub IsInventory : PlainBooks → ℕ → ℕ → Sheet → Type 0
+IsInventory books customer month sheet = shown_in_sheet sheet ≡ inventory books customer month
+
+-- the row, in a month, of an unregistered bond; None without rates
+abbrev pub IsQuote : PlainBooks → Denom → ℕ → ℕ → Option Row → Type 0
+IsQuote books denom issued month row = option_map shown_in_row row ≡ quote_of books denom issued month
+
+-- the answer of the books to a query
+abbrev pub ShowsQuery : PlainBooks → Query → Shown → Type 0
+ShowsQuery books (query.Inventory customer month) (shown.Sheet sheet) = IsInventory books customer month sheet
+ShowsQuery books (query.Bonds customer) (shown.Bonds bonds) = bonds.items ≡ bonds_of books customer
+ShowsQuery books (query.Ticket number) (shown.Ticket ticket) = ticket ≡ ticket_numbered books number
+ShowsQuery books (query.Batch day) (shown.Batch batch) = batch ≡ batch_on books day
+ShowsQuery books (query.Value denom issued month) (shown.Row row) = IsQuote books denom issued month row
+ShowsQuery books _ _ = ⊥
+
+-- what is shown is of the kind that the query asks for
+abbrev pub IsKind : Query → Shown → Type 0
+IsKind (query.Inventory customer month) (shown.Sheet sheet) = ⊤
+IsKind (query.Bonds customer) (shown.Bonds bonds) = ⊤
+IsKind (query.Ticket number) (shown.Ticket ticket) = ⊤
+IsKind (query.Batch day) (shown.Batch batch) = ⊤
+IsKind (query.Value denom issued month) (shown.Row row) = ⊤
+IsKind _ _ = ⊥

@@ -15,6 +15,7 @@ mod invariants;
 mod laws;
 mod limits;
 mod numbers;
+mod queries;
 mod refusals;
 mod replies;
 mod rows;
@@ -31,6 +32,7 @@ pub use laws::{
 };
 pub use limits::{MOST_DAY_TICKETS, MOST_ROWS, MOST_SERIALS};
 pub use numbers::{Number, RequestNumber};
+pub use queries::{Query, Shown};
 pub use refusals::{Refusal, Unserved};
 pub use replies::{Batch, Line, Reply, Ticket};
 pub use rows::Rows;
