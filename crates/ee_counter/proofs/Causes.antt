@@ -8,41 +8,12 @@ use Rattle.ee_desk_model.specs.declared.refusals.Unserved.{Unserved}
 use Rattle.ee_desk_model.specs.Repeats.{Content}
 use Rattle.ee_desk_model.specs.Contents.{content_after}
 use Rattle.ee_desk_model.specs.Answers.{served}
-use Rattle.ee_keeper.specs.Keeping.{FailsOnlyIf, HasFailed, HasCause, IsShutByCause}
+use Rattle.ee_keeper.specs.Keeping.{FailsOnlyIf, HasCause, IsShutByCause}
+use Rattle.ee_keeper.proofs.Lemmas.{all_fail_more, cause_since, cause_then, fails_more}
 use Rattle.ee_counter.specs.Served.{FitInTurn}
 use Rattle.ee_counter.proofs.Runs.{all_more}
 
--- ---- causes of two calls, one after the other
-
-failed_then : (a b c : ℕ) → HasFailed a b → b ≤ c → HasFailed a c
-failed_then a b c failed more = omega arith
-
-failed_since : (a b c : ℕ) → a ≤ b → HasFailed b c → HasFailed a c
-failed_since a b c more failed = omega arith
-
--- a cause in an earlier call is one of both
-pub cause_then : (a b c : ℕ) (was_open : Bool) → HasCause a b was_open → b ≤ c → HasCause a c was_open
-cause_then a b c was_open (inl failed) more = inl (failed_then a b c failed more)
-cause_then a b c was_open (inr shut) more = inr shut
-
--- so is a cause in a later call
-pub cause_since : (a b c : ℕ) (was_open is_open : Bool) → IsShutByCause a b was_open is_open → b ≤ c → HasCause b c is_open → HasCause a c was_open
-cause_since a b c was_open is_open first more (inl failed) = inl (failed_since a b c first.0 failed)
-cause_since a b c was_open is_open first more (inr shut) = cause_then a b c was_open (first.1 shut) more
-
-pub shut_then : (a b c : ℕ) (x y z : Bool) → IsShutByCause a b x y → IsShutByCause b c y z → IsShutByCause a c x z
-shut_then a b c x y z first second = (omega (arith, first.0, second.0), λ shut. cause_since a b c x y first second.0 (second.1 shut))
-
-pub nothing_shut : (a : ℕ) (x : Bool) → IsShutByCause a a x x
-nothing_shut a x = (omega arith, λ shut. inr shut)
-
-fails_more : {A : Type 0} (P Q : Type 0) (r : Result A Unserved) → (P → Q) → FailsOnlyIf P r → FailsOnlyIf Q r
-fails_more P Q (Ok x) more fails = tt
-fails_more P Q (Err e) more fails = λ is. more (fails is)
-
-all_fail_more : {A : Type 0} (P Q : Type 0) (rs : List (Result A Unserved)) → (P → Q) → AllByRecursion (FailsOnlyIf P) rs → AllByRecursion (FailsOnlyIf Q) rs
-all_fail_more P Q [] more all = tt
-all_fail_more P Q (r ∷ rs) more all = (fails_more P Q r more all.0, all_fail_more P Q rs more all.1)
+-- ---- answers with a cause
 
 -- the answers to some requests, and to one more, have a cause
 pub all_caused : {A : Type 0} (a b c : ℕ) (was_open is_open : Bool) (told more : List (Result A Unserved)) (r : Result A Unserved) → more ≡ told ++ r ∷ []

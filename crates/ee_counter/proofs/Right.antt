@@ -6,7 +6,7 @@ use Rattle.ee_wire_framing.specs.Framing.{Message}
 use Rattle.ee_wire_calls.specs.Calls.{decoded}
 use Rattle.ee_wire_calls.specs.declared.calls.Call.{Call}
 use Rattle.ee_wire_calls.specs.declared.calls.Call.TheVariants as call
-use Rattle.ee_wire_calls.specs.declared.calls.Query.TheVariants as ask
+use Rattle.ee_desk_model.specs.declared.queries.Query.TheVariants as ask
 use Rattle.ee_wire_calls.specs.declared.faults.WireFault.{WireFault}
 use Rattle.ee_desk_model.specs.declared.refusals.Unserved.{Unserved}
 use Rattle.ee_wire.specs.declared.answers.Answer.{Answer}

@@ -21,7 +21,7 @@ use Rattle.ee_desk_model.specs.Queries.{PlainRow, PlainSheet, shown_in_row, show
 use Rattle.ee_desk_model.specs.declared.acts.Request.{Request}
 use Rattle.ee_wire_calls.specs.declared.calls.Call.{Call}
 use Rattle.ee_wire_calls.specs.declared.calls.Call.TheVariants as call
-use Rattle.ee_wire_calls.specs.declared.calls.Query.TheVariants as ask
+use Rattle.ee_desk_model.specs.declared.queries.Query.TheVariants as ask
 use Rattle.ee_wire_calls.specs.declared.faults.WireFault.{WireFault}
 use Rattle.ee_wire.specs.Answers.{answer_text, whole_text, row_data, number_data, text_or_none}
 use Rattle.ee_wire.specs.declared.answers.Status.TheVariants as status

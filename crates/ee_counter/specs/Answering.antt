@@ -12,8 +12,8 @@ use Rattle.ee_wire_framing.specs.Framing.{Message}
 use Rattle.ee_wire_calls.specs.Calls.{decoded}
 use Rattle.ee_wire_calls.specs.declared.calls.Call.{Call}
 use Rattle.ee_wire_calls.specs.declared.calls.Call.TheVariants as call
-use Rattle.ee_wire_calls.specs.declared.calls.Query.{Query}
-use Rattle.ee_wire_calls.specs.declared.calls.Query.TheVariants as ask
+use Rattle.ee_desk_model.specs.declared.queries.Query.{Query}
+use Rattle.ee_desk_model.specs.declared.queries.Query.TheVariants as ask
 use Rattle.ee_wire_calls.specs.declared.faults.WireFault.{WireFault}
 use Rattle.ee_wire.specs.declared.answers.Answer.{Answer}
 use Rattle.ee_wire.specs.declared.answers.Answer.TheVariants as told

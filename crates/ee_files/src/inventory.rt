@@ -1,6 +1,6 @@
 //! Reading inventory files.
 
-ghost use Rattle.std.specs.Prelude.{◌+◌, ◌≡◌, ℕ, List, [], ◌∷◌, Some, IfErr};
+ghost use Rattle.std.specs.Prelude.{◌+◌, ◌≡◌, ◌≤◌, ℕ, List, length, [], ◌∷◌, Some, IfOk, IfErr};
 ghost use Rattle.csv.specs.Records.{fields_of};
 ghost use Rattle.ee_io.specs.ReadWhole.{TakesAtMost};
 ghost use Rattle.ee_files.specs.Answers.{Gives, WasRead};
@@ -24,6 +24,7 @@ use std::alloc::Global;
 pub fn read_inventory<R: Source>(alloc: Global, reader: &mut R) -> Result<Vec<Bond>, FileFault>
     ensures gives { (source : List ℕ) → R.remaining reader.old ≡ Some source
         → Gives (λ v. v.items) result (bonds_of_file source) }
+    ensures few { IfOk result (λ rows. length rows.items ≤ 501) }
     ensures takes { (source : List ℕ) → R.remaining reader.old ≡ Some source
         → TakesAtMost (most_bytes + 1) source (R.remaining reader.new) }
     ensures failed { IfErr result (λ fault. fault.code ≡ FileCode.ReadFailed → R.may_have_failed reader.new) }

@@ -1,6 +1,6 @@
 //! Records of a file, and their rows under a header.
 
-ghost use Rattle.std.specs.Prelude.{◌+◌, ◌≡◌, ℕ, List, Some, Result, IfOk, IfErr};
+ghost use Rattle.std.specs.Prelude.{◌+◌, ◌≡◌, ◌≤◌, ℕ, List, length, Some, Result, IfOk, IfErr};
 ghost use Rattle.csv.specs.Reading.{default_config, records, strip_bom};
 ghost use Rattle.csv.specs.Records.{fields_of};
 ghost use Rattle.ee_io.specs.ReadWhole.{TakesAtMost};
@@ -60,6 +60,7 @@ fn rows_under_header<T: FileRow>(
 ) -> Result<Vec<T>, FileFault>
     ensures gives { (rest : List (List (List ℕ))) → HasLeft records.old rest
         → Gives (λ v. v.items) result (rows_from (T.entry width) 2 501 rest) }
+    ensures few { IfOk result (λ v. length v.items ≤ 501) }
     ensures read { IfErr result WasRead }
 {
     let mut rows = Vec::new(alloc);
@@ -90,6 +91,7 @@ pub fn reader_of(alloc: Global, bytes: &[u8]) -> Reader<&[u8]>
 fn rows_in<T: FileRow>(alloc: Global, bytes: &[u8]) -> Result<Vec<T>, FileFault>
     ensures gives { Gives (λ v. v.items) result
         (rows_of_records T.headers T.entry (records default_config (strip_bom bytes.now))) }
+    ensures few { IfOk result (λ v. length v.items ≤ 501) }
     ensures read { IfErr result WasRead }
 {
     let mut records = reader_of(alloc, bytes);
@@ -111,6 +113,7 @@ fn rows_in<T: FileRow>(alloc: Global, bytes: &[u8]) -> Result<Vec<T>, FileFault>
 pub fn read_rows<T: FileRow, R: Source>(alloc: Global, reader: &mut R) -> Result<Vec<T>, FileFault>
     ensures gives { (source : List ℕ) → R.remaining reader.old ≡ Some source
         → Gives (λ v. v.items) result (rows_of_file T.headers T.entry source) }
+    ensures few { IfOk result (λ v. length v.items ≤ 501) }
     ensures takes { (source : List ℕ) → R.remaining reader.old ≡ Some source
         → TakesAtMost (most_bytes + 1) source (R.remaining reader.new) }
     ensures failed { IfErr result (λ fault. fault.code ≡ FileCode.ReadFailed → R.may_have_failed reader.new) }

@@ -8,8 +8,8 @@ use Rattle.ee_units.specs.Spelling.{customer_of, month_of, issue_of, day_of}
 use Rattle.ee_wire_calls.specs.Fields.{◌>>=◌}
 use Rattle.ee_wire_calls.specs.declared.faults.Field.{Field}
 use Rattle.ee_wire_calls.specs.declared.faults.Field.TheVariants as at
-use Rattle.ee_wire_calls.specs.declared.calls.Query.{Query}
-use Rattle.ee_wire_calls.specs.declared.calls.Query.TheVariants as ask
+use Rattle.ee_desk_model.specs.declared.queries.Query.{Query}
+use Rattle.ee_desk_model.specs.declared.queries.Query.TheVariants as ask
 use Rattle.ee_wire_calls.specs.declared.routes.Get.{Get}
 use Rattle.ee_wire_calls.specs.declared.routes.Get.TheVariants as get
 

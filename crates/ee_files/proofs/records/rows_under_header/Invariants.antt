@@ -1,4 +1,4 @@
-use Rattle.std.proofs.Common.{◌≡◌, ◌-◌, List, ℕ}
+use Rattle.std.proofs.Common.{◌≡◌, ◌+◌, ◌-◌, List, ℕ, length}
 use Rattle.ee_files.specs.Rows.{rows_from}
 use Rattle.ee_files.specs.Left.{HasLeft}
 use Rattle.ee_files.proofs.Entries.{with_front}
@@ -6,5 +6,8 @@ use Rattle.ee_files.proofs.records.rows_under_header.Given as goal
 
 -- the rows so far, and those of what is left, are those of the whole
 abbrev pub invariant-loop-row : goal.invariant-loop-row
-invariant-loop-row g l = (all : List (List (List ℕ))) → HasLeft l.fn.records all
-    → (rest : List (List (List ℕ))) × HasLeft l.records rest × (with_front l.rows.items (rows_from (g.T.FileRow.entry l.fn.width) l.row (503 - l.row) rest) ≡ rows_from (g.T.FileRow.entry l.fn.width) 2 501 all)
+invariant-loop-row g l = record {
+  count : length l.rows.items + 2 ≡ l.row;
+  left : (all : List (List (List ℕ))) → HasLeft l.fn.records all
+      → (rest : List (List (List ℕ))) × HasLeft l.records rest × (with_front l.rows.items (rows_from (g.T.FileRow.entry l.fn.width) l.row (503 - l.row) rest) ≡ rows_from (g.T.FileRow.entry l.fn.width) 2 501 all);
+}
