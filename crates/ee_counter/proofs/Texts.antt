@@ -17,16 +17,16 @@ use Rattle.ee_calculator.specs.declared.columns.Column.TheVariants as column
 use Rattle.ee_calculator.specs.declared.sheets.Sheet.{Sheet}
 use Rattle.ee_desk_model.specs.Repeats.{Content}
 use Rattle.ee_desk_model.specs.Answers as desk
-use Rattle.ee_desk_model.specs.Queries.{PlainRow, PlainSheet, shown_in_row, shown_in_sheet, ticket_numbered, batch_on}
+use Rattle.ee_desk_model.specs.Queries.{PlainRow, PlainSheet, shown_in_row, shown_in_sheet, ticket_numbered, batch_on, IsInventory, IsQuote}
 use Rattle.ee_desk_model.specs.declared.acts.Request.{Request}
 use Rattle.ee_wire_calls.specs.declared.calls.Call.{Call}
 use Rattle.ee_wire_calls.specs.declared.calls.Call.TheVariants as call
 use Rattle.ee_desk_model.specs.declared.queries.Query.TheVariants as ask
 use Rattle.ee_wire_calls.specs.declared.faults.WireFault.{WireFault}
+use Rattle.ee_wire_calls.specs.declared.faults.WireFault.TheVariants.{NoRoute}
 use Rattle.ee_wire.specs.Answers.{answer_text, whole_text, row_data, number_data, text_or_none}
 use Rattle.ee_wire.specs.declared.answers.Status.TheVariants as status
 use Rattle.ee_wire.specs.declared.answers.Kind.TheVariants as kind
-use Rattle.ee_keeper.specs.Keeping.{IsInventory, IsQuote}
 use Rattle.ee_wire.specs.declared.answers.Answer.{Answer}
 use Rattle.ee_wire.specs.declared.answers.Answer.TheVariants as told
 use Rattle.ee_counter.specs.Answering.{IsAnswer}
@@ -183,6 +183,15 @@ row_is c denom issued month (told.Batch batch) is = absurd is
 row_is c denom issued month (told.Fault fault) is = absurd is
 row_is c denom issued month (told.Unserved cause) is = absurd is
 
+no_route_is : (c : Content) (customer : ℕ) (a : Answer) → IsAnswer c (Ok (call.Query (ask.Bonds customer))) a → a ≡ told.Fault NoRoute
+no_route_is c customer (told.Reply reply) is = absurd is
+no_route_is c customer (told.Sheet sheet) is = absurd is
+no_route_is c customer (told.Row row) is = absurd is
+no_route_is c customer (told.Ticket ticket) is = absurd is
+no_route_is c customer (told.Batch batch) is = absurd is
+no_route_is c customer (told.Fault fault) is = ap (λ g. told.Fault g) is
+no_route_is c customer (told.Unserved cause) is = absurd is
+
 pub one_text : (c : Content) (asked : Result Call WireFault) (one other : Answer) (closing : Bool)
     → IsAnswer c asked one → IsAnswer c asked other → answer_text one closing ≡ answer_text other closing
 one_text c (Ok (call.Request q)) one other closing x y = ap (λ a. answer_text a closing) (reply_is c q one x ∙ sym (reply_is c q other y))
@@ -198,4 +207,6 @@ one_text c (Ok (call.Query (ask.Value denom issued month))) one other closing x 
     let s = row_is c denom issued month one x in
     let t = row_is c denom issued month other y in
     ap (λ a. answer_text a closing) s.1 ∙ row_texts s.0 t.0 closing (s.2 ∙ sym t.2) ∙ ap (λ a. answer_text a closing) (sym t.1)
+one_text c (Ok (call.Query (ask.Bonds customer))) one other closing x y =
+    ap (λ a. answer_text a closing) (no_route_is c customer one x ∙ sym (no_route_is c customer other y))
 one_text c (Err f) one other closing x y = ap (λ a. answer_text a closing) (fault_is c f one x ∙ sym (fault_is c f other y))

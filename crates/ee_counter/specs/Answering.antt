@@ -4,10 +4,11 @@ use Rattle.ee_desk_model.specs.PlainBooks.{PlainBooks}
 use Rattle.ee_desk_model.specs.Repeats.{Content}
 use Rattle.ee_desk_model.specs.Contents.{content_after}
 use Rattle.ee_desk_model.specs.Answers as desk
-use Rattle.ee_desk_model.specs.Queries.{ticket_numbered, batch_on}
+use Rattle.ee_desk_model.specs.Queries.{ShowsQuery}
+use Rattle.ee_desk_model.specs.declared.queries.Shown.TheVariants as shown
+use Rattle.ee_desk_model.specs.declared.acts.Request.{Request}
 use Rattle.ee_desk_model.specs.declared.refusals.Unserved.{Unserved}
 use Rattle.ee_desk_laws.specs.Attempts.{Attempt}
-use Rattle.ee_keeper.specs.Keeping.{IsInventory, IsQuote}
 use Rattle.ee_wire_framing.specs.Framing.{Message}
 use Rattle.ee_wire_calls.specs.Calls.{decoded}
 use Rattle.ee_wire_calls.specs.declared.calls.Call.{Call}
@@ -15,6 +16,7 @@ use Rattle.ee_wire_calls.specs.declared.calls.Call.TheVariants as call
 use Rattle.ee_desk_model.specs.declared.queries.Query.{Query}
 use Rattle.ee_desk_model.specs.declared.queries.Query.TheVariants as ask
 use Rattle.ee_wire_calls.specs.declared.faults.WireFault.{WireFault}
+use Rattle.ee_wire_calls.specs.declared.faults.WireFault.TheVariants.{NoRoute}
 use Rattle.ee_wire.specs.declared.answers.Answer.{Answer}
 use Rattle.ee_wire.specs.declared.answers.Answer.TheVariants as told
 
@@ -22,18 +24,19 @@ use Rattle.ee_wire.specs.declared.answers.Answer.TheVariants as told
 abbrev pub call_of : Message → Result Call WireFault
 call_of m = decoded m.target m.method m.body
 
--- the answer of the books to a query
-abbrev pub ShowsQuery : PlainBooks → Query → Answer → Type 0
-ShowsQuery books (ask.Inventory customer month) (told.Sheet sheet) = IsInventory books customer month sheet
-ShowsQuery books (ask.Ticket number) (told.Ticket ticket) = ticket ≡ ticket_numbered books number
-ShowsQuery books (ask.Batch day) (told.Batch batch) = batch ≡ batch_on books day
-ShowsQuery books (ask.Value denom issued month) (told.Row row) = IsQuote books denom issued month row
-ShowsQuery books _ _ = ⊥
+-- the answer to a query is what the books show; no message asks for the list of bonds, which has no route
+abbrev pub AnswersQuery : PlainBooks → Query → Answer → Type 0
+AnswersQuery books (ask.Inventory customer month) (told.Sheet sheet) = ShowsQuery books (ask.Inventory customer month) (shown.Sheet sheet)
+AnswersQuery books (ask.Ticket number) (told.Ticket ticket) = ShowsQuery books (ask.Ticket number) (shown.Ticket ticket)
+AnswersQuery books (ask.Batch day) (told.Batch batch) = ShowsQuery books (ask.Batch day) (shown.Batch batch)
+AnswersQuery books (ask.Value denom issued month) (told.Row row) = ShowsQuery books (ask.Value denom issued month) (shown.Row row)
+AnswersQuery books (ask.Bonds customer) (told.Fault fault) = fault ≡ NoRoute
+AnswersQuery books _ _ = ⊥
 
 -- the answer to a request is the one reply to it, to a query what the books show, and to a fault that fault
 abbrev pub IsAnswer : Content → Result Call WireFault → Answer → Type 0
 IsAnswer c (Ok (call.Request request)) (told.Reply reply) = reply ≡ desk.answer c [] request
-IsAnswer c (Ok (call.Query query)) answer = ShowsQuery c.books query answer
+IsAnswer c (Ok (call.Query query)) answer = AnswersQuery c.books query answer
 IsAnswer c (Err fault) (told.Fault other) = other ≡ fault
 IsAnswer c _ _ = ⊥
 
@@ -69,3 +72,13 @@ Answers c call answer Has = IsRight c call answer × Has (left_after c call answ
 abbrev pub AnswersUnless : Content → Result Call WireFault → Result Answer Unserved → (Content → List Attempt → Type 0) → Type 0
 AnswersUnless c call (Ok answer) Has = IsAnswer c call answer × Has (after_call c call) (attempts_in call answer)
 AnswersUnless c call (Err unserved) Has = Has c (attempts_in call (told.Unserved unserved))
+
+-- the texts of a request in a call fit the store
+abbrev pub FitsCall : (Content → Request → Type 0) → Content → Result Call WireFault → Type 0
+FitsCall fits c (Ok (call.Request request)) = fits c request
+FitsCall fits c (Ok (call.Query query)) = ⊤
+FitsCall fits c (Err fault) = ⊤
+
+-- so do the texts of each request that a message can ask for, whatever the store has
+abbrev pub FitMessages : (Content → Request → Type 0) → Type 0
+FitMessages fits = (c : Content) (m : Message) → FitsCall fits c (call_of m)

@@ -1,7 +1,8 @@
 -- Imports and exports of files.
-use Rattle.std.specs.Prelude.{◌≡◌, ℕ, List, [], length, Option, Some, Result, Ok, Err, true, false}
+use Rattle.std.specs.Prelude.{◌≡◌, ◌≤◌, ℕ, List, [], length, Option, Some, Result, Ok, Err, true, false}
 use Rattle.ee_io.specs.Written.{WritesFront}
 use Rattle.ee_desk_model.specs.declared.acts.Act.{Act}
+use Rattle.ee_desk_model.specs.declared.acts.Request.{Request}
 use Rattle.ee_desk_model.specs.declared.replies.Reply.{Reply}
 use Rattle.ee_desk_model.specs.Numbers.{RequestKey, numbered}
 use Rattle.ee_desk_model.specs.Repeats.{Content}
@@ -47,3 +48,7 @@ Exports old new customer c (Ok count) Has =
 Exports old new customer c (Err export.WriteFailed) Has =
     WritesFront old new (inventory_text (bonds_of c.books customer)) false × Has c []
 Exports old new customer c (Err (export.Unserved cause)) Has = (new ≡ old) × Has c []
+
+-- the texts of a request of a file's rows fit the store
+abbrev pub FitRows : {A : Type 0} → (Content → Request → Type 0) → Content → RequestKey → (List A → Act) → Type 0
+FitRows {A} fits c number act_of = (rows : List A) → length rows ≤ 501 → fits c (numbered number (act_of rows))

@@ -1,11 +1,11 @@
 //! Serving a connection.
 
-ghost use Rattle.std.specs.Prelude.{◌≡◌, ◌<◌, ◌≤◌, ◌+◌, ◌||◌, ◌==◌, true, None, ⊤};
+ghost use Rattle.std.specs.Prelude.{◌≡◌, ◌⊎◌, ◌<◌, ◌≤◌, ◌+◌, ◌||◌, ◌==◌, ℕ, true, None, ⊤};
 ghost use Rattle.std.specs.ControlFlow.{MatchControlFlow};
 ghost use Rattle.ee_desk_model.specs.Repeats.{Content};
-ghost use Rattle.ee_keeper.specs.Keeping.{HasAfter};
+ghost use Rattle.ee_keeper.specs.Keeping.{Continues, FailedIn, HasAfter};
 ghost use Rattle.ee_wire_framing.specs.Reading.{message_in};
-ghost use Rattle.ee_counter.specs.Answering.{Answers, call_of};
+ghost use Rattle.ee_counter.specs.Answering.{Answers, FitMessages, FitsCall, call_of};
 ghost use Rattle.ee_counter.specs.Serving.{Serves, Turns, AnswersOne, DeviceFailsOnlyIf, FlowDeviceFailsOnlyIf, FlowFailsOnlyIf, Refuses, tells_failure, most_messages};
 
 use crate::answering::answer_decoded;
@@ -78,10 +78,14 @@ fn answer_to<K: Keeper>(
     buffer: &Buffer,
     message: Message,
 ) -> Answer
-    ensures clean { K.is_clean keeper.new → K.is_clean keeper.old }
+    ensures continues { Continues K.is_clean K.is_guarded K.is_open K.faults keeper.old keeper.new }
     ensures answers { K.is_clean keeper.new → (c : Content) → K.has keeper.old c
         → Answers c (call_of (message_in buffer.now.shown message)) result (HasAfter (K.has keeper.new) (K.went keeper.old) (K.went keeper.new)) }
     ensures failed { tells_failure result ≡ true → K.may_fail }
+    ensures ready { K.is_clean keeper.new → (c : Content) → K.has keeper.old c → (n : ℕ) → K.takes (n + 1) keeper.old → K.takes n keeper.new }
+    ensures cause { K.is_clean keeper.new → (c : Content) → K.has keeper.old c → (n : ℕ) → K.takes (n + 1) keeper.old
+        → FitsCall K.fits c (call_of (message_in buffer.now.shown message))
+        → tells_failure result ≡ true → FailedIn K.is_open K.faults keeper.old keeper.new }
 {
     let target = buffer.part(message.target);
     let method = buffer.part(message.method);
@@ -102,12 +106,16 @@ fn answer_one<K: Keeper, W: Sink>(
 ) -> ControlFlow<Ended, bool>
     requires few { messages < most_messages }
     requires failed { store_failed ≡ true → K.may_fail }
-    ensures clean { K.is_clean keeper.new → K.is_clean keeper.old }
+    ensures continues { Continues K.is_clean K.is_guarded K.is_open K.faults keeper.old keeper.new }
     ensures answers { K.is_clean keeper.new → (c : Content) → K.has keeper.old c
         → AnswersOne (message_in buffer.now.shown message) (W.contents writer.old) (W.contents writer.new) c messages store_failed result (HasAfter (K.has keeper.new) (K.went keeper.old) (K.went keeper.new)) }
     ensures few { MatchControlFlow result (λ failed. ⊤) (λ ended. ended.messages ≤ most_messages) }
     ensures device { FlowDeviceFailsOnlyIf ⊥ (W.may_have_failed writer.new) result }
     ensures failed { FlowFailsOnlyIf K.may_fail result }
+    ensures ready { K.is_clean keeper.new → (c : Content) → K.has keeper.old c → (n : ℕ) → K.takes (n + 1) keeper.old → K.takes n keeper.new }
+    ensures cause { K.is_clean keeper.new → (c : Content) → K.has keeper.old c → (n : ℕ) → K.takes (n + 1) keeper.old
+        → FitsCall K.fits c (call_of (message_in buffer.now.shown message))
+        → FlowFailsOnlyIf ((store_failed ≡ true) ⊎ FailedIn K.is_open K.faults keeper.old keeper.new) result }
 {
     let closing = is_last(message.closes, messages);
     let answer = answer_to(decoder, keeper, buffer, message);
@@ -180,7 +188,7 @@ fn turn<K: Keeper, R: Source, W: Sink>(
     requires few { messages < most_messages }
     requires open { buffer.old.ended ≡ None }
     requires failed { store_failed ≡ true → K.may_fail }
-    ensures clean { K.is_clean keeper.new → K.is_clean keeper.old }
+    ensures continues { Continues K.is_clean K.is_guarded K.is_open K.faults keeper.old keeper.new }
     ensures turns { K.is_clean keeper.new → (c : Content) → K.has keeper.old c
         → Turns buffer.old.held buffer.new.held (R.remaining reader.old) (R.remaining reader.new)
         (W.contents writer.old) (W.contents writer.new) c messages store_failed result (HasAfter (K.has keeper.new) (K.went keeper.old) (K.went keeper.new)) }
@@ -188,6 +196,9 @@ fn turn<K: Keeper, R: Source, W: Sink>(
     ensures few { MatchControlFlow result (λ failed. ⊤) (λ ended. ended.messages ≤ most_messages) }
     ensures device { FlowDeviceFailsOnlyIf (R.may_have_failed reader.new) (W.may_have_failed writer.new) result }
     ensures failed { FlowFailsOnlyIf K.may_fail result }
+    ensures ready { K.is_clean keeper.new → (c : Content) → K.has keeper.old c → (n : ℕ) → K.takes (n + 1) keeper.old → K.takes n keeper.new }
+    ensures cause { K.is_clean keeper.new → (c : Content) → K.has keeper.old c → (n : ℕ) → K.takes (n + 1) keeper.old → FitMessages K.fits
+        → FlowFailsOnlyIf ((store_failed ≡ true) ⊎ FailedIn K.is_open K.faults keeper.old keeper.new) result }
 {
     match next_message(reader, buffer) {
         Ok(Next::Message(message)) => answer_one(
@@ -230,19 +241,24 @@ fn turn<K: Keeper, R: Source, W: Sink>(
 /// the reader fails, the bytes that were read contain no further whole message. If an answer said that the
 /// store failed, the result says so, whatever ended the connection; a store that can't fail never does. The
 /// claims are about any content `c` that the keeper had, and hold if its store is clean at the end. Each request is
-/// an event in the history of the store (`HasAfter`), whether its reply arrives or not.
+/// an event in the history of the store (`HasAfter`), whether its reply arrives or not. If the keeper takes 1,000
+/// requests more, and the texts of all requests fit, an answer says that the store failed only if a device failed,
+/// or the store was shut before (`cause`).
 pub fn serve<K: Keeper, R: Source, W: Sink>(
     alloc: Global,
     keeper: &mut K,
     reader: &mut R,
     writer: &mut W,
 ) -> Ended
-    ensures clean { K.is_clean keeper.new → K.is_clean keeper.old }
+    ensures continues { Continues K.is_clean K.is_guarded K.is_open K.faults keeper.old keeper.new }
     ensures serves { K.is_clean keeper.new → (c : Content) → K.has keeper.old c
         → Serves (R.remaining reader.old) (R.remaining reader.new) (W.contents writer.old) (W.contents writer.new) c result (HasAfter (K.has keeper.new) (K.went keeper.old) (K.went keeper.new)) }
     ensures few { result.messages ≤ most_messages }
     ensures device { DeviceFailsOnlyIf (R.may_have_failed reader.new) (W.may_have_failed writer.new) result.why }
     ensures failed { result.store_failed ≡ true → K.may_fail }
+    ensures ready { K.is_clean keeper.new → (c : Content) → K.has keeper.old c → (n : ℕ) → K.takes (n + most_messages) keeper.old → K.takes n keeper.new }
+    ensures cause { K.is_clean keeper.new → (c : Content) → K.has keeper.old c → (n : ℕ) → K.takes (n + most_messages) keeper.old → FitMessages K.fits
+        → result.store_failed ≡ true → FailedIn K.is_open K.faults keeper.old keeper.new }
 {
     let decoder = Decoder::new(alloc);
     let mut buffer = Buffer::new(alloc);

@@ -4,11 +4,11 @@ ghost use Rattle.std.specs.Prelude.{◌+◌, ◌≡◌, ℕ, List, Some, IfErr};
 ghost use Rattle.ee_desk_model.specs.declared.acts.Act.TheVariants as act;
 ghost use Rattle.ee_desk_model.specs.declared.refusals.Unserved.TheVariants.{StoreFailed};
 ghost use Rattle.ee_desk_model.specs.Repeats.{Content};
-ghost use Rattle.ee_keeper.specs.Keeping.{HasAfter};
+ghost use Rattle.ee_keeper.specs.Keeping.{Continues, FailedIn, HasAfter};
 ghost use Rattle.ee_io.specs.ReadWhole.{TakesAtMost};
 ghost use Rattle.ee_files.specs.BondFile.{bonds_of_file};
 ghost use Rattle.ee_files.specs.RateFile.{rates_of_file};
-ghost use Rattle.ee_counter.specs.Filing.{Imports, Exports, IsFailedRead};
+ghost use Rattle.ee_counter.specs.Filing.{Imports, Exports, FitRows, IsFailedRead};
 ghost use Rattle.ee_files.specs.Rows.{most_bytes};
 
 use ee_desk_model::{Act, Desk, Number, Reply, Request, Rows, Unserved};
@@ -51,12 +51,16 @@ pub fn import_rates<K: Keeper, R: Source>(
     number: Number,
     reader: &mut R,
 ) -> Result<Reply, ImportFault>
-    ensures clean { K.is_clean keeper.new → K.is_clean keeper.old }
+    ensures continues { Continues K.is_clean K.is_guarded K.is_open K.faults keeper.old keeper.new }
     ensures imports { K.is_clean keeper.new → (c : Content) → K.has keeper.old c
         → Imports rates_of_file act.AddRates (R.remaining reader.old) (desk, number) c result (HasAfter (K.has keeper.new) (K.went keeper.old) (K.went keeper.new)) }
     ensures takes { (source : List ℕ) → R.remaining reader.old ≡ Some source → TakesAtMost (most_bytes + 1) source (R.remaining reader.new) }
     ensures device { IfErr result (λ fault. IsFailedRead fault → R.may_have_failed reader.new) }
     ensures failed { IfErr result (λ fault. fault ≡ ImportFault.Unserved StoreFailed → K.may_fail) }
+    ensures ready { K.is_clean keeper.new → (c : Content) → K.has keeper.old c → (n : ℕ) → K.takes (n + 1) keeper.old → K.takes n keeper.new }
+    ensures cause { K.is_clean keeper.new → (c : Content) → K.has keeper.old c → (n : ℕ) → K.takes (n + 1) keeper.old
+        → FitRows K.fits c (desk, number) act.AddRates
+        → IfErr result (λ fault. fault ≡ ImportFault.Unserved StoreFailed → FailedIn K.is_open K.faults keeper.old keeper.new) }
 {
     let rows = match read_rates(alloc, reader) {
         Ok(rows) => rows,
@@ -83,12 +87,16 @@ pub fn import_inventory<K: Keeper, R: Source>(
     number: Number,
     reader: &mut R,
 ) -> Result<Reply, ImportFault>
-    ensures clean { K.is_clean keeper.new → K.is_clean keeper.old }
+    ensures continues { Continues K.is_clean K.is_guarded K.is_open K.faults keeper.old keeper.new }
     ensures imports { K.is_clean keeper.new → (c : Content) → K.has keeper.old c
         → Imports bonds_of_file act.AddBonds (R.remaining reader.old) (desk, number) c result (HasAfter (K.has keeper.new) (K.went keeper.old) (K.went keeper.new)) }
     ensures takes { (source : List ℕ) → R.remaining reader.old ≡ Some source → TakesAtMost (most_bytes + 1) source (R.remaining reader.new) }
     ensures device { IfErr result (λ fault. IsFailedRead fault → R.may_have_failed reader.new) }
     ensures failed { IfErr result (λ fault. fault ≡ ImportFault.Unserved StoreFailed → K.may_fail) }
+    ensures ready { K.is_clean keeper.new → (c : Content) → K.has keeper.old c → (n : ℕ) → K.takes (n + 1) keeper.old → K.takes n keeper.new }
+    ensures cause { K.is_clean keeper.new → (c : Content) → K.has keeper.old c → (n : ℕ) → K.takes (n + 1) keeper.old
+        → FitRows K.fits c (desk, number) act.AddBonds
+        → IfErr result (λ fault. fault ≡ ImportFault.Unserved StoreFailed → FailedIn K.is_open K.faults keeper.old keeper.new) }
 {
     let bonds = match read_inventory(alloc, reader) {
         Ok(bonds) => bonds,
@@ -113,11 +121,14 @@ pub fn export_inventory<K: Keeper, W: Sink>(
     customer: Customer,
     writer: &mut W,
 ) -> Result<u64, ExportFault>
-    ensures clean { K.is_clean keeper.new → K.is_clean keeper.old }
+    ensures continues { Continues K.is_clean K.is_guarded K.is_open K.faults keeper.old keeper.new }
     ensures exports { K.is_clean keeper.new → (c : Content) → K.has keeper.old c
         → Exports (W.contents writer.old) (W.contents writer.new) customer c result (HasAfter (K.has keeper.new) (K.went keeper.old) (K.went keeper.new)) }
     ensures device { IfErr result (λ fault. fault ≡ ExportFault.WriteFailed → W.may_have_failed writer.new) }
     ensures failed { IfErr result (λ fault. fault ≡ ExportFault.Unserved StoreFailed → K.may_fail) }
+    ensures ready { K.is_clean keeper.new → (c : Content) → K.has keeper.old c → (n : ℕ) → K.takes n keeper.old → K.takes n keeper.new }
+    ensures cause { K.is_clean keeper.new → (c : Content) → K.has keeper.old c → (n : ℕ) → K.takes n keeper.old
+        → IfErr result (λ fault. fault ≡ ExportFault.Unserved StoreFailed → FailedIn K.is_open K.faults keeper.old keeper.new) }
 {
     let bonds = match keeper.bonds_of(customer) {
         Ok(bonds) => bonds,

@@ -9,7 +9,7 @@ ghost use Rattle.ee_desk_model.specs.Conserved.{IsConserved};
 ghost use Rattle.ee_desk_model.specs.Contents.{content_after, books_after};
 ghost use Rattle.ee_desk_model.specs.Answers.{served, AreAnswers};
 ghost use Rattle.ee_desk_laws.specs.Attempts.{LeadOn};
-ghost use Rattle.ee_keeper.specs.Keeping.{FailsOnlyIf, HasCause, IsShutByCause};
+ghost use Rattle.ee_keeper.specs.Keeping.{Continues, FailsOnlyIf, FailedIn};
 ghost use Rattle.ee_counter.specs.Served.{FitInTurn, attempts_at};
 
 use crate::soundness::known;
@@ -52,15 +52,14 @@ pub fn run<K: Keeper>(
     // failed during the run, or the store was shut before.
     ensures cause { K.is_clean keeper.new → (c : Content) → K.has keeper.old c → K.takes (length requests.now) keeper.old
         → IfOk result (λ answers. FitInTurn K.fits c [] requests.now answers.items
-        → AllByRecursion (FailsOnlyIf (HasCause (K.faults keeper.old) (K.faults keeper.new) (K.is_open keeper.old))) answers.items) }
-    ensures shut { K.is_clean keeper.new
-        → IsShutByCause (K.faults keeper.old) (K.faults keeper.new) (K.is_open keeper.old) (K.is_open keeper.new) }
+        → AllByRecursion (FailsOnlyIf (FailedIn K.is_open K.faults keeper.old keeper.new)) answers.items) }
+    // No failure is forgotten, only a failure shuts the store, and a store that is clean at the end was so at the start.
+    ensures continues { Continues K.is_clean K.is_guarded K.is_open K.faults keeper.old keeper.new }
     // Each request leaves the keeper one less to take.
     ensures ready { K.is_clean keeper.new → (c : Content) → K.has keeper.old c
         → OnOk result ((n : ℕ) → K.takes (n + length requests.now) keeper.old → K.takes n keeper.new) }
     // Each request is an event in the history of the store, whether its reply arrives or is lost, or it isn't served.
     ensures goes { K.is_clean keeper.new → IfOk result (λ answers. LeadOn (K.went keeper.old) (attempts_at requests.now answers.items) (K.went keeper.new)) }
-    ensures clean { K.is_clean keeper.new → K.is_clean keeper.old }
     ensures err { OnErr result (keeper.new ≡ keeper.old) }
 {
     let mut answers = Vec::with_capacity(alloc, requests.len())?;

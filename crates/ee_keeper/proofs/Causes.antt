@@ -1,5 +1,5 @@
 -- Why a keeper's answers say that the store failed, over several calls.
-use Rattle.std.proofs.Common.{◌≡◌, inl, inr, ℕ, ◌≤◌, ◌⊎◌, Bool, true, false, List, [], ◌∷◌, ◌++◌, Result, Ok, Err, refl, sym, subst, arith}
+use Rattle.std.proofs.Common.{◌≡◌, inl, inr, ℕ, zero, suc, ◌+◌, ◌-◌, add-zero, ◌≤◌, ◌⊎◌, Bool, true, false, List, [], ◌∷◌, ◌++◌, Result, Ok, Err, refl, sym, subst, arith}
 use Rattle.std.specs.List.{AllByRecursion}
 use Rattle.ee_desk_model.specs.declared.refusals.Unserved.{Unserved}
 use Rattle.ee_keeper.specs.Keeping.{Continues, FailsOnlyIf, FailedIn, HasFailed, HasCause, IsShutByCause}
@@ -59,3 +59,17 @@ module _ {Keeper : Type 0} (is_clean is_guarded : Keeper → Type 0) (is_open : 
       → FailedIn is_open faults now new → FailedIn is_open faults old new
   failed_after old now new clean first second failed =
       cause_since (faults old) (faults now) (faults new) (is_open old) (is_open now) (first.shut (second.clean clean)) (second.shut clean).0 failed
+
+  -- a cause that was there before a call, or one in it, is one of both
+  pub failed_in_turn : (old now new : Keeper) (Was : Type 0) → is_clean new → Continues is_clean is_guarded is_open faults old now → Continues is_clean is_guarded is_open faults now new
+      → (Was → FailedIn is_open faults old now) → Was ⊎ FailedIn is_open faults now new → FailedIn is_open faults old new
+  failed_in_turn old now new Was clean first second before (inl was) = failed_before old now new clean second (before was)
+  failed_in_turn old now new Was clean first second before (inr failed) = failed_after old now new clean first second failed
+
+-- a keeper that takes some requests takes fewer
+pub takes_fewer : {Keeper : Type 0} (takes : ℕ → Keeper → Type 0) (k : Keeper) → ((n : ℕ) → takes (n + 1) k → takes n k) → (few many : ℕ) → few ≤ many → takes many k → takes few k
+takes_fewer takes k fewer few many less taken = go (many - few) (subst (λ m. takes m k) (let is : many ≡ few + (many - few) = omega (arith, less) in is) taken)
+  where
+    go : (n : ℕ) → takes (few + n) k → takes few k
+    go zero taken = subst (λ m. takes m k) (add-zero few) taken
+    go (suc n) taken = go n (fewer (few + n) (subst (λ m. takes m k) (let is : few + suc n ≡ (few + n) + 1 = omega arith in is) taken))

@@ -1,5 +1,5 @@
 -- Lemmas that the proofs of crates above use.
-use Rattle.std.proofs.Common.{◌≡◌, ℕ, ◌≤◌, Bool, List, Result}
+use Rattle.std.proofs.Common.{◌≡◌, ◌⊎◌, ℕ, ◌+◌, ◌≤◌, Bool, List, Result}
 use Rattle.std.specs.List.{AllByRecursion}
 use Rattle.ee_desk_model.specs.declared.refusals.Unserved.{Unserved}
 use Rattle.ee_keeper.specs.Keeping.{Continues, FailsOnlyIf, FailedIn, HasCause, IsShutByCause}
@@ -45,3 +45,12 @@ module _ {Keeper : Type 0} (is_clean is_guarded : Keeper → Type 0) (is_open : 
   pub failed_after : (old now new : Keeper) → is_clean new → Continues is_clean is_guarded is_open faults old now → Continues is_clean is_guarded is_open faults now new
       → FailedIn is_open faults now new → FailedIn is_open faults old new
   failed_after = Causes.failed_after is_clean is_guarded is_open faults
+
+  -- a cause that was there before a call, or one in it, is one of both
+  pub failed_in_turn : (old now new : Keeper) (Was : Type 0) → is_clean new → Continues is_clean is_guarded is_open faults old now → Continues is_clean is_guarded is_open faults now new
+      → (Was → FailedIn is_open faults old now) → Was ⊎ FailedIn is_open faults now new → FailedIn is_open faults old new
+  failed_in_turn = Causes.failed_in_turn is_clean is_guarded is_open faults
+
+-- a keeper that takes some requests takes fewer
+pub takes_fewer : {Keeper : Type 0} (takes : ℕ → Keeper → Type 0) (k : Keeper) → ((n : ℕ) → takes (n + 1) k → takes n k) → (few many : ℕ) → few ≤ many → takes many k → takes few k
+takes_fewer = Causes.takes_fewer

@@ -9,9 +9,9 @@ ghost use Rattle.ee_units.specs.Spelling.{customer_of, day_of, issue_of, month_o
 ghost use Rattle.ee_wire_calls.specs.declared.faults.Field.TheVariants as at;
 ghost use Rattle.ee_wire_calls.specs.declared.routes.Get.TheVariants as Get;
 
-use crate::calls::Query;
 use crate::faults::Field;
 use crate::routes::Get;
+use ee_desk_model::Query;
 use ee_units::{
     Customer, Day, Denom, IssueMonth, Month, read_customer, read_day, read_denom, read_issue,
     read_month,

@@ -1,5 +1,6 @@
-use Rattle.std.proofs.Common.{◌∙◌, refl, sym, subst, arith, List, ℕ, Some, Err}
+use Rattle.std.proofs.Common.{◌≡◌, ◌⊎◌, ◌∙◌, inl, inr, true, refl, sym, subst, arith, List, ℕ, Some, Err}
 use Rattle.std.specs.Io.KnownBytes.{Appends}
+use Rattle.ee_keeper.specs.Keeping.{FailedIn}
 use Rattle.ee_wire_framing.specs.Reading.{message_in}
 use Rattle.ee_wire.specs.Answers.{answer_text, WritesAnswer}
 use Rattle.ee_wire.specs.declared.answers.WriteEnd.{WriteEnd}
@@ -90,3 +91,23 @@ returns-in-Err-WriteFailed-clause-device g c = c.in-Err-WriteFailed.ensures.fail
 
 pub returns-clause-device : goal.returns-clause-device
 returns-clause-device g c = tt
+
+pub returns-in-Ok-clause-cause : goal.returns-in-Ok-clause-cause
+returns-in-Ok-clause-cause g c = λ clean d has n takes fits yes.
+    either (tells_failure c.answer_to-answer.result) c.args.store_failed ((c.args.store_failed ≡ true) ⊎ FailedIn g.K.Keeper.is_open g.K.Keeper.faults c.args.keeper.now c.answer_to-answer.new.keeper)
+    (λ told. inr (c.answer_to-answer.ensures.cause clean d has n takes fits told)) (λ before. inl before) (sym c.has_failed-store_failed.ensures ∙ yes)
+
+pub returns-in-Ok-2-clause-cause : goal.returns-in-Ok-2-clause-cause
+returns-in-Ok-2-clause-cause g c = λ clean d has n takes fits yes.
+    either (tells_failure c.answer_to-answer.result) c.args.store_failed ((c.args.store_failed ≡ true) ⊎ FailedIn g.K.Keeper.is_open g.K.Keeper.faults c.args.keeper.now c.answer_to-answer.new.keeper)
+    (λ told. inr (c.answer_to-answer.ensures.cause clean d has n takes fits told)) (λ before. inl before) (sym c.has_failed-store_failed.ensures ∙ yes)
+
+pub returns-in-Err-WriteFailed-clause-cause : goal.returns-in-Err-WriteFailed-clause-cause
+returns-in-Err-WriteFailed-clause-cause g c = λ clean d has n takes fits yes.
+    either (tells_failure c.answer_to-answer.result) c.args.store_failed ((c.args.store_failed ≡ true) ⊎ FailedIn g.K.Keeper.is_open g.K.Keeper.faults c.args.keeper.now c.answer_to-answer.new.keeper)
+    (λ told. inr (c.answer_to-answer.ensures.cause clean d has n takes fits told)) (λ before. inl before) (sym c.has_failed-store_failed.ensures ∙ yes)
+
+pub returns-clause-cause : goal.returns-clause-cause
+returns-clause-cause g c = λ clean d has n takes fits yes.
+    either (tells_failure c.answer_to-answer.result) c.args.store_failed ((c.args.store_failed ≡ true) ⊎ FailedIn g.K.Keeper.is_open g.K.Keeper.faults c.args.keeper.now c.answer_to-answer.new.keeper)
+    (λ told. inr (c.answer_to-answer.ensures.cause clean d has n takes fits told)) (λ before. inl before) (sym c.has_failed-store_failed.ensures ∙ yes)

@@ -1,9 +1,10 @@
-use Rattle.std.proofs.Common.{◌≡◌, subst, Ok, Err}
+use Rattle.std.proofs.Common.{◌≡◌, ◌∙◌, inl, sym, subst, Ok, Err}
 use Rattle.ee_wire_framing.specs.declared.buffer.Next.{Next}
 use Rattle.ee_wire_framing.specs.declared.buffer.WireEnd.{WireEnd}
-use Rattle.ee_wire_framing.specs.Reading.{Settles, stop_of}
+use Rattle.ee_wire_framing.specs.Reading.{message_in, Settles, stop_of}
 use Rattle.ee_desk_laws.proofs.Lemmas.{lead_nowhere}
 use Rattle.ee_keeper.specs.Keeping.{HasAfter}
+use Rattle.ee_keeper.proofs.Lemmas.{continues_itself}
 use Rattle.ee_counter.proofs.Turns.{goes_on, turn_closed, turn_failed, turn_refused, turn_starved, turn_told, writer_alone, writer_in_flow}
 use Rattle.ee_counter.proofs.connections.turn.Goals as goal
 
@@ -73,3 +74,43 @@ returns-in-Err-ReadFailed-clause-device g c = c.in-Err-ReadFailed.ensures.failed
 
 pub returns-in-Err-NoMemory-clause-device : goal.returns-in-Err-NoMemory-clause-device
 returns-in-Err-NoMemory-clause-device g c = tt
+
+pub returns-in-Ok-Message-clause-cause : goal.returns-in-Ok-Message-clause-cause
+returns-in-Ok-Message-clause-cause g c = λ clean d has n takes fit.
+    c.answer_one.ensures.cause clean d has n takes (fit d (message_in c.next_message.new.buffer.shown c.in-Ok-Message.message))
+
+pub returns-in-Ok-End-clause-cause : goal.returns-in-Ok-End-clause-cause
+returns-in-Ok-End-clause-cause g c = λ clean d has n takes fit yes. inl yes
+
+pub returns-in-Err-Fault-clause-cause : goal.returns-in-Err-Fault-clause-cause
+returns-in-Err-Fault-clause-cause g c = λ clean d has n takes fit yes. inl (sym c.refuse.ensures.failed ∙ yes)
+
+pub returns-in-Err-ReadFailed-clause-cause : goal.returns-in-Err-ReadFailed-clause-cause
+returns-in-Err-ReadFailed-clause-cause g c = λ clean d has n takes fit yes. inl yes
+
+pub returns-in-Err-NoMemory-clause-cause : goal.returns-in-Err-NoMemory-clause-cause
+returns-in-Err-NoMemory-clause-cause g c = λ clean d has n takes fit yes. inl yes
+
+pub returns-in-Ok-End-clause-ready : goal.returns-in-Ok-End-clause-ready
+returns-in-Ok-End-clause-ready g c = λ clean d has n takes. g.met.K.Keeper.fewer c.args.keeper.now n takes
+
+pub returns-in-Ok-End-clause-continues : goal.returns-in-Ok-End-clause-continues
+returns-in-Ok-End-clause-continues g c = continues_itself g.K.Keeper.is_clean g.K.Keeper.is_guarded g.K.Keeper.is_open g.K.Keeper.faults c.args.keeper.now
+
+pub returns-in-Err-Fault-clause-ready : goal.returns-in-Err-Fault-clause-ready
+returns-in-Err-Fault-clause-ready g c = λ clean d has n takes. g.met.K.Keeper.fewer c.args.keeper.now n takes
+
+pub returns-in-Err-Fault-clause-continues : goal.returns-in-Err-Fault-clause-continues
+returns-in-Err-Fault-clause-continues g c = continues_itself g.K.Keeper.is_clean g.K.Keeper.is_guarded g.K.Keeper.is_open g.K.Keeper.faults c.args.keeper.now
+
+pub returns-in-Err-ReadFailed-clause-ready : goal.returns-in-Err-ReadFailed-clause-ready
+returns-in-Err-ReadFailed-clause-ready g c = λ clean d has n takes. g.met.K.Keeper.fewer c.args.keeper.now n takes
+
+pub returns-in-Err-ReadFailed-clause-continues : goal.returns-in-Err-ReadFailed-clause-continues
+returns-in-Err-ReadFailed-clause-continues g c = continues_itself g.K.Keeper.is_clean g.K.Keeper.is_guarded g.K.Keeper.is_open g.K.Keeper.faults c.args.keeper.now
+
+pub returns-in-Err-NoMemory-clause-ready : goal.returns-in-Err-NoMemory-clause-ready
+returns-in-Err-NoMemory-clause-ready g c = λ clean d has n takes. g.met.K.Keeper.fewer c.args.keeper.now n takes
+
+pub returns-in-Err-NoMemory-clause-continues : goal.returns-in-Err-NoMemory-clause-continues
+returns-in-Err-NoMemory-clause-continues g c = continues_itself g.K.Keeper.is_clean g.K.Keeper.is_guarded g.K.Keeper.is_open g.K.Keeper.faults c.args.keeper.now
