@@ -50,6 +50,10 @@ serves_at c e Has s =
       x.3,
     )
 
+-- a content that a connection leaves, and the attempts that led there
+pub left_of : (c : Content) (e : Ended) (Has : Content → List Attempt → Type 0) → ServesSocket c e Has → (d : Content) × ((these : List Attempt) × Has d these)
+left_of c e Has s = let x = serves_at c e Has s in (x.0, (x.1, x.3))
+
 first_false : (a b : Bool) → (a || b) ≡ false → a ≡ false
 first_false true b none = none
 first_false false b none = refl

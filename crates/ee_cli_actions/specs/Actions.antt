@@ -12,8 +12,10 @@ use Rattle.ee_desk_model.specs.declared.refusals.Unserved.{Unserved}
 use Rattle.ee_desk_laws.specs.Attempts.{Attempt}
 use Rattle.ee_files.specs.RateFile.{rates_of_file}
 use Rattle.ee_files.specs.BondFile.{bonds_of_file}
-use Rattle.ee_keeper.specs.Keeping.{IsInventory, Shows}
-use Rattle.ee_counter.specs.Filing.{Imports, Exports}
+use Rattle.ee_desk_model.specs.Queries.{IsInventory}
+use Rattle.ee_desk_model.specs.declared.acts.Request.{Request}
+use Rattle.ee_keeper.specs.Keeping.{Shows}
+use Rattle.ee_counter.specs.Filing.{Imports, Exports, FitRows}
 use Rattle.ee_counter.specs.Serving.{Serves}
 use Rattle.ee_counter.specs.declared.connections.Ended.{Ended}
 use Rattle.ee_counter.specs.declared.files.ImportFault.{ImportFault}
@@ -37,6 +39,11 @@ Applies input left old new c result Has = (ended : Ended) × Serves input left o
 abbrev pub ImportsFile : FileKind → Option (List ℕ) → RequestKey → Content → Result Reply ImportFault → (Content → List Attempt → Type 0) → Type 0
 ImportsFile kind.Rates file number c answer Has = Imports rates_of_file act.AddRates file number c answer Has
 ImportsFile kind.Inventory file number c answer Has = Imports bonds_of_file act.AddBonds file number c answer Has
+
+-- the texts of a request of such a file's rows fit the store
+abbrev pub FitFile : FileKind → (Content → Request → Type 0) → Content → RequestKey → Type 0
+FitFile kind.Rates fits c number = FitRows fits c number act.AddRates
+FitFile kind.Inventory fits c number = FitRows fits c number act.AddBonds
 
 -- the line of the reply is printed; only its front if the output failed; nothing if memory was refused; a fault prints nothing
 abbrev pub TellsReply : Option (List ℕ) → Option (List ℕ) → Result Reply ImportFault → Result Outcome RunFault → Type 0

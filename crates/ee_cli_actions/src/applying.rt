@@ -1,8 +1,10 @@
 //! The command `apply`.
 
-ghost use Rattle.std.specs.Prelude.{◌≡◌, ◌⊎◌};
+ghost use Rattle.std.specs.Prelude.{◌≡◌, ◌⊎◌, ◌+◌, ℕ};
 ghost use Rattle.ee_desk_model.specs.Repeats.{Content};
-ghost use Rattle.ee_keeper.specs.Keeping.{HasAfter};
+ghost use Rattle.ee_keeper.specs.Keeping.{Continues, FailedIn, HasAfter};
+ghost use Rattle.ee_counter.specs.Answering.{FitMessages};
+ghost use Rattle.ee_counter.specs.Serving.{most_messages};
 ghost use Rattle.ee_cli_actions.specs.Actions.{Applies};
 ghost use Rattle.ee_cli_actions.specs.Endings.{TellsDeviceOnlyIf, TellsFailureOnlyIf, ending_of};
 
@@ -16,18 +18,22 @@ use std::alloc::Global;
 /// ends between two messages, if a message asks to close, or after 1,000 messages. It is refused if the bytes
 /// are no message, which is answered. If an answer said that the store failed, it is `StoreFailed`, however
 /// serving ended. Otherwise a failed device is `Device`, and refused memory `NoMemory`; the last message may
-/// then have been decided without a whole response.
+/// then have been decided without a whole response. If the keeper takes 1,000 requests more, and the texts of all
+/// requests fit, it is `StoreFailed` only if a device of the store failed, or the store was shut before (`cause`).
 pub fn apply_to<K: Keeper, R: Source, W: Sink>(
     alloc: Global,
     keeper: &mut K,
     input: &mut R,
     output: &mut W,
 ) -> Result<Outcome, RunFault>
-    ensures clean { K.is_clean keeper.new → K.is_clean keeper.old }
+    ensures continues { Continues K.is_clean K.is_guarded K.is_open K.faults keeper.old keeper.new }
     ensures applies { K.is_clean keeper.new → (c : Content) → K.has keeper.old c
         → Applies (R.remaining input.old) (R.remaining input.new) (W.contents output.old) (W.contents output.new) c result (HasAfter (K.has keeper.new) (K.went keeper.old) (K.went keeper.new)) }
     ensures device { TellsDeviceOnlyIf (R.may_have_failed input.new ⊎ W.may_have_failed output.new) result }
     ensures failed { TellsFailureOnlyIf K.may_fail result }
+    ensures ready { K.is_clean keeper.new → (c : Content) → K.has keeper.old c → (n : ℕ) → K.takes (n + most_messages) keeper.old → K.takes n keeper.new }
+    ensures cause { K.is_clean keeper.new → (c : Content) → K.has keeper.old c → (n : ℕ) → K.takes (n + most_messages) keeper.old → FitMessages K.fits
+        → TellsFailureOnlyIf (FailedIn K.is_open K.faults keeper.old keeper.new) result }
 {
     let ended = serve(alloc, keeper, input, output);
     ending(ended)

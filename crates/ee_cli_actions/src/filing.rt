@@ -1,11 +1,11 @@
 //! The commands `import` and `export`.
 
-ghost use Rattle.std.specs.Prelude.{◌≡◌, Ok, Err, IfOk, IfErr, string_bytes};
+ghost use Rattle.std.specs.Prelude.{◌≡◌, ◌+◌, ℕ, Ok, Err, IfOk, IfErr, string_bytes};
 ghost use Rattle.ee_desk_model.specs.Repeats.{Content};
 ghost use Rattle.ee_desk_model.specs.declared.refusals.Unserved.TheVariants.{StoreFailed};
 ghost use Rattle.ee_counter.specs.Filing.{IsFailedRead};
-ghost use Rattle.ee_keeper.specs.Keeping.{HasAfter};
-ghost use Rattle.ee_cli_actions.specs.Actions.{ExportsFrom, ImportsFile, ImportsInto, TellsReply};
+ghost use Rattle.ee_keeper.specs.Keeping.{Continues, FailedIn, HasAfter};
+ghost use Rattle.ee_cli_actions.specs.Actions.{ExportsFrom, FitFile, ImportsFile, ImportsInto, TellsReply};
 ghost use Rattle.ee_cli_actions.specs.Endings.{TellsDeviceOnlyIf, TellsFailureOnlyIf, TellsUnreadOnlyIf, outcome_of};
 ghost use Rattle.ee_cli_actions.specs.Printed.{reply_line};
 ghost use Rattle.ee_cli_actions.specs.declared.faults.StoreFault.TheVariants as store;
@@ -35,12 +35,15 @@ pub fn import_into<K: Keeper, R: Source, W: Sink>(
     file: &mut R,
     output: &mut W,
 ) -> Result<Outcome, RunFault>
-    ensures clean { K.is_clean keeper.new → K.is_clean keeper.old }
+    ensures continues { Continues K.is_clean K.is_guarded K.is_open K.faults keeper.old keeper.new }
     ensures imports { K.is_clean keeper.new → (c : Content) → K.has keeper.old c
         → ImportsInto kind (R.remaining file.old) (W.contents output.old) (W.contents output.new) (desk, number) c result (HasAfter (K.has keeper.new) (K.went keeper.old) (K.went keeper.new)) }
     ensures device { TellsDeviceOnlyIf (W.may_have_failed output.new) result }
     ensures unread { TellsUnreadOnlyIf (R.may_have_failed file.new) result }
     ensures failed { TellsFailureOnlyIf K.may_fail result }
+    ensures ready { K.is_clean keeper.new → (c : Content) → K.has keeper.old c → (n : ℕ) → K.takes (n + 1) keeper.old → K.takes n keeper.new }
+    ensures cause { K.is_clean keeper.new → (c : Content) → K.has keeper.old c → (n : ℕ) → K.takes (n + 1) keeper.old → FitFile kind K.fits c (desk, number)
+        → TellsFailureOnlyIf (FailedIn K.is_open K.faults keeper.old keeper.new) result }
 {
     let answer = import_file(alloc, keeper, kind, desk, number, file);
     print_answer(alloc, answer, output)
@@ -54,11 +57,14 @@ fn import_file<K: Keeper, R: Source>(
     number: Number,
     file: &mut R,
 ) -> Result<Reply, ImportFault>
-    ensures clean { K.is_clean keeper.new → K.is_clean keeper.old }
+    ensures continues { Continues K.is_clean K.is_guarded K.is_open K.faults keeper.old keeper.new }
     ensures imports { K.is_clean keeper.new → (c : Content) → K.has keeper.old c
         → ImportsFile kind (R.remaining file.old) (desk, number) c result (HasAfter (K.has keeper.new) (K.went keeper.old) (K.went keeper.new)) }
     ensures device { IfErr result (λ fault. IsFailedRead fault → R.may_have_failed file.new) }
     ensures failed { IfErr result (λ fault. fault ≡ ImportFault.Unserved StoreFailed → K.may_fail) }
+    ensures ready { K.is_clean keeper.new → (c : Content) → K.has keeper.old c → (n : ℕ) → K.takes (n + 1) keeper.old → K.takes n keeper.new }
+    ensures cause { K.is_clean keeper.new → (c : Content) → K.has keeper.old c → (n : ℕ) → K.takes (n + 1) keeper.old → FitFile kind K.fits c (desk, number)
+        → IfErr result (λ fault. fault ≡ ImportFault.Unserved StoreFailed → FailedIn K.is_open K.faults keeper.old keeper.new) }
 {
     match kind {
         FileKind::Rates => import_rates(alloc, keeper, desk, number, file),
@@ -117,11 +123,14 @@ pub fn export_from<K: Keeper, W: Sink>(
     customer: Customer,
     output: &mut W,
 ) -> Result<Outcome, RunFault>
-    ensures clean { K.is_clean keeper.new → K.is_clean keeper.old }
+    ensures continues { Continues K.is_clean K.is_guarded K.is_open K.faults keeper.old keeper.new }
     ensures exports { K.is_clean keeper.new → (c : Content) → K.has keeper.old c
         → ExportsFrom (W.contents output.old) (W.contents output.new) customer c result (HasAfter (K.has keeper.new) (K.went keeper.old) (K.went keeper.new)) }
     ensures device { TellsDeviceOnlyIf (W.may_have_failed output.new) result }
     ensures failed { TellsFailureOnlyIf K.may_fail result }
+    ensures ready { K.is_clean keeper.new → (c : Content) → K.has keeper.old c → (n : ℕ) → K.takes n keeper.old → K.takes n keeper.new }
+    ensures cause { K.is_clean keeper.new → (c : Content) → K.has keeper.old c → (n : ℕ) → K.takes n keeper.old
+        → TellsFailureOnlyIf (FailedIn K.is_open K.faults keeper.old keeper.new) result }
     ensures done { IfOk result (λ outcome. outcome ≡ Outcome.Done) }
 {
     match export_inventory(alloc, keeper, customer, output) {

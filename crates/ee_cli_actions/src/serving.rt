@@ -1,8 +1,10 @@
 //! The command `serve`.
 
-ghost use Rattle.std.specs.Prelude.{◌≡◌, ◌⊎◌, true, IfOk, IfErr, string_bytes};
+ghost use Rattle.std.specs.Prelude.{◌≡◌, ◌⊎◌, ◌+◌, ◌*◌, ℕ, true, IfOk, IfErr, string_bytes};
 ghost use Rattle.ee_desk_model.specs.Repeats.{Content};
-ghost use Rattle.ee_keeper.specs.Keeping.{HasAfter};
+ghost use Rattle.ee_keeper.specs.Keeping.{Continues, FailedIn, HasAfter};
+ghost use Rattle.ee_counter.specs.Answering.{FitMessages};
+ghost use Rattle.ee_counter.specs.Serving.{most_messages};
 ghost use Rattle.ee_cli_actions.specs.Connections.{PrintsLine, ServesAll, ServesNext, ServesSocket};
 ghost use Rattle.ee_cli_actions.specs.Endings.{TellsFailureOnlyIf};
 ghost use Rattle.ee_cli_actions.specs.Printed.{connection_line};
@@ -25,7 +27,8 @@ use std::time::{Clock, Duration};
 /// `WriteFailed`. Serving ends early if no connection could be accepted or a line not be written (`Device`), if
 /// memory was refused to a line (`NoMemory`), or after a connection on which an answer said that the store
 /// failed (`StoreFailed`), whose line is printed. If that line can't be printed whole, serving ends by `Device` or
-/// `NoMemory`.
+/// `NoMemory`. If the keeper takes 1,000 requests for each connection, and the texts of all requests fit, it ends by
+/// `StoreFailed` only if a device of the store failed, or the store was shut before (`cause`).
 pub fn serve_on<C: Clock, K: Keeper, W: Sink>(
     clock: &C,
     alloc: Global,
@@ -35,11 +38,14 @@ pub fn serve_on<C: Clock, K: Keeper, W: Sink>(
     patience: Duration,
     output: &mut W,
 ) -> Result<Outcome, RunFault>
-    ensures clean { K.is_clean keeper.new → K.is_clean keeper.old }
+    ensures continues { Continues K.is_clean K.is_guarded K.is_open K.faults keeper.old keeper.new }
     ensures serves { K.is_clean keeper.new → (c : Content) → K.has keeper.old c
         → ServesAll connections (W.contents output.old) (W.contents output.new) c result (HasAfter (K.has keeper.new) (K.went keeper.old) (K.went keeper.new)) }
     ensures done { IfOk result (λ outcome. outcome ≡ Outcome.Done) }
     ensures failed { TellsFailureOnlyIf K.may_fail result }
+    ensures ready { K.is_clean keeper.new → (c : Content) → K.has keeper.old c → (n : ℕ) → K.takes (n + connections * most_messages) keeper.old → K.takes n keeper.new }
+    ensures cause { K.is_clean keeper.new → (c : Content) → K.has keeper.old c → (n : ℕ) → K.takes (n + connections * most_messages) keeper.old → FitMessages K.fits
+        → TellsFailureOnlyIf (FailedIn K.is_open K.faults keeper.old keeper.new) result }
 {
     for connection in 0..connections {
         let ended = serve_next(clock, alloc, keeper, listener, patience)?;
@@ -59,9 +65,12 @@ fn serve_next<C: Clock, K: Keeper>(
     listener: &TcpListener,
     patience: Duration,
 ) -> Result<Ended, RunFault>
-    ensures clean { K.is_clean keeper.new → K.is_clean keeper.old }
+    ensures continues { Continues K.is_clean K.is_guarded K.is_open K.faults keeper.old keeper.new }
     ensures serves { K.is_clean keeper.new → (c : Content) → K.has keeper.old c → ServesNext c result (HasAfter (K.has keeper.new) (K.went keeper.old) (K.went keeper.new)) }
     ensures failed { IfOk result (λ ended. ended.store_failed ≡ true → K.may_fail) }
+    ensures ready { K.is_clean keeper.new → (c : Content) → K.has keeper.old c → (n : ℕ) → K.takes (n + most_messages) keeper.old → K.takes n keeper.new }
+    ensures cause { K.is_clean keeper.new → (c : Content) → K.has keeper.old c → (n : ℕ) → K.takes (n + most_messages) keeper.old → FitMessages K.fits
+        → IfOk result (λ ended. ended.store_failed ≡ true → FailedIn K.is_open K.faults keeper.old keeper.new) }
     ensures device { IfErr result (λ fault. fault ≡ RunFault.Device) }
 {
     match listener.accept() {
@@ -77,9 +86,12 @@ fn serve_stream<C: Clock, K: Keeper>(
     stream: &TcpStream,
     patience: Duration,
 ) -> Ended
-    ensures clean { K.is_clean keeper.new → K.is_clean keeper.old }
+    ensures continues { Continues K.is_clean K.is_guarded K.is_open K.faults keeper.old keeper.new }
     ensures serves { K.is_clean keeper.new → (c : Content) → K.has keeper.old c → ServesSocket c result (HasAfter (K.has keeper.new) (K.went keeper.old) (K.went keeper.new)) }
     ensures failed { result.store_failed ≡ true → K.may_fail }
+    ensures ready { K.is_clean keeper.new → (c : Content) → K.has keeper.old c → (n : ℕ) → K.takes (n + most_messages) keeper.old → K.takes n keeper.new }
+    ensures cause { K.is_clean keeper.new → (c : Content) → K.has keeper.old c → (n : ℕ) → K.takes (n + most_messages) keeper.old → FitMessages K.fits
+        → result.store_failed ≡ true → FailedIn K.is_open K.faults keeper.old keeper.new }
 {
     let patient = Patient::new(clock, stream, patience);
     let ended = serve_patient(alloc, keeper, &patient);
@@ -94,9 +106,12 @@ fn serve_patient<'c, 's, C: Clock, K: Keeper>(
     keeper: &mut K,
     patient: &Patient<'c, 's, C>,
 ) -> Ended
-    ensures clean { K.is_clean keeper.new → K.is_clean keeper.old }
+    ensures continues { Continues K.is_clean K.is_guarded K.is_open K.faults keeper.old keeper.new }
     ensures serves { K.is_clean keeper.new → (c : Content) → K.has keeper.old c → ServesSocket c result (HasAfter (K.has keeper.new) (K.went keeper.old) (K.went keeper.new)) }
     ensures failed { result.store_failed ≡ true → K.may_fail }
+    ensures ready { K.is_clean keeper.new → (c : Content) → K.has keeper.old c → (n : ℕ) → K.takes (n + most_messages) keeper.old → K.takes n keeper.new }
+    ensures cause { K.is_clean keeper.new → (c : Content) → K.has keeper.old c → (n : ℕ) → K.takes (n + most_messages) keeper.old → FitMessages K.fits
+        → result.store_failed ≡ true → FailedIn K.is_open K.faults keeper.old keeper.new }
 {
     let mut reader = patient;
     let mut writer = patient;

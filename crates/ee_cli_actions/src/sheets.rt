@@ -1,9 +1,9 @@
 //! The command `sheet`.
 
-ghost use Rattle.std.specs.Prelude.{◌≡◌, [], Err, IfOk};
+ghost use Rattle.std.specs.Prelude.{◌≡◌, ℕ, [], Err, IfOk};
 ghost use Rattle.ee_desk_model.specs.Repeats.{Content};
 ghost use Rattle.ee_desk_model.specs.declared.refusals.Unserved.TheVariants.{StoreFailed};
-ghost use Rattle.ee_keeper.specs.Keeping.{HasAfter};
+ghost use Rattle.ee_keeper.specs.Keeping.{Continues, FailedIn, HasAfter};
 ghost use Rattle.ee_cli_actions.specs.Actions.{ShowsSheet, TellsSheet};
 ghost use Rattle.ee_cli_actions.specs.Endings.{TellsDeviceOnlyIf, TellsFailureOnlyIf};
 ghost use Rattle.ee_cli_actions.specs.declared.faults.StoreFault.TheVariants as store;
@@ -24,12 +24,15 @@ pub fn sheet_of<K: Keeper, W: Sink>(
     month: Month,
     output: &mut W,
 ) -> Result<Outcome, RunFault>
-    ensures clean { K.is_clean keeper.new → K.is_clean keeper.old }
+    ensures continues { Continues K.is_clean K.is_guarded K.is_open K.faults keeper.old keeper.new }
     ensures shows { K.is_clean keeper.new → (c : Content) → K.has keeper.old c
         → ShowsSheet (W.contents output.old) (W.contents output.new) customer month c result (HasAfter (K.has keeper.new) (K.went keeper.old) (K.went keeper.new) c []) }
     ensures done { IfOk result (λ outcome. outcome ≡ Outcome.Done) }
     ensures device { TellsDeviceOnlyIf (W.may_have_failed output.new) result }
     ensures failed { TellsFailureOnlyIf K.may_fail result }
+    ensures ready { K.is_clean keeper.new → (c : Content) → K.has keeper.old c → (n : ℕ) → K.takes n keeper.old → K.takes n keeper.new }
+    ensures cause { K.is_clean keeper.new → (c : Content) → K.has keeper.old c → (n : ℕ) → K.takes n keeper.old
+        → TellsFailureOnlyIf (FailedIn K.is_open K.faults keeper.old keeper.new) result }
 {
     let shown = keeper.inventory(customer, month);
     print_sheet(shown, output)
