@@ -1,10 +1,15 @@
 -- What commands do over the stores that their lines name.
-use Rattle.std.specs.Prelude.{◌≡◌, ◌⊎◌, ℕ, List, [], Option, None, Result, Err, OnOk, ⊤}
+use Rattle.std.specs.Prelude.{◌≡◌, ◌⊎◌, ◌+◌, ◌*◌, ℕ, Bool, List, [], Option, None, Result, Err, OnOk, ⊤}
 use Rattle.std.specs.Result.{IsOk, IsErr}
 use Rattle.clap.specs.Words.{Text}
 use Rattle.ee_desk_model.specs.Repeats.{Content}
+use Rattle.ee_desk_model.specs.declared.acts.Request.{Request}
 use Rattle.ee_desk_laws.specs.Attempts.{Attempt}
-use Rattle.ee_cli_actions.specs.Actions.{Applies, ExportsFrom, ImportsInto, ShowsSheet}
+use Rattle.ee_keeper.specs.Keeping.{Continues, FailedIn}
+use Rattle.ee_counter.specs.Answering.{FitMessages}
+use Rattle.ee_counter.specs.Serving.{most_messages}
+use Rattle.ee_cli_actions.specs.Actions.{Applies, ExportsFrom, FitFile, ImportsInto, ShowsSheet}
+use Rattle.ee_cli_actions.specs.Endings.{TellsFailureOnlyIf}
 use Rattle.ee_cli_actions.specs.Connections.{ServesAll}
 use Rattle.ee_cli_value.specs.declared.endings.Outcome.{Outcome}
 use Rattle.ee_cli_actions.specs.declared.faults.RunFault.{RunFault}
@@ -25,10 +30,22 @@ EndsAs ended result = (result ≡ ended) ⊎ (IsOk ended × (result ≡ Err (Sto
 abbrev pub IsClosed : {S R L : Type 0} → (S → R → Type 0) → (S → L → Type 0) → S → Type 0
 IsClosed {R = R} {L = L} rests keeps store = ((rest : R) × rests store rest) ⊎ ((left : L) × keeps store left)
 
--- the work ended so over a store, which was then closed; if the command did not fail, the store is at rest
-pub record Works {S R L : Type 0} (rests : S → R → Type 0) (keeps : S → L → Type 0) (result : Result Outcome RunFault) (Carried : S → Result Outcome RunFault → Type 0) : Type 0 where
+-- A command's store, from its opening to its closing. `room` requests were to be taken, whose texts fit.
+pub record Since {S : Type 0} (is_clean is_guarded : S → Type 0) (is_open : S → Bool) (faults : S → ℕ) (takes : ℕ → S → Type 0) (room : ℕ) (Fit : Type 0)
+    (first left : S) (ended : Result Outcome RunFault) : Type 0 where
+  -- if it was opened clean, each of its reads was tested against what was read or written there before
+  pub tested : is_clean first → is_guarded first
+  pub continues : Continues is_clean is_guarded is_open faults first left
+  -- the work failed for the store only if a device of the store failed
+  pub cause : is_clean left → (n : ℕ) → takes (n + room) first → Fit → TellsFailureOnlyIf (FailedIn is_open faults first left) ended
+
+-- the work ended so over a store that was opened, and then closed; if the command did not fail, the store is at rest
+pub record Works {S R L : Type 0} (rests : S → R → Type 0) (keeps : S → L → Type 0) (result : Result Outcome RunFault) (FromTo : S → S → Result Outcome RunFault → Type 0)
+    (Carried : S → Result Outcome RunFault → Type 0) : Type 0 where
+  pub first : S
   pub left : S
   pub ended : Result Outcome RunFault
+  pub since : FromTo first left ended
   pub carried : Carried left ended
   pub ends : EndsAs ended result
   pub at_rest : OnOk result ((rest : R) × rests left rest)
@@ -39,26 +56,28 @@ abbrev pub IsUnopened : {Q : Type 0} → (RunFault → Q → Type 0) → Result 
 IsUnopened {Q} refuses result = (fault : RunFault) × (result ≡ Err fault) × ((rest : Q) × refuses fault rest)
 
 -- the work was done over the store; or the store was not opened, and nothing was printed
-abbrev pub Over : {S R L Q : Type 0} → (S → R → Type 0) → (S → L → Type 0) → (RunFault → Q → Type 0) → Option (List ℕ) → Option (List ℕ) → Result Outcome RunFault → (S → Result Outcome RunFault → Type 0) → Type 0
-Over rests keeps refuses old new result Carried = Works rests keeps result Carried ⊎ (IsUnopened refuses result × (new ≡ old))
+abbrev pub Over : {S R L Q : Type 0} → (S → R → Type 0) → (S → L → Type 0) → (RunFault → Q → Type 0) → Option (List ℕ) → Option (List ℕ) → Result Outcome RunFault
+    → (S → S → Result Outcome RunFault → Type 0) → (S → Result Outcome RunFault → Type 0) → Type 0
+Over rests keeps refuses old new result FromTo Carried = Works rests keeps result FromTo Carried ⊎ (IsUnopened refuses result × (new ≡ old))
 
 -- A command over the store that its line names; `contents` says what each store holds. What it did is said if the store is clean as
--- it is closed: `Has` then relates the path, the store, its content and the attempts that led there. The arguments are the input
+-- it is closed: `Has` then relates the path, the store, its content and the attempts that led there. `FromTo` relates the store as it
+-- was opened and as it is closed, by the room for requests and whether their texts fit. The arguments are the input
 -- before and after, the output before and after, and how the command ended. The bytes of a file that is imported aren't known.
-abbrev pub CarriesOver : {S R L Q : Type 0} → (S → Type 0) → (Text → S → Content → List Attempt → Type 0) → (S → R → Type 0) → (S → L → Type 0) → (Text → RunFault → Q → Type 0) → (Text → Content) → Option (List ℕ) → Option (List ℕ) → Option (List ℕ) → Option (List ℕ) → Asked → Result Outcome RunFault → Type 0
-CarriesOver is_clean Has rests keeps refuses contents input left old new (value denom issued month rate extension) result = ⊤
-CarriesOver is_clean Has rests keeps refuses contents input left old new (apply db) result =
-    Over rests keeps (refuses db) old new result (λ store ended. is_clean store → Applies input left old new (contents db) ended (Has db store))
-CarriesOver is_clean Has rests keeps refuses contents input left old new (imports kind file db desk number) result =
-    Over rests keeps (refuses db) old new result
+abbrev pub CarriesOver : {S R L Q : Type 0} → (S → Type 0) → (ℕ → Type 0 → S → S → Result Outcome RunFault → Type 0) → (Content → Request → Type 0) → (Text → S → Content → List Attempt → Type 0) → (S → R → Type 0) → (S → L → Type 0) → (Text → RunFault → Q → Type 0) → (Text → Content) → Option (List ℕ) → Option (List ℕ) → Option (List ℕ) → Option (List ℕ) → Asked → Result Outcome RunFault → Type 0
+CarriesOver is_clean FromTo fits Has rests keeps refuses contents input left old new (value denom issued month rate extension) result = ⊤
+CarriesOver is_clean FromTo fits Has rests keeps refuses contents input left old new (apply db) result =
+    Over rests keeps (refuses db) old new result (FromTo most_messages (FitMessages fits)) (λ store ended. is_clean store → Applies input left old new (contents db) ended (Has db store))
+CarriesOver is_clean FromTo fits Has rests keeps refuses contents input left old new (imports kind file db desk number) result =
+    Over rests keeps (refuses db) old new result (FromTo 1 (FitFile kind fits (contents db) (desk, number)))
     (λ store ended. is_clean store
     → Tries old new ended (ImportsInto kind None old new (desk, number) (contents db) ended (Has db store)) (Has db store (contents db) []))
-CarriesOver is_clean Has rests keeps refuses contents input left old new (export customer db) result =
-    Over rests keeps (refuses db) old new result (λ store ended. is_clean store → ExportsFrom old new customer (contents db) ended (Has db store))
-CarriesOver is_clean Has rests keeps refuses contents input left old new (sheet customer month db) result =
-    Over rests keeps (refuses db) old new result
+CarriesOver is_clean FromTo fits Has rests keeps refuses contents input left old new (export customer db) result =
+    Over rests keeps (refuses db) old new result (FromTo 0 ⊤) (λ store ended. is_clean store → ExportsFrom old new customer (contents db) ended (Has db store))
+CarriesOver is_clean FromTo fits Has rests keeps refuses contents input left old new (sheet customer month db) result =
+    Over rests keeps (refuses db) old new result (FromTo 0 ⊤)
     (λ store ended. is_clean store → ShowsSheet old new customer month (contents db) ended (Has db store (contents db) []))
-CarriesOver is_clean Has rests keeps refuses contents input left old new (serve db port connections) result =
-    Over rests keeps (refuses db) old new result
+CarriesOver is_clean FromTo fits Has rests keeps refuses contents input left old new (serve db port connections) result =
+    Over rests keeps (refuses db) old new result (FromTo (connections * most_messages) (FitMessages fits))
     (λ store ended. is_clean store
     → Tries old new ended (ServesAll connections old new (contents db) ended (Has db store)) (Has db store (contents db) []))

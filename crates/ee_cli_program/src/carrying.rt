@@ -1,14 +1,16 @@
 //! Carrying out a command.
 
-ghost use Rattle.std.specs.Prelude.{◌≡◌, [], Err, IfOk, IfSome, OnOk, None};
+ghost use Rattle.std.specs.Prelude.{◌≡◌, ◌*◌, [], Err, IfOk, IfSome, OnOk, None, ⊤};
 ghost use Rattle.clap.specs.Words.{Text};
 ghost use Rattle.ee_desk_model.specs.Repeats.{Content};
 ghost use Rattle.ee_keeper.specs.Keeping.{HasAfter};
-ghost use Rattle.ee_cli_actions.specs.Actions.{Applies, ExportsFrom, ImportsInto, ShowsSheet};
+ghost use Rattle.ee_counter.specs.Answering.{FitMessages};
+ghost use Rattle.ee_counter.specs.Serving.{most_messages};
+ghost use Rattle.ee_cli_actions.specs.Actions.{Applies, ExportsFrom, FitFile, ImportsInto, ShowsSheet};
 ghost use Rattle.ee_cli_actions.specs.Connections.{ServesAll};
 ghost use Rattle.ee_cli_commands.specs.Answer.{view_of};
 ghost use Rattle.ee_cli_program.specs.Statuses.{Carries, ShowsValue};
-ghost use Rattle.ee_cli_program.specs.Stores.{CarriesOver, EndsAs, IsClosed, Over, Tries};
+ghost use Rattle.ee_cli_program.specs.Stores.{CarriesOver, EndsAs, IsClosed, Over, Since, Tries};
 ghost use Rattle.ee_cli_program.specs.Told.{TellsOnlyIf, fault_of_cause};
 
 use crate::explaining::Cause;
@@ -33,7 +35,7 @@ pub fn carry_out<O: Stores, R: Source, W: Sink>(
 ) -> Carried
     ensures carries { Carries (W.contents output.old) (W.contents output.new) (view_of command.now) result.ended }
     ensures over { (contents : Text → Content) → ((path : Text) → O.holds stores.now path (contents path))
-        → CarriesOver O.Store.is_clean (λ path left. HasAfter (O.Store.has left) (O.opens stores.now path) (O.Store.went left)) O.rests O.keeps (O.refuses stores.now) contents (R.remaining input.old) (R.remaining input.new) (W.contents output.old) (W.contents output.new)
+        → CarriesOver O.Store.is_clean (Since O.Store.is_clean O.Store.is_guarded O.Store.is_open O.Store.faults O.Store.takes) O.Store.fits (λ path left. HasAfter (O.Store.has left) (O.opens stores.now path) (O.Store.went left)) O.rests O.keeps (O.refuses stores.now) contents (R.remaining input.old) (R.remaining input.new) (W.contents output.old) (W.contents output.new)
         (view_of command.now) result.ended }
     ensures told { TellsOnlyIf result.ended result.cause }
 {
@@ -79,6 +81,7 @@ fn apply<O: Stores, R: Source, W: Sink>(
 ) -> Carried
     ensures over { (c : Content) → O.holds stores.now db.now c
         → Over O.rests O.keeps (O.refuses stores.now db.now) (W.contents output.old) (W.contents output.new) result.ended
+        (Since O.Store.is_clean O.Store.is_guarded O.Store.is_open O.Store.faults O.Store.takes most_messages (FitMessages O.Store.fits))
         (λ left ended. O.Store.is_clean left → Applies (R.remaining input.old) (R.remaining input.new) (W.contents output.old) (W.contents output.new) c ended
         (HasAfter (O.Store.has left) (O.opens stores.now db.now) (O.Store.went left))) }
     ensures told { TellsOnlyIf result.ended result.cause }
@@ -104,6 +107,7 @@ fn import<O: Stores, W: Sink>(
 ) -> Carried
     ensures over { (c : Content) → O.holds stores.now db.now c
         → Over O.rests O.keeps (O.refuses stores.now db.now) (W.contents output.old) (W.contents output.new) result.ended
+        (Since O.Store.is_clean O.Store.is_guarded O.Store.is_open O.Store.faults O.Store.takes 1 (FitFile kind O.Store.fits c (desk, number)))
         (λ left ended. O.Store.is_clean left → Tries (W.contents output.old) (W.contents output.new) ended
         (ImportsInto kind None (W.contents output.old) (W.contents output.new) (desk, number) c ended (HasAfter (O.Store.has left) (O.opens stores.now db.now) (O.Store.went left)))
         (HasAfter (O.Store.has left) (O.opens stores.now db.now) (O.Store.went left) c [])) }
@@ -132,6 +136,7 @@ fn export<O: Stores, W: Sink>(
 ) -> Carried
     ensures over { (c : Content) → O.holds stores.now db.now c
         → Over O.rests O.keeps (O.refuses stores.now db.now) (W.contents output.old) (W.contents output.new) result.ended
+        (Since O.Store.is_clean O.Store.is_guarded O.Store.is_open O.Store.faults O.Store.takes 0 ⊤)
         (λ left ended. O.Store.is_clean left → ExportsFrom (W.contents output.old) (W.contents output.new) customer c ended
         (HasAfter (O.Store.has left) (O.opens stores.now db.now) (O.Store.went left))) }
     ensures done { IfOk result.ended (λ outcome. outcome ≡ Outcome.Done) }
@@ -155,6 +160,7 @@ fn sheet<O: Stores, W: Sink>(
 ) -> Carried
     ensures over { (c : Content) → O.holds stores.now db.now c
         → Over O.rests O.keeps (O.refuses stores.now db.now) (W.contents output.old) (W.contents output.new) result.ended
+        (Since O.Store.is_clean O.Store.is_guarded O.Store.is_open O.Store.faults O.Store.takes 0 ⊤)
         (λ left ended. O.Store.is_clean left → ShowsSheet (W.contents output.old) (W.contents output.new) customer month c ended
         (HasAfter (O.Store.has left) (O.opens stores.now db.now) (O.Store.went left) c [])) }
     ensures done { IfOk result.ended (λ outcome. outcome ≡ Outcome.Done) }
@@ -179,6 +185,7 @@ fn serve<O: Stores, W: Sink>(
 ) -> Carried
     ensures over { (c : Content) → O.holds stores.now db.now c
         → Over O.rests O.keeps (O.refuses stores.now db.now) (W.contents output.old) (W.contents output.new) result.ended
+        (Since O.Store.is_clean O.Store.is_guarded O.Store.is_open O.Store.faults O.Store.takes (connections * most_messages) (FitMessages O.Store.fits))
         (λ left ended. O.Store.is_clean left → Tries (W.contents output.old) (W.contents output.new) ended
         (ServesAll connections (W.contents output.old) (W.contents output.new) c ended (HasAfter (O.Store.has left) (O.opens stores.now db.now) (O.Store.went left)))
         (HasAfter (O.Store.has left) (O.opens stores.now db.now) (O.Store.went left) c [])) }

@@ -1,10 +1,13 @@
 //! Opening the file of an import, and the port of a server.
 
-ghost use Rattle.std.specs.Prelude.{◌≡◌, List, [], ℕ, Some, Err, IfOk, IfSome, None, string_bytes};
+ghost use Rattle.std.specs.Prelude.{◌≡◌, ◌+◌, ◌*◌, List, [], ℕ, Some, Err, IfOk, IfSome, None, string_bytes};
 ghost use Rattle.std.specs.Result.{IsErr};
 ghost use Rattle.ee_desk_model.specs.Repeats.{Content};
-ghost use Rattle.ee_keeper.specs.Keeping.{HasAfter};
-ghost use Rattle.ee_cli_actions.specs.Actions.{ImportsInto};
+ghost use Rattle.ee_keeper.specs.Keeping.{Continues, FailedIn, HasAfter};
+ghost use Rattle.ee_counter.specs.Answering.{FitMessages};
+ghost use Rattle.ee_counter.specs.Serving.{most_messages};
+ghost use Rattle.ee_cli_actions.specs.Actions.{FitFile, ImportsInto};
+ghost use Rattle.ee_cli_actions.specs.Endings.{TellsFailureOnlyIf};
 ghost use Rattle.ee_cli_actions.specs.Connections.{ServesAll};
 ghost use Rattle.ee_cli_program.specs.Stores.{Tries};
 ghost use Rattle.ee_cli_program.specs.Told.{ShowsField, TellsOnlyIf};
@@ -43,11 +46,13 @@ pub fn import_path<K: Keeper, W: Sink>(
     number: Number,
     output: &mut W,
 ) -> Carried
-    ensures clean { K.is_clean keeper.new → K.is_clean keeper.old }
+    ensures continues { Continues K.is_clean K.is_guarded K.is_open K.faults keeper.old keeper.new }
     ensures imports { K.is_clean keeper.new → (c : Content) → K.has keeper.old c
         → Tries (W.contents output.old) (W.contents output.new) result.ended
         (ImportsInto kind None (W.contents output.old) (W.contents output.new) (desk, number) c result.ended (HasAfter (K.has keeper.new) (K.went keeper.old) (K.went keeper.new)))
         (HasAfter (K.has keeper.new) (K.went keeper.old) (K.went keeper.new) c []) }
+    ensures cause { K.is_clean keeper.new → (c : Content) → K.has keeper.old c → (n : ℕ) → K.takes (n + 1) keeper.old → FitFile kind K.fits c (desk, number)
+        → TellsFailureOnlyIf (FailedIn K.is_open K.faults keeper.old keeper.new) result.ended }
     ensures told { TellsOnlyIf result.ended result.cause }
     ensures shown { IfSome result.field (λ shown. (bytes : List ℕ) × ShowsField bytes result.ended (string_bytes shown)) }
 {
@@ -77,9 +82,11 @@ fn import_bytes<K: Keeper, W: Sink>(
     bytes: &[u8],
     output: &mut W,
 ) -> Carried
-    ensures clean { K.is_clean keeper.new → K.is_clean keeper.old }
+    ensures continues { Continues K.is_clean K.is_guarded K.is_open K.faults keeper.old keeper.new }
     ensures imports { K.is_clean keeper.new → (c : Content) → K.has keeper.old c
         → ImportsInto kind (Some bytes.now) (W.contents output.old) (W.contents output.new) (desk, number) c result.ended (HasAfter (K.has keeper.new) (K.went keeper.old) (K.went keeper.new)) }
+    ensures cause { K.is_clean keeper.new → (c : Content) → K.has keeper.old c → (n : ℕ) → K.takes (n + 1) keeper.old → FitFile kind K.fits c (desk, number)
+        → TellsFailureOnlyIf (FailedIn K.is_open K.faults keeper.old keeper.new) result.ended }
     ensures told { result.cause ≡ None }
     ensures shown { IfSome result.field (λ shown. ShowsField bytes.now result.ended (string_bytes shown)) }
 {
@@ -113,6 +120,7 @@ fn field_at_fault(alloc: Global, ended: &Result<Outcome, RunFault>, bytes: &[u8]
 // A file that was opened, and not read. A folder is opened as a file is.
 fn not_read(is_folder: bool, fault: ReadFault) -> Carried
     ensures ended { IsErr result.ended }
+    ensures failed { TellsFailureOnlyIf ⊥ result.ended }
     ensures told { TellsOnlyIf result.ended result.cause }
     ensures shown { result.field ≡ None }
 {
@@ -144,11 +152,13 @@ pub fn serve_port<K: Keeper, W: Sink>(
     connections: u64,
     output: &mut W,
 ) -> Carried
-    ensures clean { K.is_clean keeper.new → K.is_clean keeper.old }
+    ensures continues { Continues K.is_clean K.is_guarded K.is_open K.faults keeper.old keeper.new }
     ensures over { K.is_clean keeper.new → (c : Content) → K.has keeper.old c
         → Tries (W.contents output.old) (W.contents output.new) result.ended
         (ServesAll connections (W.contents output.old) (W.contents output.new) c result.ended (HasAfter (K.has keeper.new) (K.went keeper.old) (K.went keeper.new)))
         (HasAfter (K.has keeper.new) (K.went keeper.old) (K.went keeper.new) c []) }
+    ensures cause { K.is_clean keeper.new → (c : Content) → K.has keeper.old c → (n : ℕ) → K.takes (n + connections * most_messages) keeper.old → FitMessages K.fits
+        → TellsFailureOnlyIf (FailedIn K.is_open K.faults keeper.old keeper.new) result.ended }
     ensures done { IfOk result.ended (λ outcome. outcome ≡ Outcome.Done) }
     ensures told { TellsOnlyIf result.ended result.cause }
 {

@@ -13,7 +13,7 @@ ghost use Rattle.ee_units.specs.declared.denoms.Denom.{Denom};
 ghost use Rattle.ee_value.specs.Chain.{rates_with};
 ghost use Rattle.ee_keeper.specs.Keeping.{HasAfter};
 ghost use Rattle.ee_cli_program.specs.Statuses.{Carries, IsRun, version_line};
-ghost use Rattle.ee_cli_program.specs.Stores.{CarriesOver};
+ghost use Rattle.ee_cli_program.specs.Stores.{CarriesOver, Since};
 
 use crate::carrying::carry_out;
 use crate::explaining::{Explanation, Known, explain, explain_argument};
@@ -38,7 +38,8 @@ use std::io::{self, ErrorKind, Write};
 /// - `printed`: if they ask for a value and the status is 0, the output gained exactly that value's line.
 /// - `version`: if they ask for the version and the status is 0, it gained exactly the line of the versions.
 /// - `over`: what a command over a store did and printed, by what the store held (`contents`), if the store is clean
-///   as it is closed; and the events that its requests are in the history of the store.
+///   as it is closed; the events that its requests are in the history of the store; and what holds of the store from
+///   its opening on (`Since`).
 pub fn run_words<O: Stores, R: Source + Stream, W: Sink + Stream, E: Write>(
     rt: &HostRuntime,
     stores: &O,
@@ -56,7 +57,7 @@ pub fn run_words<O: Stores, R: Source + Stream, W: Sink + Stream, E: Write>(
         → Appends (W.contents output.old) (W.contents output.new) version_line }
     ensures over { (contents : Text → Content) → ((path : Text) → O.holds stores.now path (contents path))
         → IsRun (map (λ w. string_bytes w) words.now)
-        (CarriesOver O.Store.is_clean (λ path left. HasAfter (O.Store.has left) (O.opens stores.now path) (O.Store.went left))
+        (CarriesOver O.Store.is_clean (Since O.Store.is_clean O.Store.is_guarded O.Store.is_open O.Store.faults O.Store.takes) O.Store.fits (λ path left. HasAfter (O.Store.has left) (O.opens stores.now path) (O.Store.went left))
         O.rests O.keeps (O.refuses stores.now) contents (R.remaining input.old) (R.remaining input.new) (W.contents output.old) (W.contents output.new)) result }
 {
     let explains = explains || asks_to_explain(words);

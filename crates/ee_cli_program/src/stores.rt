@@ -49,11 +49,13 @@ pub trait Stores {
     /// What is left of a store that couldn't be closed has what was committed.
     ghost keeps: { Self.Store → Self.Left → Type 0 };
 
-    /// Opens the store at a path; creates its tables if there are none. A cause that is told is one of the fault.
+    /// Opens the store at a path; creates its tables if there are none. A cause that is told is one of the fault. Each
+    /// later read of a store that was opened clean is tested (`is_guarded`).
     fn open(&self, path: &str) -> Result<Self::Store, Unopened<Self::Refused>>
         ensures opened { IfOk result (λ store. Self.Store.is_clean store → (c : Content) → holds self.now path.now c → Self.Store.has store c) }
         ensures gone { IfOk result (λ store. Self.Store.is_clean store → (start : Content) (events : List Event) → opens self.now path.now start events
             → Self.Store.went store start events) }
+        ensures tested { IfOk result (λ store. Self.Store.is_clean store → Self.Store.is_guarded store) }
         ensures told { IfErr result (λ not. IfSome not.cause (λ cause. not.fault ≡ fault_of_cause cause)) }
         ensures refused { IfErr result (λ not. refuses self.now path.now not.fault not.rest) };
 

@@ -14,10 +14,16 @@ returns-in-Ok-clause-over g c = λ content holds.
     let old = g.W.Write.contents c.args.output.now in
     let new = g.W.Write.contents c.apply_to-ended.new.output in
     rw c.without_cause.ensures (inl record {
+      first = c.in-Ok.store;
       left = left;
       ended = c.apply_to-ended.result;
+      since = record {
+        tested = c.in-Ok.ensures.tested;
+        continues = c.apply_to-ended.ensures.continues;
+        cause = λ clean n takes fit. c.apply_to-ended.ensures.cause clean content (c.in-Ok.ensures.opened (c.apply_to-ended.ensures.continues.clean clean) content holds) n takes fit;
+      };
       carried = λ clean.
-          let before = c.apply_to-ended.ensures.clean clean in
+          let before = c.apply_to-ended.ensures.continues.clean clean in
           let since = since_opened Has Opens Went Left (c.in-Ok.ensures.gone before) in
           applies_with (HasAfter Has Went Left) (HasAfter Has Opens Left) since (g.R.Read.remaining c.args.input.now) (g.R.Read.remaining c.apply_to-ended.new.input) old new content c.apply_to-ended.result
           (c.apply_to-ended.ensures.applies clean content (c.in-Ok.ensures.opened before content holds));

@@ -1,4 +1,4 @@
-use Rattle.std.proofs.Common.{inl}
+use Rattle.std.proofs.Common.{add-zero, subst, inl}
 use Rattle.ee_keeper.specs.Keeping.{HasAfter}
 use Rattle.ee_cli_actions.proofs.Lemmas.{exports_with}
 use Rattle.ee_cli_program.proofs.Opened.{since_opened}
@@ -14,10 +14,16 @@ returns-in-Ok-clause-over g c = λ content holds.
     let old = g.W.Write.contents c.args.output.now in
     let new = g.W.Write.contents c.export_from-ended.new.output in
     rw c.without_cause.ensures (inl record {
+      first = c.in-Ok.store;
       left = left;
       ended = c.export_from-ended.result;
+      since = record {
+        tested = c.in-Ok.ensures.tested;
+        continues = c.export_from-ended.ensures.continues;
+        cause = λ clean n takes fit. c.export_from-ended.ensures.cause clean content (c.in-Ok.ensures.opened (c.export_from-ended.ensures.continues.clean clean) content holds) n (subst (λ m. g.O.Store.Keeper.takes m c.in-Ok.store) (add-zero n) takes);
+      };
       carried = λ clean.
-          let before = c.export_from-ended.ensures.clean clean in
+          let before = c.export_from-ended.ensures.continues.clean clean in
           let since = since_opened Has Opens Went Left (c.in-Ok.ensures.gone before) in
           exports_with (HasAfter Has Went Left) (HasAfter Has Opens Left) since old new c.args.customer content c.export_from-ended.result
           (c.export_from-ended.ensures.exports clean content (c.in-Ok.ensures.opened before content holds));

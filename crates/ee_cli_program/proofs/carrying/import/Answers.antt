@@ -15,10 +15,16 @@ returns-in-Ok-clause-over g c = λ content holds.
     let old = g.W.Write.contents c.args.output.now in
     let new = g.W.Write.contents c.import_path-tried.new.output in
     inl record {
+      first = c.in-Ok.store;
       left = left;
       ended = c.import_path-tried.result.ended;
+      since = record {
+        tested = c.in-Ok.ensures.tested;
+        continues = c.import_path-tried.ensures.continues;
+        cause = λ clean n takes fit. c.import_path-tried.ensures.cause clean content (c.in-Ok.ensures.opened (c.import_path-tried.ensures.continues.clean clean) content holds) n takes fit;
+      };
       carried = λ clean.
-          let before = c.import_path-tried.ensures.clean clean in
+          let before = c.import_path-tried.ensures.continues.clean clean in
           let since = since_opened Has Opens Went Left (c.in-Ok.ensures.gone before) in
           tries_with old new c.import_path-tried.result.ended (ImportsInto c.args.kind None old new (c.args.desk, c.args.number) content c.import_path-tried.result.ended (HasAfter Has Went Left)) (ImportsInto c.args.kind None old new (c.args.desk, c.args.number) content c.import_path-tried.result.ended (HasAfter Has Opens Left))
           (HasAfter Has Went Left content []) (HasAfter Has Opens Left content []) (imports_with (HasAfter Has Went Left) (HasAfter Has Opens Left) since c.args.kind None old new (c.args.desk, c.args.number) content c.import_path-tried.result.ended) (since content [])

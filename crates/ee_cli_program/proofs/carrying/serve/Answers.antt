@@ -15,10 +15,16 @@ returns-in-Ok-clause-over g c = λ content holds.
     let old = g.W.Write.contents c.args.output.now in
     let new = g.W.Write.contents c.serve_port-tried.new.output in
     inl record {
+      first = c.in-Ok.store;
       left = left;
       ended = c.serve_port-tried.result.ended;
+      since = record {
+        tested = c.in-Ok.ensures.tested;
+        continues = c.serve_port-tried.ensures.continues;
+        cause = λ clean n takes fit. c.serve_port-tried.ensures.cause clean content (c.in-Ok.ensures.opened (c.serve_port-tried.ensures.continues.clean clean) content holds) n takes fit;
+      };
       carried = λ clean.
-          let before = c.serve_port-tried.ensures.clean clean in
+          let before = c.serve_port-tried.ensures.continues.clean clean in
           let since = since_opened Has Opens Went Left (c.in-Ok.ensures.gone before) in
           tries_with old new c.serve_port-tried.result.ended (ServesAll c.args.connections old new content c.serve_port-tried.result.ended (HasAfter Has Went Left)) (ServesAll c.args.connections old new content c.serve_port-tried.result.ended (HasAfter Has Opens Left))
           (HasAfter Has Went Left content []) (HasAfter Has Opens Left content []) (serves_all_with (HasAfter Has Went Left) (HasAfter Has Opens Left) since c.args.connections old new content c.serve_port-tried.result.ended) (since content [])
