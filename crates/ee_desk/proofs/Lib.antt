@@ -10,3 +10,4 @@ mod Batches
 mod EveryRow
 mod AsParts
 mod History
+mod Asked

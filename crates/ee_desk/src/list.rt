@@ -10,15 +10,12 @@ ghost use Rattle.ee_desk_model.specs.Conserved.{IsConserved};
 ghost use Rattle.ee_desk_model.specs.Repeats.{nothing};
 ghost use Rattle.ee_desk_model.specs.Contents.{content_after};
 ghost use Rattle.ee_desk_model.specs.Answers.{answer, reply_again};
-ghost use Rattle.ee_desk_model.specs.Queries.{ticket_numbered, batch_on, bonds_of};
+ghost use Rattle.ee_desk_model.specs.Queries.{ShowsQuery, IsKind};
 ghost use Rattle.ee_desk.specs.Kept.{kept_in};
-ghost use Rattle.ee_keeper.specs.Keeping.{IsInventory, IsQuote};
 
 use crate::books::Books;
-use ee_calculator::{Bond, Row, Sheet};
-use ee_desk_model::{Act, Batch, Kept, Refusal, Reply, Request, RequestNumber, Ticket, Unserved};
+use ee_desk_model::{Act, Kept, Query, Refusal, Reply, Request, RequestNumber, Shown, Unserved};
 use ee_keeper::Keeper;
-use ee_units::{Customer, Day, Denom, IssueMonth, Month};
 use std::alloc::{AllocError, Global};
 use std::collections::BTreeMap;
 use std::marker::Model;
@@ -118,49 +115,25 @@ impl ListKeeper {
 }
 
 impl ListKeeper {
-    /// The sheet, in a month, of the unpaid bonds whose owner is this customer, in order of serial number.
-    pub fn inventory(&self, customer: Customer, month: Month) -> Result<Sheet, Unserved>
-        ensures sheet { IfOk result (λ sheet. IsInventory self.now.books customer month sheet) }
+    /// Shows what the books have.
+    pub fn ask(&self, query: &Query) -> Result<Shown, Unserved>
+        ensures shown { IfOk result (ShowsQuery self.now.books query.now) }
+        ensures kind { IfOk result (IsKind query.now) }
         ensures memory { IfErr result (λ e. e ≡ Unserved.NoMemory) }
     {
-        Ok(self.books.inventory(customer, month)?)
-    }
-
-    /// The unpaid bonds whose owner is this customer, in order of serial number.
-    pub fn bonds_of(&self, customer: Customer) -> Result<Vec<Bond>, Unserved>
-        ensures bonds { IfOk result (λ bonds. bonds.items ≡ bonds_of self.now.books customer) }
-        ensures memory { IfErr result (λ e. e ≡ Unserved.NoMemory) }
-    {
-        Ok(self.books.bonds_of(customer)?)
-    }
-
-    /// A copy of the ticket with this number, if there is one.
-    pub fn ticket(&self, number: u64) -> Result<Option<Ticket>, Unserved>
-        ensures ticket { IfOk result (λ ticket. ticket ≡ ticket_numbered self.now.books number) }
-        ensures memory { IfErr result (λ e. e ≡ Unserved.NoMemory) }
-    {
-        Ok(self.books.ticket(number)?)
-    }
-
-    /// The batch of a day, if that day is closed.
-    pub fn batch(&self, day: Day) -> Option<Batch>
-        ensures { result ≡ batch_on self.now.books day }
-    {
-        self.books.batch(day)
-    }
-
-    /// The row, in a month, of a bond of this denomination and issue month, registered or not; `None`
-    /// without rates for its issue period.
-    pub fn quote(
-        &self,
-        denom: Denom,
-        issued: IssueMonth,
-        month: Month,
-    ) -> Result<Option<Row>, Unserved>
-        ensures row { IfOk result (λ row. IsQuote self.now.books denom issued month row) }
-        ensures memory { IfErr result (λ e. e ≡ Unserved.NoMemory) }
-    {
-        Ok(self.books.quote(denom, issued, month)?)
+        match *query {
+            Query::Inventory { customer, month } => {
+                Ok(Shown::Sheet(self.books.inventory(customer, month)?))
+            }
+            Query::Bonds(customer) => Ok(Shown::Bonds(self.books.bonds_of(customer)?)),
+            Query::Ticket(number) => Ok(Shown::Ticket(self.books.ticket(number)?)),
+            Query::Batch(day) => Ok(Shown::Batch(self.books.batch(day))),
+            Query::Value {
+                denom,
+                issued,
+                month,
+            } => Ok(Shown::Row(self.books.quote(denom, issued, month)?)),
+        }
     }
 }
 
@@ -178,6 +151,8 @@ impl Keeper for ListKeeper {
 
     ghost is_clean = { λ _. Unit {0} };
 
+    ghost is_guarded = { λ _. Unit {0} };
+
     ghost may_fail = { ⊥ };
 
     ghost is_open = { λ _. true };
@@ -194,6 +169,8 @@ impl Keeper for ListKeeper {
 
     ghost one = { λ _ _ _ _ has other. sym has.0 ∙ other.0 };
 
+    ghost fewer = { λ _ _ _. tt };
+
     ghost missed = { λ _ start events request went. (
       went.0,
       ∥∥₁_map went.1 (λ (w, happened, up, is).
@@ -208,29 +185,8 @@ impl Keeper for ListKeeper {
         answer
     }
 
-    fn inventory(&mut self, customer: Customer, month: Month) -> Result<Sheet, Unserved> {
-        ListKeeper::inventory(self, customer, month)
-    }
-
-    fn bonds_of(&mut self, customer: Customer) -> Result<Vec<Bond>, Unserved> {
-        ListKeeper::bonds_of(self, customer)
-    }
-
-    fn ticket(&mut self, number: u64) -> Result<Option<Ticket>, Unserved> {
-        ListKeeper::ticket(self, number)
-    }
-
-    fn batch(&mut self, day: Day) -> Result<Option<Batch>, Unserved> {
-        Ok(ListKeeper::batch(self, day))
-    }
-
-    fn quote(
-        &mut self,
-        denom: Denom,
-        issued: IssueMonth,
-        month: Month,
-    ) -> Result<Option<Row>, Unserved> {
-        ListKeeper::quote(self, denom, issued, month)
+    fn ask(&mut self, query: &Query) -> Result<Shown, Unserved> {
+        ListKeeper::ask(self, query)
     }
 }
 
