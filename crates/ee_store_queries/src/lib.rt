@@ -10,4 +10,4 @@ mod from_rows;
 mod periods;
 mod queries;
 
-pub use queries::{ask_batch, ask_bonds, ask_inventory, ask_quote, ask_ticket};
+pub use queries::ask;

@@ -1,12 +1,11 @@
-//! Queries: what each finds in a transaction, and each as one transaction, which is read and rolled back.
+//! Queries: what each finds in a transaction, and any of them as one transaction, which is read and rolled back.
 
-ghost use Rattle.std.specs.Prelude.{◌≡◌, ◌<◌, map, ⊤};
+ghost use Rattle.std.specs.Prelude.{◌≡◌, ◌<◌, map, ⊤, IfOk};
 ghost use Rattle.std.specs.List.{filter_map};
 ghost use Rattle.sqlite.specs.Held.{state};
-ghost use Rattle.ee_desk_model.specs.Queries.{ticket_numbered, batch_on, bonds_of, row_of, shown_in_row};
+ghost use Rattle.ee_desk_model.specs.Queries.{ticket_numbered, batch_on, bonds_of, row_of, shown_in_row, IsInventory, IsQuote, ShowsQuery, IsKind};
 ghost use Rattle.ee_store_tables.specs.AsRows.{Fits};
 ghost use Rattle.ee_store_tables.specs.Statements.{StaysInside, CommitsNothing, LeavesNoMore};
-ghost use Rattle.ee_keeper.specs.Keeping.{IsInventory, IsQuote};
 ghost use Rattle.ee_store_books.specs.Causes.{FailsByCause, IsReady};
 ghost use Rattle.ee_store_books.specs.Seen.{FindsIn, LeavesRows};
 ghost use Rattle.ee_store_queries.specs.Asking.{AnswersOrFails, ShowsContent, KeepsContent, KeepsRoom};
@@ -16,7 +15,7 @@ use crate::from_rows::{batch_shown, bonds_shown, ticket_shown};
 use crate::periods::periods_in;
 use ee_calculator::{Bond, Row, Sheet, sheet};
 use ee_desk_decide::{quote, rows_of};
-use ee_desk_model::{Batch, Ticket, UnitTables};
+use ee_desk_model::{Batch, Query, Shown, Ticket, UnitTables};
 use ee_store_books::{find_terms, terms_in, tickets_in};
 use ee_store_tables::{Failure, bonds_of_owner, find_batch, find_ticket, ticket_lines};
 use ee_units::calendar::period_of;
@@ -25,7 +24,7 @@ use sqlite::{Alter, Connection, Transaction};
 use std::alloc::Global;
 
 /// The batch of a day, if that day is closed.
-pub fn batch_in<S: Alter>(tx: &mut Transaction<'_, S>, day: Day) -> Result<Option<Batch>, Failure>
+fn batch_in<S: Alter>(tx: &mut Transaction<'_, S>, day: Day) -> Result<Option<Batch>, Failure>
     ensures same_reference { tx.new.conn.ghost_name ≡ tx.old.conn.ghost_name }
     ensures found { FindsIn (state S.Store tx.old.conn.now) (state S.Store tx.new.conn.now) result (λ content batch. batch ≡ batch_on content.books day) }
     ensures commit { CommitsNothing (state S.Store tx.old.conn.now) (state S.Store tx.new.conn.now) }
@@ -80,7 +79,7 @@ fn none_beyond<S: Alter>(
 }
 
 /// The ticket with this number, if there is one.
-pub fn ticket_in<S: Alter>(
+fn ticket_in<S: Alter>(
     tx: &mut Transaction<'_, S>,
     alloc: Global,
     number: u64,
@@ -100,7 +99,7 @@ pub fn ticket_in<S: Alter>(
 }
 
 /// The row, in a month, of an unregistered bond, if its issue period has rates.
-pub fn quote_in<S: Alter>(
+fn quote_in<S: Alter>(
     tx: &mut Transaction<'_, S>,
     alloc: Global,
     tables: &mut UnitTables,
@@ -120,7 +119,7 @@ pub fn quote_in<S: Alter>(
 }
 
 /// The unpaid bonds whose owner is this customer, in order of serial number.
-pub fn bonds_in<S: Alter>(
+fn bonds_in<S: Alter>(
     tx: &mut Transaction<'_, S>,
     alloc: Global,
     customer: Customer,
@@ -162,7 +161,7 @@ fn rows_in<S: Alter>(
 }
 
 /// The sheet, in a month, of the unpaid bonds whose owner is this customer, in order of serial number.
-pub fn inventory_in<S: Alter>(
+fn inventory_in<S: Alter>(
     tx: &mut Transaction<'_, S>,
     alloc: Global,
     tables: &mut UnitTables,
@@ -182,52 +181,58 @@ pub fn inventory_in<S: Alter>(
     Ok(sheet(rows))
 }
 
-/// The batch of a day, if that day is closed.
-pub fn ask_batch<S: Alter>(conn: &mut Connection<S>, day: Day) -> Result<Option<Batch>, Failure>
-    ensures shown { ShowsContent (state S.Store conn.old) (state S.Store conn.new) result (λ content batch. batch ≡ batch_on content.books day) }
-    ensures kept { KeepsContent (state S.Store conn.old) (state S.Store conn.new) }
-    ensures crash { LeavesNoMore (state S.Store conn.old) (state S.Store conn.new) }
-    ensures ready { IsReady (state S.Store conn.old) → IsReady (state S.Store conn.new) }
-    ensures room { KeepsRoom (state S.Store conn.old) (state S.Store conn.new) }
-    ensures cause { AnswersOrFails (state S.Store conn.old) (state S.Store conn.new) result }
-{
-    if !conn.is_autocommit() {
-        return Err(Failure::StoreFailed);
-    }
-    let mut tx = conn.transaction();
-    batch_in(&mut tx, day)
-}
-
-/// The ticket with this number, if there is one.
-pub fn ask_ticket<S: Alter>(
-    conn: &mut Connection<S>,
+/// What the books show for a query.
+fn shown_in<S: Alter>(
+    tx: &mut Transaction<'_, S>,
     alloc: Global,
-    number: u64,
-) -> Result<Option<Ticket>, Failure>
-    ensures shown { ShowsContent (state S.Store conn.old) (state S.Store conn.new) result (λ content ticket. ticket ≡ ticket_numbered content.books number) }
-    ensures kept { KeepsContent (state S.Store conn.old) (state S.Store conn.new) }
-    ensures crash { LeavesNoMore (state S.Store conn.old) (state S.Store conn.new) }
-    ensures ready { IsReady (state S.Store conn.old) → IsReady (state S.Store conn.new) }
-    ensures room { KeepsRoom (state S.Store conn.old) (state S.Store conn.new) }
-    ensures cause { AnswersOrFails (state S.Store conn.old) (state S.Store conn.new) result }
+    tables: &mut UnitTables,
+    query: &Query,
+) -> Result<Shown, Failure>
+    ensures same_reference { tx.new.conn.ghost_name ≡ tx.old.conn.ghost_name }
+    ensures found { FindsIn (state S.Store tx.old.conn.now) (state S.Store tx.new.conn.now) result
+        (λ content shown. ShowsQuery content.books query.now shown) }
+    ensures kind { IfOk result (IsKind query.now) }
+    ensures commit { CommitsNothing (state S.Store tx.old.conn.now) (state S.Store tx.new.conn.now) }
+    ensures crash { LeavesNoMore (state S.Store tx.old.conn.now) (state S.Store tx.new.conn.now) }
+    ensures cause { FailsByCause (state S.Store tx.old.conn.now) (state S.Store tx.new.conn.now) result (λ _. ⊤) }
 {
-    if !conn.is_autocommit() {
-        return Err(Failure::StoreFailed);
+    match *query {
+        Query::Inventory { customer, month } => {
+            let sheet = inventory_in(tx, alloc, tables, customer, month)?;
+            Ok(Shown::Sheet(sheet))
+        }
+        Query::Bonds(customer) => {
+            let bonds = bonds_in(tx, alloc, customer)?;
+            Ok(Shown::Bonds(bonds))
+        }
+        Query::Ticket(number) => {
+            let ticket = ticket_in(tx, alloc, number)?;
+            Ok(Shown::Ticket(ticket))
+        }
+        Query::Batch(day) => {
+            let batch = batch_in(tx, day)?;
+            Ok(Shown::Batch(batch))
+        }
+        Query::Value {
+            denom,
+            issued,
+            month,
+        } => {
+            let row = quote_in(tx, alloc, tables, denom, issued, month)?;
+            Ok(Shown::Row(row))
+        }
     }
-    let mut tx = conn.transaction();
-    ticket_in(&mut tx, alloc, number)
 }
 
-/// The row, in a month, of an unregistered bond, if its issue period has rates.
-pub fn ask_quote<S: Alter>(
+/// Shows what the books have, in one transaction, which is read and rolled back.
+pub fn ask<S: Alter>(
     conn: &mut Connection<S>,
     alloc: Global,
     tables: &mut UnitTables,
-    denom: Denom,
-    issued: IssueMonth,
-    month: Month,
-) -> Result<Option<Row>, Failure>
-    ensures shown { ShowsContent (state S.Store conn.old) (state S.Store conn.new) result (λ content row. IsQuote content.books denom issued month row) }
+    query: &Query,
+) -> Result<Shown, Failure>
+    ensures shown { ShowsContent (state S.Store conn.old) (state S.Store conn.new) result (λ content shown. ShowsQuery content.books query.now shown) }
+    ensures kind { IfOk result (IsKind query.now) }
     ensures kept { KeepsContent (state S.Store conn.old) (state S.Store conn.new) }
     ensures crash { LeavesNoMore (state S.Store conn.old) (state S.Store conn.new) }
     ensures ready { IsReady (state S.Store conn.old) → IsReady (state S.Store conn.new) }
@@ -238,47 +243,5 @@ pub fn ask_quote<S: Alter>(
         return Err(Failure::StoreFailed);
     }
     let mut tx = conn.transaction();
-    quote_in(&mut tx, alloc, tables, denom, issued, month)
-}
-
-/// The unpaid bonds whose owner is this customer, in order of serial number.
-pub fn ask_bonds<S: Alter>(
-    conn: &mut Connection<S>,
-    alloc: Global,
-    customer: Customer,
-) -> Result<Vec<Bond>, Failure>
-    ensures shown { ShowsContent (state S.Store conn.old) (state S.Store conn.new) result (λ content bonds. bonds.items ≡ bonds_of content.books customer) }
-    ensures kept { KeepsContent (state S.Store conn.old) (state S.Store conn.new) }
-    ensures crash { LeavesNoMore (state S.Store conn.old) (state S.Store conn.new) }
-    ensures ready { IsReady (state S.Store conn.old) → IsReady (state S.Store conn.new) }
-    ensures room { KeepsRoom (state S.Store conn.old) (state S.Store conn.new) }
-    ensures cause { AnswersOrFails (state S.Store conn.old) (state S.Store conn.new) result }
-{
-    if !conn.is_autocommit() {
-        return Err(Failure::StoreFailed);
-    }
-    let mut tx = conn.transaction();
-    bonds_in(&mut tx, alloc, customer)
-}
-
-/// The sheet, in a month, of the unpaid bonds whose owner is this customer, in order of serial number.
-pub fn ask_inventory<S: Alter>(
-    conn: &mut Connection<S>,
-    alloc: Global,
-    tables: &mut UnitTables,
-    customer: Customer,
-    month: Month,
-) -> Result<Sheet, Failure>
-    ensures shown { ShowsContent (state S.Store conn.old) (state S.Store conn.new) result (λ content sheet. IsInventory content.books customer month sheet) }
-    ensures kept { KeepsContent (state S.Store conn.old) (state S.Store conn.new) }
-    ensures crash { LeavesNoMore (state S.Store conn.old) (state S.Store conn.new) }
-    ensures ready { IsReady (state S.Store conn.old) → IsReady (state S.Store conn.new) }
-    ensures room { KeepsRoom (state S.Store conn.old) (state S.Store conn.new) }
-    ensures cause { AnswersOrFails (state S.Store conn.old) (state S.Store conn.new) result }
-{
-    if !conn.is_autocommit() {
-        return Err(Failure::StoreFailed);
-    }
-    let mut tx = conn.transaction();
-    inventory_in(&mut tx, alloc, tables, customer, month)
+    shown_in(&mut tx, alloc, tables, query)
 }

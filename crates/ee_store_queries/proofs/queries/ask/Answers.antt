@@ -3,7 +3,7 @@ use Rattle.sqlite.specs.Held.{state}
 use Rattle.ee_store_queries.specs.Asking.{KeepsContent, KeepsRoom, AnswersOrFails}
 use Rattle.ee_store_books.specs.Causes.{IsReady}
 use Rattle.ee_store_queries.proofs.QueryCauses.{read_fails, read_ready, read_keeps, read_room}
-use Rattle.ee_store_queries.proofs.queries.ask_inventory.Goals as goal
+use Rattle.ee_store_queries.proofs.queries.ask.Goals as goal
 
 pub returns-clause-kept : goal.returns-clause-kept
 returns-clause-kept g c =
@@ -11,22 +11,22 @@ returns-clause-kept g c =
     let start = state g.S.Store c.transaction-tx.result.conn.now in
     let is = ap (state g.S.Store) c.transaction-tx.ensures.begun in
     let settled = c.is_autocommit.ensures.settled c.if-not-is_autocommit.false in
-    let middle = state g.S.Store c.inventory_in.new.tx.conn.now in
+    let middle = state g.S.Store c.shown_in.new.tx.conn.now in
     let new = state g.S.Store c.drop-tx.new.self.0 in
-    let same = c.conn-1.given.1 (sym (c.inventory_in.ensures.same_reference ∙ c.transaction-tx.ensures.same_reference)) in
+    let same = c.conn-1.given.1 (sym (c.shown_in.ensures.same_reference ∙ c.transaction-tx.ensures.same_reference)) in
     subst (λ h. KeepsContent old (state g.S.Store h)) (sym same)
-    (read_keeps old start is settled middle new c.inventory_in.ensures.commit c.drop-tx.ensures.survives c.drop-tx.ensures.undone)
+    (read_keeps old start is settled middle new c.shown_in.ensures.commit c.drop-tx.ensures.survives c.drop-tx.ensures.undone)
 
 pub returns-clause-ready : goal.returns-clause-ready
 returns-clause-ready g c =
     let old = state g.S.Store c.args.conn.now in
     let start = state g.S.Store c.transaction-tx.result.conn.now in
     let is = ap (state g.S.Store) c.transaction-tx.ensures.begun in
-    let middle = state g.S.Store c.inventory_in.new.tx.conn.now in
+    let middle = state g.S.Store c.shown_in.new.tx.conn.now in
     let new = state g.S.Store c.drop-tx.new.self.0 in
-    let same = c.conn-1.given.1 (sym (c.inventory_in.ensures.same_reference ∙ c.transaction-tx.ensures.same_reference)) in
+    let same = c.conn-1.given.1 (sym (c.shown_in.ensures.same_reference ∙ c.transaction-tx.ensures.same_reference)) in
     subst (λ h. IsReady old → IsReady (state g.S.Store h)) (sym same)
-    (read_ready old start is middle new c.inventory_in.ensures.crash c.drop-tx.ensures.survives c.drop-tx.ensures.ended)
+    (read_ready old start is middle new c.shown_in.ensures.crash c.drop-tx.ensures.survives c.drop-tx.ensures.ended)
 
 pub returns-clause-room : goal.returns-clause-room
 returns-clause-room g c =
@@ -34,11 +34,11 @@ returns-clause-room g c =
     let start = state g.S.Store c.transaction-tx.result.conn.now in
     let is = ap (state g.S.Store) c.transaction-tx.ensures.begun in
     let settled = c.is_autocommit.ensures.settled c.if-not-is_autocommit.false in
-    let middle = state g.S.Store c.inventory_in.new.tx.conn.now in
+    let middle = state g.S.Store c.shown_in.new.tx.conn.now in
     let new = state g.S.Store c.drop-tx.new.self.0 in
-    let same = c.conn-1.given.1 (sym (c.inventory_in.ensures.same_reference ∙ c.transaction-tx.ensures.same_reference)) in
+    let same = c.conn-1.given.1 (sym (c.shown_in.ensures.same_reference ∙ c.transaction-tx.ensures.same_reference)) in
     subst (λ h. KeepsRoom old (state g.S.Store h)) (sym same)
-    (read_room old start is settled middle new c.inventory_in.ensures.commit c.drop-tx.ensures.survives c.drop-tx.ensures.undone)
+    (read_room old start is settled middle new c.shown_in.ensures.commit c.drop-tx.ensures.survives c.drop-tx.ensures.undone)
 
 pub returns-clause-cause : goal.returns-clause-cause
 returns-clause-cause g c =
@@ -46,11 +46,11 @@ returns-clause-cause g c =
     let start = state g.S.Store c.transaction-tx.result.conn.now in
     let is = ap (state g.S.Store) c.transaction-tx.ensures.begun in
     let settled = c.is_autocommit.ensures.settled c.if-not-is_autocommit.false in
-    let middle = state g.S.Store c.inventory_in.new.tx.conn.now in
+    let middle = state g.S.Store c.shown_in.new.tx.conn.now in
     let new = state g.S.Store c.drop-tx.new.self.0 in
-    let same = c.conn-1.given.1 (sym (c.inventory_in.ensures.same_reference ∙ c.transaction-tx.ensures.same_reference)) in
-    subst (λ h. AnswersOrFails old (state g.S.Store h) c.inventory_in.result) (sym same)
-    (read_fails old start is middle new c.inventory_in.ensures.crash c.drop-tx.ensures.survives settled c.inventory_in.result c.inventory_in.ensures.cause)
+    let same = c.conn-1.given.1 (sym (c.shown_in.ensures.same_reference ∙ c.transaction-tx.ensures.same_reference)) in
+    subst (λ h. AnswersOrFails old (state g.S.Store h) c.shown_in.result) (sym same)
+    (read_fails old start is middle new c.shown_in.ensures.crash c.drop-tx.ensures.survives settled c.shown_in.result c.shown_in.ensures.cause)
 
 pub returns-clause-crash : goal.returns-clause-crash
 returns-clause-crash g c = search rules
