@@ -20,7 +20,7 @@ from pathlib import Path
 from typing import Callable, Generic, Iterable, Iterator, NamedTuple, Protocol, TypeVar
 
 HERE = Path(__file__).resolve().parent
-sys.path[:0] = [str(HERE.parent / "packages"), str(HERE.parent.parent / "shared")]
+sys.path[:0] = [str(HERE.parent / "package_parts"), str(HERE.parent.parent / "shared")]
 
 import using  # noqa: E402
 from building import Release, TOP, section  # noqa: E402
