@@ -24,5 +24,5 @@ pub use acts::canonical;
 pub use invariants::{batch_fits, bonds_fit, day_fits, rate_rows_fit, ticket_fits};
 pub use laws::texts_law;
 pub use replies::reply_text;
-pub use reply_reading::read_reply;
+pub use reply_reading::{read_known_reply, read_reply};
 pub use writing::{text_of, write_number_member, write_string_member, write_text_member};

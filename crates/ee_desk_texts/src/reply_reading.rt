@@ -1,8 +1,11 @@
 //! Reading replies from their texts.
 
-ghost use Rattle.std.specs.Prelude.{◌≡◌, IfOk, option_map};
+ghost use Rattle.std.specs.Prelude.{◌≡◌, IfOk, Some, option_map};
 ghost use Rattle.json.specs.Value.{value_view, items_view};
+ghost use Rattle.ee_desk_model.specs.declared.replies.Reply.{Reply};
+ghost use Rattle.ee_desk_texts.specs.Ranges.{ReplyFits};
 ghost use Rattle.ee_desk_texts.specs.Reading.{each, added_of, opened_of, batch_of, line_of, ticket_of, short_reply_of, reply_of, ReadsReply};
+ghost use Rattle.ee_desk_texts.specs.Texts.{reply_text};
 
 use crate::fields::{cents_at, count_at, customer_at, day_at, items_at, serial_at};
 use crate::refusal_reading::refused_in;
@@ -110,9 +113,10 @@ fn reply_in(alloc: Global, value: &Value<'_>) -> Result<Option<Reply>, AllocErro
     }
 }
 
-/// Parses the text of a reply. `None` if the text isn't exactly the text of a reply.
-pub fn read_reply(alloc: Global, text: &str) -> Result<Option<Reply>, AllocError>
-    ensures { IfOk result (λ o. ReadsReply text.now o) }
+/// Parses the text of a reply without a test that it is one: a caller that doesn't know it to be the text of a
+/// reply calls `read_reply`. `None` if the text has no reply's shape.
+pub fn read_known_reply(alloc: Global, text: &str) -> Result<Option<Reply>, AllocError>
+    ensures { IfOk result (λ o. (p : Reply) → ReplyFits p → text.now ≡ reply_text p → o ≡ Some p) }
 {
     let mut scratch = Scratch::new(alloc);
     let value = match Value::parse(alloc, text, &mut scratch) {
@@ -120,7 +124,14 @@ pub fn read_reply(alloc: Global, text: &str) -> Result<Option<Reply>, AllocError
         Err(Error::Invalid) => return Ok(None),
         Err(_) => return Err(AllocError),
     };
-    let Some(reply) = reply_in(alloc, &value)? else {
+    reply_in(alloc, &value)
+}
+
+/// Parses the text of a reply. `None` if the text isn't exactly the text of a reply.
+pub fn read_reply(alloc: Global, text: &str) -> Result<Option<Reply>, AllocError>
+    ensures { IfOk result (λ o. ReadsReply text.now o) }
+{
+    let Some(reply) = read_known_reply(alloc, text)? else {
         return Ok(None);
     };
     if reply_text(alloc, &reply)?.as_str() == text {

@@ -1,5 +1,5 @@
 -- The kept reply by the texts of acts.
-use Rattle.std.proofs.Common.{◌≡◌, ◌≢◌, ℕ, cond, List, Some, None, sym, ap, ◌∙◌, subst}
+use Rattle.std.proofs.Common.{◌≡◌, ◌≢◌, ℕ, cond, List, Option, Some, None, sym, ap, ◌∙◌}
 use Rattle.std.specs.Option.{unwrap_or}
 use Rattle.std.proofs.lemmas.Bool.{false_from_ne_true}
 use Rattle.ee_desk_model.specs.declared.acts.Act.{Act}
@@ -11,9 +11,8 @@ use Rattle.ee_desk_model.specs.Acts.{same_act}
 use Rattle.ee_desk_model.specs.Numbers.{RequestKey}
 use Rattle.ee_desk_model.specs.Answers.{reply_again}
 use Rattle.ee_desk_model.proofs.Lemmas.Requests.{same_act-is, same_act-self}
-use Rattle.ee_desk_texts.proofs.Lemmas.{one_act, reply_only}
-use Rattle.ee_desk_texts.specs.Ranges.{ActFits}
-use Rattle.ee_desk_texts.specs.Reading.{ReadsReply}
+use Rattle.ee_desk_texts.proofs.Lemmas.{one_act}
+use Rattle.ee_desk_texts.specs.Ranges.{ActFits, ReplyFits}
 use Rattle.ee_desk_texts.specs.Texts.{act_text, reply_text}
 use Rattle.ee_store_books.specs.Standing.{IsKept}
 
@@ -29,13 +28,17 @@ of_other act reply asked apart number kept again is fits one two three =
 some_is : (a b : Reply) → Some a ≡ Some b → a ≡ b
 some_is a b e = ap (λ o. unwrap_or o a) e
 
-pub of_same : (act reply asked : List ℕ) (told : Reply) → act ≡ asked → ReadsReply reply (Some told) → IsAgain act reply asked told
+-- what a text that is known to be a reply's is read as
+abbrev pub ReadsKnown : List ℕ → Option Reply → Type 0
+ReadsKnown reply o = (p : Reply) → ReplyFits p → reply ≡ reply_text p → o ≡ Some p
+
+pub of_same : (act reply asked : List ℕ) (told : Reply) → act ≡ asked → ReadsKnown reply (Some told) → IsAgain act reply asked told
 of_same act reply asked told same reads number kept again is fits one two three =
     let acts = one_act kept.act again is.act_in_range fits (sym one ∙ same ∙ three) in
     let is_same = ap (same_act kept.act) (sym acts) ∙ same_act-self kept.act in
-    some_is told kept.reply (reply_only kept.reply (Some told) is.reply_in_range (subst (λ t. ReadsReply t (Some told)) two reads))
+    some_is told kept.reply (reads kept.reply is.reply_in_range two)
     ∙ sym (ap (λ b. cond b kept.reply (Refused NumberReused)) is_same)
 
 -- the text of a kept reply is that of a reply
-pub kept_is_read : (reply : List ℕ) (number : RequestKey) (kept : Kept) → IsKept number kept → reply ≡ reply_text kept.reply → ¬ ReadsReply reply None
-kept_is_read reply number kept is own reads = absurd (let e = reply_only kept.reply None is.reply_in_range (subst (λ t. ReadsReply t None) own reads) in cc)
+pub kept_is_read : (reply : List ℕ) (number : RequestKey) (kept : Kept) → IsKept number kept → reply ≡ reply_text kept.reply → ¬ ReadsKnown reply None
+kept_is_read reply number kept is own reads = absurd (let e = reads kept.reply is.reply_in_range own in cc)

@@ -28,7 +28,7 @@ use crate::known::Known;
 use crate::view::effects_in;
 use crate::writing::write_changes;
 use ee_desk_model::{Effects, Refusal, Reply, Request, UnitTables};
-use ee_desk_texts::{canonical, read_reply, reply_text};
+use ee_desk_texts::{canonical, read_known_reply, reply_text};
 use ee_store_tables::{Failure, ReplyRow, add_answer, find_answer};
 use sqlite::{Alter, Connection, Transaction};
 use std::alloc::Global;
@@ -45,7 +45,7 @@ pub fn reply_again(alloc: Global, act: &str, reply: &str, asked: &str) -> Result
     if act != asked {
         return Ok(Reply::Refused(Refusal::NumberReused));
     }
-    match read_reply(alloc, reply)? {
+    match read_known_reply(alloc, reply)? {
         Some(reply) => Ok(reply),
         None => Err(Failure::StoreFailed),
     }
