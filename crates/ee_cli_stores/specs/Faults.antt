@@ -13,6 +13,7 @@ use Rattle.sqlite.specs.Files.{file_state, IsCleanLeft}
 use Rattle.ee_store_files.specs.Files.{Leaves}
 use Rattle.ee_store.specs.declared.opening.Rest.{Rest}
 use Rattle.ee_store.specs.Adopted.{IsRefusedFrom, IfConnection, IfFiles}
+use Rattle.ee_store.specs.Holding.{KeepsHeld}
 use Rattle.ee_desk_laws.specs.Events.{World}
 use Rattle.ee_desk_laws.specs.Ties.{Leaves as LeavesWorld}
 use Rattle.ee_store_books.specs.Seen.{StandsFor}
@@ -31,13 +32,14 @@ fault_of_opening opening.Unusable = fault.Store store.Unusable
 
 module _ {D : Type 0} {g : Ghosts D} where
   -- What first held this isn't opened for this fault: its store was refused, and is left as it was found; or `sqlite` didn't open the
-  -- files, and what is left of them recovers to what was there.
+  -- files, and what is left of them recovers to what was there, and holds what they held.
   abbrev pub IsRefused : (Files D → Type 0) → (Files D → Type 0) → Image → RunFault → Rest (FileStore D g) (Leftover D g) → Type 0
   IsRefused IsLog IsDb start told rest =
       (cause : OpenFault) × (told ≡ fault_of_opening cause)
       × IfConnection rest (λ conn. HasCleanDisk (file_state conn) → IsRefusedFrom start cause conn)
       × IfFiles rest (λ _. (cause ≡ opening.NoMemory) ⊎ (cause ≡ opening.StoreFailed))
       × IfFiles rest (λ left. IfSome left (λ left. (files : Files D) × IsLog files × IsDb files × (IsCleanLeft left → Leaves files left)))
+      × IfFiles rest (λ left. IfSome left (λ left. IsCleanLeft left → KeepsHeld start left))
 
   -- a crash leaves of a store that couldn't be closed what it could leave before, so it still follows the store's events
   abbrev pub Keeps : Held (FileStore D g) → FileStore D g → Type 0

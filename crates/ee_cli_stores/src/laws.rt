@@ -1,7 +1,7 @@
 //! The law of command lines in a row. Its body here does nothing; the clauses state the law.
 
 ghost use Rattle.ee_store.specs.History.{OpensHistory, HoldHistory};
-ghost use Rattle.ee_cli_stores.specs.Lines.{ClosesLine, LeadsInARow};
+ghost use Rattle.ee_cli_stores.specs.Lines.{ClosesLine, LeadsInARow, WaitsLine};
 
 use ee_store::laws::whole_history_law;
 use sqlite_disk::Disk;
@@ -13,12 +13,15 @@ use sqlite_disk::Disk;
 /// - `opens`: a line opens a store that has gone through what led to its files.
 /// - `closes`: if a line's store is at rest as the line ends (`Stores::rests`), the line leads to its two files:
 ///   by the events of its requests, whether their replies arrived or not, and a stop.
+/// - `waits`: a line whose store wasn't opened is no event, if what is left of its files holds what they held, as
+///   `Stores::open` says of files that `sqlite` didn't open.
 /// - `leads`: lines in a row lead to what the last one left.
 /// - `holds`: so what the files hold is the content of requests that were sent, each acting once, and each reply
 ///   that was given is still the answer (`IsLeftBy`).
 pub const fn lines_law<D: Disk>()
     ensures opens { OpensHistory D.Disk }
     ensures closes { ClosesLine D.Disk }
+    ensures waits { WaitsLine }
     ensures leads { LeadsInARow }
     ensures holds { HoldHistory }
 {

@@ -9,6 +9,7 @@ use Rattle.sqlite.specs.WalFiles.{outcomes}
 use Rattle.sqlite.specs.WalReads.{AreClean}
 use Rattle.sqlite.specs.declared.FileStore.{FileStore}
 use Rattle.sqlite.specs.FileStore.{faults}
+use Rattle.sqlite_store.specs.FileStore.{files as store_files, is_shielded}
 use Rattle.sqlite.specs.Held.{Held}
 use Rattle.sqlite.specs.Files.{image_of, file_state}
 use Rattle.sqlite.specs.Closing.{HoldsAlone}
@@ -35,3 +36,7 @@ RestsIn {g = g} c files = AreClean g files.log files.db → (content : Content) 
 -- the store is reported as failed only if the device failed once more, or it was shut before
 abbrev pub FailsToEnd : {D : Type 0} {g : Ghosts D} → Held (FileStore D g) → FileStore D g → Failure → Type 0
 FailsToEnd c last failure = failure ≡ StoreFailed → MoreFaults (faults c.store) (faults last) ⊎ ((file_state c).is_open ≡ false)
+
+-- the reads of the files were tested to the end: they are those of a store that is shielded
+abbrev pub AreShielded : {D : Type 0} {g : Ghosts D} → Files D → Type 0
+AreShielded {D} {g} files = (last : FileStore D g) × (store_files last ≡ (files.log, files.db)) × is_shielded last

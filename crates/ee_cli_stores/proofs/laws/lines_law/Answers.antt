@@ -1,4 +1,4 @@
-use Rattle.ee_cli_stores.proofs.Lines.{closes_line, leads_in_a_row}
+use Rattle.ee_cli_stores.proofs.Lines.{closes_line, leads_in_a_row, waits_line}
 use Rattle.ee_cli_stores.proofs.laws.lines_law.Goals as goal
 
 pub returns-clause-opens : goal.returns-clause-opens
@@ -12,3 +12,6 @@ returns-clause-leads g c = leads_in_a_row
 
 pub returns-clause-holds : goal.returns-clause-holds
 returns-clause-holds g c = c.whole_history_law.ensures.files
+
+pub returns-clause-waits : goal.returns-clause-waits
+returns-clause-waits g c = waits_line c.whole_history_law.ensures.waits

@@ -14,4 +14,7 @@ returns-in-Err-clause-told g c = is_told c.in-Err.not.cause c.in-Err.not.fault c
 pub returns-in-Err-clause-refused : goal.returns-in-Err-clause-refused
 returns-in-Err-clause-refused g c =
     let it = c.in-Err.ensures in
-    (c.in-Err.not.fault, c.fault_of.ensures, it.refused, it.fault, it.left)
+    (c.in-Err.not.fault, c.fault_of.ensures, it.refused, it.fault, it.left, it.held)
+
+pub returns-in-Ok-clause-tested : goal.returns-in-Ok-clause-tested
+returns-in-Ok-clause-tested g c clean = (c.in-Ok.ensures.opened clean).shielded

@@ -54,3 +54,11 @@ pub returns-in-Err-clause-cause : goal.returns-in-Err-clause-cause
 returns-in-Err-clause-cause g c clean =
     let fails = subst (λ conn. FailsToClose conn c.in-Err.store c.in-Err.error) c.into_connection.ensures (c.in-Err.ensures.err.1 clean) in
     subst (FailsToEnd c.args.self.conn c.in-Err.store) (sym (c.from.ensures ∙ ap failure_of fails.1)) (excused_end c.args.self.conn c.in-Err.store fails.0 fails.2)
+
+pub returns-in-Ok-clause-tested : goal.returns-in-Ok-clause-tested
+returns-in-Ok-clause-tested g c = λ shielded.
+    let closed = c.in-Ok.ensures.ok in
+    (closed.0, closed.1, closed.2.quiet.shield (subst (λ (conn : Held (FileStore g.D.Disk.row g.D.Disk)). (file_state conn).IsShielded) (sym c.into_connection.ensures) shielded))
+
+pub returns-in-Err-clause-tested : goal.returns-in-Err-clause-tested
+returns-in-Err-clause-tested g c = tt
