@@ -38,5 +38,5 @@ abbrev pub FailsToEnd : {D : Type 0} {g : Ghosts D} → Held (FileStore D g) →
 FailsToEnd c last failure = failure ≡ StoreFailed → MoreFaults (faults c.store) (faults last) ⊎ ((file_state c).is_open ≡ false)
 
 -- the reads of the files were tested to the end: they are those of a store that is shielded
-abbrev pub AreShielded : {D : Type 0} {g : Ghosts D} → Files D → Type 0
-AreShielded {D} {g} files = (last : FileStore D g) × (store_files last ≡ (files.log, files.db)) × is_shielded last
+abbrev pub AreShielded : {D : Type 0} (g : Ghosts D) → Files D → Type 0
+AreShielded {D} g files = (last : FileStore D g) × (store_files last ≡ (files.log, files.db)) × is_shielded last

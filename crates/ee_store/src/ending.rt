@@ -50,7 +50,7 @@ impl<D: Disk + Drop> SqlKeeper<FileStore<D>> {
     pub fn close_files(self) -> Result<Files<D>, (Failure, FileStore<D>)>
         ensures at_rest { IfOk result (λ files. RestsIn self.conn files) }
         ensures history { IfOk result (λ files. RestsAfter self.conn files) }
-        ensures tested { IfOk result (λ files. (file_state self.conn).IsShielded → AreShielded {g = D.Disk} files) }
+        ensures tested { IfOk result (λ files. (file_state self.conn).IsShielded → AreShielded D.Disk files) }
         ensures left { IfErr result (λ e. (db : Trees) → recovers e.1 db → (file_state self.conn).may_leave db) }
         ensures follows { IfErr result (λ e. (w : World) → FollowsWorld (file_state self.conn) w → Leaves StandsFor (recovers e.1) w) }
         ensures cause { IfErr result (λ e. IsClean (view e.1) → FailsToEnd self.conn e.1 e.0) }

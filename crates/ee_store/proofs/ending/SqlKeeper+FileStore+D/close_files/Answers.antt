@@ -58,7 +58,7 @@ returns-in-Err-clause-cause g c clean =
 pub returns-in-Ok-clause-tested : goal.returns-in-Ok-clause-tested
 returns-in-Ok-clause-tested g c = λ shielded.
     let closed = c.in-Ok.ensures.ok in
-    (closed.0, closed.1, closed.2.quiet.shield (subst (λ (conn : Held (FileStore g.D.Disk.row g.D.Disk)). (file_state conn).IsShielded) (sym c.into_connection.ensures) shielded))
+    (closed.0, closed.1, closed.2.quiet.shield (subst (λ conn. (file_state conn).IsShielded) (sym c.into_connection.ensures) shielded))
 
 pub returns-in-Err-clause-tested : goal.returns-in-Err-clause-tested
 returns-in-Err-clause-tested g c = tt
