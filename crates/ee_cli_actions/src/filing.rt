@@ -93,12 +93,12 @@ fn print_reply<W: Sink>(alloc: Global, reply: &Reply, output: &mut W) -> Result<
     ensures told { TellsReply (W.contents output.old) (W.contents output.new) (Ok reply.now) result }
     ensures device { TellsDeviceOnlyIf (W.may_have_failed output.new) result }
 {
-    let line = line(alloc, reply)?;
+    let line = reply_line(alloc, reply)?;
     print(&line, output)?;
     Ok(outcome(reply))
 }
 
-fn line(alloc: Global, reply: &Reply) -> Result<String, AllocError>
+fn reply_line(alloc: Global, reply: &Reply) -> Result<String, AllocError>
     ensures { IfOk result (λ line. string_bytes line ≡ reply_line reply.now) }
 {
     let mut line = reply_text(alloc, reply)?;

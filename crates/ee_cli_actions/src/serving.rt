@@ -136,11 +136,11 @@ fn print_line<W: Sink>(
     ensures printed { PrintsLine (W.contents output.old) (W.contents output.new) (connection_line number ended) result }
     ensures fault { IfErr result (λ fault. (fault ≡ RunFault.Device) ⊎ (fault ≡ RunFault.NoMemory)) }
 {
-    let line = line(alloc, number, ended)?;
+    let line = connection_line(alloc, number, ended)?;
     print(&line, output)
 }
 
-fn line(alloc: Global, number: u64, ended: Ended) -> Result<String, AllocError>
+fn connection_line(alloc: Global, number: u64, ended: Ended) -> Result<String, AllocError>
     ensures { IfOk result (λ line. string_bytes line ≡ connection_line number ended) }
 {
     let messages = ended.messages;

@@ -1,5 +1,5 @@
 use Rattle.std.proofs.Common.{rules}
-use Rattle.ee_cli_actions.proofs.filing.line.Goals as goal
+use Rattle.ee_cli_actions.proofs.serving.connection_line.Goals as goal
 
 pub returns : goal.returns
 returns c = search rules
