@@ -104,8 +104,8 @@ fn value_command<'a>(alloc: Global) -> Result<Command<'a>, AllocError>
         row,
         positional(alloc, "rate", "Fixed rate in percent, as 3.50"),
     );
-    let row = with(row, extension(alloc));
-    with(row, explain(alloc))
+    let row = with(row, extension_arg(alloc));
+    with(row, explain_arg(alloc))
 }
 
 fn apply_command<'a>(alloc: Global) -> Result<Command<'a>, AllocError>
@@ -118,8 +118,8 @@ fn apply_command<'a>(alloc: Global) -> Result<Command<'a>, AllocError>
         "Answer the messages of standard input",
         "Example:\n  ee_cli apply --db day.db < requests.http",
     );
-    let row = with(Ok(row), store(alloc));
-    with(row, explain(alloc))
+    let row = with(Ok(row), store_arg(alloc));
+    with(row, explain_arg(alloc))
 }
 
 fn import_command<'a>(alloc: Global) -> Result<Command<'a>, AllocError>
@@ -132,12 +132,12 @@ fn import_command<'a>(alloc: Global) -> Result<Command<'a>, AllocError>
         "Import a CSV file of rates or bonds as one request",
         IMPORT_EXAMPLES,
     );
-    let row = with(Ok(row), kind(alloc));
+    let row = with(Ok(row), kind_arg(alloc));
     let row = with(row, positional(alloc, "file", "The CSV file"));
-    let row = with(row, store(alloc));
-    let row = with(row, request_number(alloc));
-    let row = with(row, desk(alloc));
-    with(row, explain(alloc))
+    let row = with(row, store_arg(alloc));
+    let row = with(row, request_number_arg(alloc));
+    let row = with(row, desk_arg(alloc));
+    with(row, explain_arg(alloc))
 }
 
 fn export_command<'a>(alloc: Global) -> Result<Command<'a>, AllocError>
@@ -150,9 +150,9 @@ fn export_command<'a>(alloc: Global) -> Result<Command<'a>, AllocError>
         "Print a customer's unpaid bonds as CSV",
         "Example:\n  ee_cli export 7 --db day.db",
     );
-    let row = with(Ok(row), customer(alloc));
-    let row = with(row, store(alloc));
-    with(row, explain(alloc))
+    let row = with(Ok(row), customer_arg(alloc));
+    let row = with(row, store_arg(alloc));
+    with(row, explain_arg(alloc))
 }
 
 fn sheet_command<'a>(alloc: Global) -> Result<Command<'a>, AllocError>
@@ -165,13 +165,13 @@ fn sheet_command<'a>(alloc: Global) -> Result<Command<'a>, AllocError>
         "Print the sheet of a customer's unpaid bonds",
         "Example:\n  ee_cli sheet 7 2012-02 --db day.db",
     );
-    let row = with(Ok(row), customer(alloc));
+    let row = with(Ok(row), customer_arg(alloc));
     let row = with(
         row,
         positional(alloc, "month", "Month of the values, as 2015-05"),
     );
-    let row = with(row, store(alloc));
-    with(row, explain(alloc))
+    let row = with(row, store_arg(alloc));
+    with(row, explain_arg(alloc))
 }
 
 fn serve_command<'a>(alloc: Global) -> Result<Command<'a>, AllocError>
@@ -184,10 +184,10 @@ fn serve_command<'a>(alloc: Global) -> Result<Command<'a>, AllocError>
         "Answer connections on 127.0.0.1, one after the other, until it is stopped",
         "Example:\n  ee_cli serve --db day.db --port 8377",
     );
-    let row = with(Ok(row), store(alloc));
-    let row = with(row, port(alloc));
-    let row = with(row, connections(alloc));
-    with(row, explain(alloc))
+    let row = with(Ok(row), store_arg(alloc));
+    let row = with(row, port_arg(alloc));
+    let row = with(row, connections_arg(alloc));
+    with(row, explain_arg(alloc))
 }
 
 // The row with this name, with one text above its words in its help, and one below them.
@@ -216,7 +216,7 @@ fn positional<'a>(alloc: Global, id: &'a str, help: &'a str) -> Arg<'a>
     Arg::new(alloc, id).required(true).help(help)
 }
 
-fn extension<'a>(alloc: Global) -> Arg<'a>
+fn extension_arg<'a>(alloc: Global) -> Arg<'a>
     ensures rule { rule_of result ≡ is.optional_positional (codes "extension") }
     ensures local { result.global ≡ false }
 {
@@ -237,7 +237,7 @@ fn option<'a>(alloc: Global, id: &'a str, help: &'a str) -> Arg<'a>
 
 /// The flag that every row takes. The program's help names it; it is hidden in the usage of the rows, whose text
 /// belongs to the faults of a line.
-fn explain<'a>(alloc: Global) -> Arg<'a>
+fn explain_arg<'a>(alloc: Global) -> Arg<'a>
     ensures rule { rule_of result ≡ is.flag (codes "explain") }
     ensures local { result.global ≡ false }
 {
@@ -247,14 +247,14 @@ fn explain<'a>(alloc: Global) -> Arg<'a>
         .hide(true)
 }
 
-fn customer<'a>(alloc: Global) -> Arg<'a>
+fn customer_arg<'a>(alloc: Global) -> Arg<'a>
     ensures rule { rule_of result ≡ is.positional (codes "customer") }
     ensures local { result.global ≡ false }
 {
     positional(alloc, "customer", "Number of the customer, as 7")
 }
 
-fn store<'a>(alloc: Global) -> Arg<'a>
+fn store_arg<'a>(alloc: Global) -> Arg<'a>
     ensures rule { rule_of result ≡ is.option (codes "db") }
     ensures local { result.global ≡ false }
 {
@@ -265,14 +265,14 @@ fn store<'a>(alloc: Global) -> Arg<'a>
     )
 }
 
-fn kind<'a>(alloc: Global) -> Arg<'a>
+fn kind_arg<'a>(alloc: Global) -> Arg<'a>
     ensures { (kinds : Bor (List (Bor Text))) × (map (λ k. k.now) kinds.now ≡ is.kind_words)
         × (rule_of result ≡ record (is.positional (codes "kind")) { parser = Some (Names kinds) }) × (result.global ≡ false) }
 {
     positional(alloc, "kind", "What the file holds").value_parser(KINDS.as_slice())
 }
 
-fn request_number<'a>(alloc: Global) -> Arg<'a>
+fn request_number_arg<'a>(alloc: Global) -> Arg<'a>
     ensures rule { rule_of result ≡ is.number_option (codes "number") highest_number }
     ensures local { result.global ≡ false }
 {
@@ -284,7 +284,7 @@ fn request_number<'a>(alloc: Global) -> Arg<'a>
     .value_parser(value_parser!(u64).range(1..=9_223_372_036_854_775_807))
 }
 
-fn desk<'a>(alloc: Global) -> Arg<'a>
+fn desk_arg<'a>(alloc: Global) -> Arg<'a>
     ensures rule { rule_of result ≡ is.optional_option (codes "desk") }
     ensures local { result.global ≡ false }
 {
@@ -296,7 +296,7 @@ fn desk<'a>(alloc: Global) -> Arg<'a>
     .required(false)
 }
 
-fn port<'a>(alloc: Global) -> Arg<'a>
+fn port_arg<'a>(alloc: Global) -> Arg<'a>
     ensures rule { rule_of result ≡ is.number_option (codes "port") is.most_port }
     ensures local { result.global ≡ false }
 {
@@ -305,7 +305,7 @@ fn port<'a>(alloc: Global) -> Arg<'a>
     ).range(1..=65_535))
 }
 
-fn connections<'a>(alloc: Global) -> Arg<'a>
+fn connections_arg<'a>(alloc: Global) -> Arg<'a>
     ensures rule { rule_of result ≡ is.optional_number (codes "connections") is.most_connections }
     ensures local { result.global ≡ false }
 {

@@ -2,6 +2,6 @@ use Rattle.ee_cli_commands.proofs.rows.export_command.Goals as goal
 
 pub returns-clause-shape : goal.returns-clause-shape
 returns-clause-shape c =
-    let one = c.with-row.ensures.shape _ _ c.customer.ensures.rule c.named-row.ensures.shape in
-    let two = c.with-row-2.ensures.shape _ _ c.store.ensures.rule one in
-    c.with.ensures.shape _ _ c.explain.ensures.rule two
+    let one = c.with-row.ensures.shape _ _ c.customer_arg.ensures.rule c.named-row.ensures.shape in
+    let two = c.with-row-2.ensures.shape _ _ c.store_arg.ensures.rule one in
+    c.with.ensures.shape _ _ c.explain_arg.ensures.rule two

@@ -1,5 +1,5 @@
 use Rattle.std.proofs.Common.{rules}
-use Rattle.ee_cli_commands.proofs.rows.port.Goals as goal
+use Rattle.ee_cli_commands.proofs.rows.port_arg.Goals as goal
 
 pub returns-clause-local : goal.returns-clause-local
 returns-clause-local c = search rules

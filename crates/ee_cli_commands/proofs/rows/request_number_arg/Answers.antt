@@ -1,5 +1,5 @@
 use Rattle.std.proofs.Common.{rules}
-use Rattle.ee_cli_commands.proofs.rows.request_number.Goals as goal
+use Rattle.ee_cli_commands.proofs.rows.request_number_arg.Goals as goal
 
 pub returns-clause-local : goal.returns-clause-local
 returns-clause-local c = search rules
