@@ -19,19 +19,6 @@ use sqlite::{Connection, FileStore, Files};
 use sqlite_disk::Disk;
 
 impl<D: Disk + Drop> SqlKeeper<FileStore<D>> {
-    /// Hands the connection back, as `close` does for any store.
-    pub(crate) fn into_connection(self) -> Connection<FileStore<D>>
-        ensures { result ≡ self.conn }
-    {
-        let SqlKeeper {
-            alloc: _,
-            tables: _,
-            known: _,
-            conn,
-        } = self;
-        conn
-    }
-
     /// Checkpoints the log, as SQLite does when the last connection closes, and hands the files back. What is
     /// committed stays; the log stays on the disk, and is empty of changes.
     ///
@@ -58,7 +45,7 @@ impl<D: Disk + Drop> SqlKeeper<FileStore<D>> {
         whole_history_law::<D, D>();
         // For the proof alone: a connection that has a schema sees a database, which `at_rest` needs.
         let _schema = self.conn.schema();
-        match self.into_connection().close_files() {
+        match self.close().close_files() {
             Ok(files) => Ok(files),
             Err((error, store)) => Err((Failure::from(error), store)),
         }

@@ -179,6 +179,6 @@ impl<D: Disk + Drop> SqlKeeper<FileStore<D>> {
         ensures numbered { IsClean (view result) → IsNumbered self.conn }
         ensures leaves { IsClean (view result) → LeavesStanding self.conn }
     {
-        self.into_connection().into_store()
+        self.close().into_store()
     }
 }

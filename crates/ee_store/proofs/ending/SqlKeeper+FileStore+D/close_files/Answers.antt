@@ -18,12 +18,12 @@ use Rattle.ee_store.proofs.ending.SqlKeeper+FileStore+D.close_files.Goals as goa
 
 pub returns-in-Ok-clause-at_rest : goal.returns-in-Ok-clause-at_rest
 returns-in-Ok-clause-at_rest g c = λ clean content has.
-    at_rest c.args.self.conn c.in-Ok.files content c.schema-schema.ensures.live (subst (λ conn. IsCopied conn c.in-Ok.files) c.into_connection.ensures (c.in-Ok.ensures.copied clean)) has
+    at_rest c.args.self.conn c.in-Ok.files content c.schema-schema.ensures.live (subst (λ conn. IsCopied conn c.in-Ok.files) c.close.ensures (c.in-Ok.ensures.copied clean)) has
 
 pub returns-in-Ok-clause-history : goal.returns-in-Ok-clause-history
 returns-in-Ok-clause-history g c =
     rests_after c.args.self.conn c.in-Ok.files c.whole_history_law.ensures.content
-    (λ clean content has. at_rest c.args.self.conn c.in-Ok.files content c.schema-schema.ensures.live (subst (λ conn. IsCopied conn c.in-Ok.files) c.into_connection.ensures (c.in-Ok.ensures.copied clean)) has)
+    (λ clean content has. at_rest c.args.self.conn c.in-Ok.files content c.schema-schema.ensures.live (subst (λ conn. IsCopied conn c.in-Ok.files) c.close.ensures (c.in-Ok.ensures.copied clean)) has)
 
 pub returns-in-Err-clause-at_rest : goal.returns-in-Err-clause-at_rest
 returns-in-Err-clause-at_rest g c = tt
@@ -33,12 +33,12 @@ returns-in-Err-clause-history g c = tt
 
 pub returns-in-Err-clause-left : goal.returns-in-Err-clause-left
 returns-in-Err-clause-left g c =
-    let closed = subst (λ conn. IsClosed conn c.in-Err.store) c.into_connection.ensures c.in-Err.ensures.err.0 in
+    let closed = subst (λ conn. IsClosed conn c.in-Err.store) c.close.ensures c.in-Err.ensures.err.0 in
     λ db may. closed.quiet.outcomes db may
 
 pub returns-in-Err-clause-follows : goal.returns-in-Err-clause-follows
 returns-in-Err-clause-follows g c =
-    let closed = subst (λ conn. IsClosed conn c.in-Err.store) c.into_connection.ensures c.in-Err.ensures.err.0 in
+    let closed = subst (λ conn. IsClosed conn c.in-Err.store) c.close.ensures c.in-Err.ensures.err.0 in
     λ w follows. leaves_as_before StandsFor (file_state c.args.self.conn).may_leave (recovers c.in-Err.store) w closed.quiet.outcomes follows.1
 
 excused_end : {D : Type 0} {g : Ghosts D} (c : Held (FileStore D g)) (last : FileStore D g) (cause : StoreError) → ExcusesClose c last cause → FailsToEnd c last (failure_of (store_error cause))
@@ -52,13 +52,13 @@ excused_end c last Unstorable excuse failed = absurd excuse
 
 pub returns-in-Err-clause-cause : goal.returns-in-Err-clause-cause
 returns-in-Err-clause-cause g c clean =
-    let fails = subst (λ conn. FailsToClose conn c.in-Err.store c.in-Err.error) c.into_connection.ensures (c.in-Err.ensures.err.1 clean) in
+    let fails = subst (λ conn. FailsToClose conn c.in-Err.store c.in-Err.error) c.close.ensures (c.in-Err.ensures.err.1 clean) in
     subst (FailsToEnd c.args.self.conn c.in-Err.store) (sym (c.from.ensures ∙ ap failure_of fails.1)) (excused_end c.args.self.conn c.in-Err.store fails.0 fails.2)
 
 pub returns-in-Ok-clause-tested : goal.returns-in-Ok-clause-tested
 returns-in-Ok-clause-tested g c = λ shielded.
     let closed = c.in-Ok.ensures.ok in
-    (closed.0, closed.1, closed.2.quiet.shield (subst (λ conn. (file_state conn).IsShielded) (sym c.into_connection.ensures) shielded))
+    (closed.0, closed.1, closed.2.quiet.shield (subst (λ conn. (file_state conn).IsShielded) (sym c.close.ensures) shielded))
 
 pub returns-in-Err-clause-tested : goal.returns-in-Err-clause-tested
 returns-in-Err-clause-tested g c = tt
