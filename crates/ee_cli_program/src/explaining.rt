@@ -2,9 +2,15 @@
 
 ghost use Rattle.std.specs.Prelude.{◌≡◌, option_map};
 ghost use Rattle.ee_cli_program.specs.Spellings.{spelling_of_argument};
-ghost use Rattle.ee_cli_program.specs.Explained.{explanation_of, header_text, in_file, in_store, of_device, of_file, of_kind, of_reading, of_serving, of_store, of_streams};
+ghost use Rattle.ee_cli_program.specs.Explained.{explanation_of, in_file, in_store, of_device, of_file, of_kind, of_reading, of_serving, of_store, of_streams};
 
-use crate::spellings::{Spelling, spelling_of_argument, spelling_of_column};
+use crate::lines::{
+    write_answers, write_connections, write_field, write_field_count, write_header, write_input,
+    write_input_or_output, write_log, write_no_file, write_no_port, write_not_written_back,
+    write_output, write_store_failed, write_too_long, write_unopened, write_unread, write_unusable,
+    write_wrong_version,
+};
+use crate::spellings::{Spelling, spelling_of_argument};
 use crate::system::SystemCause;
 use ee_cli_actions::{RunFault, StoreFault};
 use ee_cli_commands::{Command, FileKind};
@@ -126,228 +132,31 @@ impl fmt::Display for Explanation<'_> {
     fn fmt<W: fmt::Write>(&self, f: &mut fmt::Formatter<W>) -> fmt::Result {
         match *self {
             Explanation::Argument(spelling) => write!(f, "{spelling}"),
-            Explanation::Header { file, kind } => {
-                let header = header_text(kind);
-                write!(
-                    f,
-                    "{file}: the first row is not {header}; correct it, and send the file again"
-                )
-            }
-            Explanation::FieldCount { file, row } => write!(
-                f,
-                "{file}: row {row} has not one field for each column; correct it, and send the file again"
-            ),
+            Explanation::Header { file, kind } => write_header(f, file, kind),
+            Explanation::FieldCount { file, row } => write_field_count(f, file, row),
             Explanation::Field {
                 file,
                 row,
                 column,
                 shown,
-            } => {
-                let shown = Is(shown);
-                let spelling = spelling_of_column(column);
-                write!(
-                    f,
-                    "{file}: row {row}, column {column}{shown}: {spelling}; correct it, and send the file again"
-                )
-            }
-            Explanation::Unread { file, cause } => {
-                let cause = Because {
-                    cause,
-                    otherwise: "a read failed",
-                };
-                write!(f, "{file}: {cause}; send the file again")
-            }
-            Explanation::TooLong { file } => write!(
-                f,
-                "{file}: it has more than 1048576 bytes; send it in parts, each under a number of its own"
-            ),
-            Explanation::NoFile { file, cause } => {
-                let cause = Because {
-                    cause,
-                    otherwise: "it was not opened",
-                };
-                write!(
-                    f,
-                    "{file}: {cause}; correct the path, and send the file again"
-                )
-            }
-            Explanation::NoPort { port, cause } => {
-                let cause = Because {
-                    cause,
-                    otherwise: "it was not opened",
-                };
-                write!(
-                    f,
-                    "port {port}: {cause}; choose another port, or end what uses it"
-                )
-            }
-            Explanation::Output(cause) => {
-                let cause = Because {
-                    cause,
-                    otherwise: "a write failed",
-                };
-                write!(
-                    f,
-                    "standard output: {cause}; run the line again: what was decided gets its reply"
-                )
-            }
-            Explanation::Answers(cause) => {
-                let cause = Because {
-                    cause,
-                    otherwise: "a write failed",
-                };
-                write!(
-                    f,
-                    "standard output: {cause}; send again: what was decided gets its reply"
-                )
-            }
-            Explanation::Input(cause) => {
-                let cause = Because {
-                    cause,
-                    otherwise: "a read failed",
-                };
-                write!(
-                    f,
-                    "standard input: {cause}; send again: what was decided gets its reply"
-                )
-            }
-            Explanation::InputOrOutput => f.write_str(
-                "standard input or output failed; send again: what was decided gets its reply",
-            ),
-            Explanation::Log(cause) => {
-                let cause = Because {
-                    cause,
-                    otherwise: "a write failed",
-                };
-                write!(f, "standard output: {cause}; start the server again")
-            }
-            Explanation::Connections => f.write_str(
-                "no connection was accepted, or standard output failed; start the server again",
-            ),
-            Explanation::Unopened { store, cause } => {
-                let cause = Opening(cause);
-                write!(f, "{store}: {cause}")
-            }
-            Explanation::StoreFailed { store } => write!(
-                f,
-                "{store}: a read or a write of it failed; look at the disk, and send the same requests again"
-            ),
-            Explanation::WrongVersion { store } => write!(
-                f,
-                "{store}: its version is neither 2 nor 1; use the program that made it"
-            ),
-            Explanation::Unusable { store } => write!(
-                f,
-                "{store}: its tables or rows are not those of this program; restore a copy"
-            ),
-            Explanation::NotWrittenBack { store } => write!(
-                f,
-                "{store}: the work is done, and is kept in the file and its log together; look at the disk"
-            ),
+            } => write_field(f, file, row, column, shown),
+            Explanation::Unread { file, cause } => write_unread(f, file, cause),
+            Explanation::TooLong { file } => write_too_long(f, file),
+            Explanation::NoFile { file, cause } => write_no_file(f, file, cause),
+            Explanation::NoPort { port, cause } => write_no_port(f, port, cause),
+            Explanation::Output(cause) => write_output(f, cause),
+            Explanation::Answers(cause) => write_answers(f, cause),
+            Explanation::Input(cause) => write_input(f, cause),
+            Explanation::InputOrOutput => write_input_or_output(f),
+            Explanation::Log(cause) => write_log(f, cause),
+            Explanation::Connections => write_connections(f),
+            Explanation::Unopened { store, cause } => write_unopened(f, store, cause),
+            Explanation::StoreFailed { store } => write_store_failed(f, store),
+            Explanation::WrongVersion { store } => write_wrong_version(f, store),
+            Explanation::Unusable { store } => write_unusable(f, store),
+            Explanation::NotWrittenBack { store } => write_not_written_back(f, store),
             Explanation::NoMemory => f.write_str("memory was refused; run the line again"),
         }
-    }
-}
-
-// What a field is, if that is known.
-#[derive(Clone, Copy)]
-struct Is<'a>(Option<&'a str>);
-
-impl fmt::Display for Is<'_> {
-    ghost use Rattle.std.specs.Prelude.{Some};
-    ghost use Rattle.ee_cli_program.specs.Explained.{is_text};
-
-    ghost output = { λ it. Some (is_text it.0) };
-
-    fn fmt<W: fmt::Write>(&self, f: &mut fmt::Formatter<W>) -> fmt::Result {
-        match self.0 {
-            Some(shown) => write!(f, " is \"{shown}\""),
-            None => Ok(()),
-        }
-    }
-}
-
-// A cause of the system, or this text if none is known.
-#[derive(Clone, Copy)]
-struct Because {
-    cause: Option<SystemCause>,
-    otherwise: &'static str,
-}
-
-impl fmt::Display for Because {
-    ghost use Rattle.std.specs.Prelude.{Some};
-    ghost use Rattle.ee_cli_program.specs.Explained.{because};
-
-    ghost output = { λ it. Some (because it.cause it.otherwise.now) };
-
-    fn fmt<W: fmt::Write>(&self, f: &mut fmt::Formatter<W>) -> fmt::Result {
-        match self.cause {
-            Some(cause) => write!(f, "{cause}"),
-            None => f.write_str(self.otherwise),
-        }
-    }
-}
-
-// Why a store wasn't opened, and what to do.
-#[derive(Clone, Copy)]
-struct Opening(OpenCause);
-
-impl fmt::Display for Opening {
-    ghost use Rattle.std.specs.Prelude.{Some};
-    ghost use Rattle.ee_cli_program.specs.Explained.{opening_text};
-
-    ghost output = { λ opening. Some (opening_text opening.0) };
-
-    fn fmt<W: fmt::Write>(&self, f: &mut fmt::Formatter<W>) -> fmt::Result {
-        match self.0 {
-            OpenCause::NoMemory => f.write_str("memory was refused; run the line again"),
-            OpenCause::NoFile => f.write_str("SQLite takes it for no file; put ./ in front of it"),
-            OpenCause::InUse => f.write_str(
-                "another process uses it; send requests to that process, or end it first",
-            ),
-            OpenCause::Journal => f.write_str(
-                "a rollback journal of SQLite lies beside it; open it with sqlite3 first",
-            ),
-            OpenCause::System(ErrorKind::Unsupported) => f.write_str(
-                "it is not one regular file with one name; correct the path, or remove the other name",
-            ),
-            OpenCause::System(kind) => {
-                let cause = Because {
-                    cause: SystemCause::of(kind),
-                    otherwise: "the system refused it",
-                };
-                write!(
-                    f,
-                    "{cause}; look at the path, and at who may use the file and its folder"
-                )
-            }
-            OpenCause::NoRandom => f.write_str(
-                "the system gave no random number; run the line again",
-            ),
-            OpenCause::NoDatabase => f.write_str("it is no SQLite database; correct the path"),
-            OpenCause::Orphaned => f.write_str(
-                "it is missing or empty, and its log has changes; put the file back next to its log",
-            ),
-            OpenCause::Damaged => f.write_str(
-                "it or its log is damaged, or a page's checksum is wrong; restore a copy",
-            ),
-            OpenCause::Full => f.write_str(
-                "no space left on the disk; make room, and run the line again",
-            ),
-            OpenCause::Failed => f.write_str(
-                "a read or a write of it failed; look at the disk, and run the line again",
-            ),
-        }
-    }
-}
-
-// The headers of a kind of file.
-fn header_text(kind: FileKind) -> &'static str
-    ensures { result.now ≡ header_text kind }
-{
-    match kind {
-        FileKind::Rates => "from,rate or from,rate,extension",
-        FileKind::Inventory => "serial,denom,issued,owner,coowner",
     }
 }
 

@@ -10,6 +10,7 @@
 
 mod carrying;
 mod explaining;
+mod lines;
 mod opening;
 mod run;
 mod spellings;
