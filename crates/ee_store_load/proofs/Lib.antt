@@ -19,3 +19,4 @@ mod FiveLemmas
 mod FirstAnswers
 mod LastLemmas
 mod TestLemmas
+mod NumberLemmas

@@ -8,6 +8,7 @@
 #![tactic(auto)]
 
 mod entries;
+mod numbering;
 mod opening;
 mod ours;
 mod reading;

@@ -1,6 +1,6 @@
 //! Reading each whole table, and testing the kept replies as they are read.
 
-ghost use Rattle.std.specs.Prelude.{◌≡◌, ◌≢◌, IsTrue, IfOk, IfErr, OnOk, map, ℕ};
+ghost use Rattle.std.specs.Prelude.{◌≡◌, ◌≢◌, ◌↔◌, true, IsTrue, IfOk, IfErr, OnOk, map, ℕ};
 ghost use Rattle.std.specs.FinMap.{FinMap, entries};
 ghost use Rattle.std.specs.Ordering.{nat_cmp};
 ghost use Rattle.sqlite.specs.State.{HasCleanDisk, IsUnchanged, KeepsCommit, Survives};
@@ -26,6 +26,7 @@ ghost use Rattle.ee_store_schema.specs.Faults.{FailsForCause, StaysOutside};
 ghost use Rattle.ee_store_schema.specs.declared.forms.Form.TheVariants.{Current, First};
 ghost use Rattle.ee_store_schema.specs.Forms.{at_first_desk, HasOurTables, SeesForm, HoldsIn, HoldsReplies};
 ghost use Rattle.ee_store_schema.specs.Migrating.{answer_entry};
+ghost use Rattle.ee_store_load.specs.Numbering.{AllLeaveRoom};
 ghost use Rattle.ee_store_load.specs.Reading.{IsSoundNow, OnlyLoads};
 ghost use Rattle.ee_store_load.specs.Shown.{
   AreWritten,
@@ -51,8 +52,9 @@ ghost use Rattle.ee_store_load.specs.Whole.{HasFirstTables, HoldsKept, HoldsTest
 use crate::entries::{
     Rowid, StoredBatch, StoredBond, StoredDesk, StoredLine, StoredRate, StoredReply, StoredTicket,
 };
+use crate::numbering::RoomAbove;
 use crate::reading::read_table;
-use crate::testing::{AnyRow, RowTest, all_pass, test_table};
+use crate::testing::{RowTest, all_pass, test_table};
 use ee_store_schema::{Form, OpenFault, StoredAnswer};
 use sqlite::{Alter, Connection};
 use std::alloc::Global;
@@ -203,6 +205,8 @@ pub struct KeptReplies {
     pub pass: bool,
     /// The replies of a store of version 1, which is to be migrated. None for version 2, since each is dropped as soon as it is tested.
     pub earlier: Vec<StoredAnswer>,
+    /// Whether their hidden row numbers leave room. Those of version 1 have none.
+    pub has_room: bool,
 }
 
 /// Tests the kept replies of a store of version 1.
@@ -221,7 +225,11 @@ fn test_first_answers<S: Alter, P: RowTest<StoredAnswer>>(
 {
     let earlier = read_first_answers(conn, alloc)?;
     let pass = all_pass::<StoredAnswer, P>(alloc, &earlier)?;
-    Ok(KeptReplies { pass, earlier })
+    Ok(KeptReplies {
+        pass,
+        earlier,
+        has_room: true,
+    })
 }
 
 /// Tests the kept replies of a store of version 2, each as it is read.
@@ -243,7 +251,7 @@ fn test_current_answers<S: Alter, P: RowTest<StoredAnswer>>(
         alloc,
         "SELECT desk, number, act, reply FROM answers ORDER BY desk, number",
     )?;
-    let _rowids = test_table::<S, Rowid, AnyRow>(
+    let has_room = test_table::<S, Rowid, RoomAbove>(
         conn,
         alloc,
         "SELECT rowid FROM answers ORDER BY rowid",
@@ -251,6 +259,7 @@ fn test_current_answers<S: Alter, P: RowTest<StoredAnswer>>(
     Ok(KeptReplies {
         pass,
         earlier: Vec::new(alloc),
+        has_room,
     })
 }
 
@@ -275,56 +284,67 @@ pub(crate) fn test_answers<S: Alter, P: RowTest<StoredAnswer>>(
     }
 }
 
+/// Rows of a table, and whether their hidden row numbers leave room.
+#[derive(Drop)]
+pub(crate) struct NumberedRows<T> {
+    pub rows: Vec<T>,
+    pub has_room: bool,
+}
+
 /// Reads the bonds, by serial number.
 pub(crate) fn read_bonds<S: Alter>(
     conn: &mut Connection<S>,
     alloc: Global,
-) -> Result<Vec<StoredBond>, OpenFault>
+) -> Result<NumberedRows<StoredBond>, OpenFault>
     ensures found { HasCleanDisk (state S.Store conn.new) → HasOurTables (state S.Store conn.old) → IsSoundNow (state S.Store conn.old)
-        → IfOk result (λ found. HoldsPairs bond_columns ((state S.Store conn.old).now.trees 2) (bond_map found.items)) }
-    ensures listed { IfOk result (λ found. entries (bond_map found.items) ≡ map bond_entry found.items) }
+        → IfOk result (λ found. HoldsPairs bond_columns ((state S.Store conn.old).now.trees 2) (bond_map found.rows.items)) }
+    ensures room { HasCleanDisk (state S.Store conn.new) → HasOurTables (state S.Store conn.old)
+        → IfOk result (λ found. (found.has_room ≡ true) ↔ AllLeaveRoom ((state S.Store conn.old).now.trees 2)) }
+    ensures listed { IfOk result (λ found. entries (bond_map found.rows.items) ≡ map bond_entry found.rows.items) }
     ensures usable { HasCleanDisk (state S.Store conn.new) → IfErr result (λ e. e ≡ OpenFault.Unusable → HasOurTables (state S.Store conn.old)
         → IsTrue (state S.Store conn.old).is_open → (m : FinMap pair_cmp BondRow) → ¬ HoldsPairs bond_columns ((state S.Store conn.old).now.trees 2) m) }
     ensures only_loads { OnlyLoads (state S.Store conn.old) (state S.Store conn.new) result }
     ensures cause { FailsForCause HasOurTables (state S.Store conn.old) (state S.Store conn.new) result }
 {
-    let found = read_table(
+    let rows = read_table(
         conn,
         alloc,
         "SELECT letter, number, denom, issued, owner, coowner, ticket FROM bonds ORDER BY letter, number",
     )?;
-    let _rowids = test_table::<S, Rowid, AnyRow>(
+    let has_room = test_table::<S, Rowid, RoomAbove>(
         conn,
         alloc,
         "SELECT rowid FROM bonds ORDER BY rowid",
     )?;
-    Ok(found)
+    Ok(NumberedRows { rows, has_room })
 }
 
 /// Reads the lines of the tickets, by ticket and place.
 pub(crate) fn read_lines<S: Alter>(
     conn: &mut Connection<S>,
     alloc: Global,
-) -> Result<Vec<StoredLine>, OpenFault>
+) -> Result<NumberedRows<StoredLine>, OpenFault>
     ensures found { HasCleanDisk (state S.Store conn.new) → HasOurTables (state S.Store conn.old) → IsSoundNow (state S.Store conn.old)
-        → IfOk result (λ found. HoldsPairs paid_columns ((state S.Store conn.old).now.trees 7) (line_map found.items)) }
-    ensures listed { IfOk result (λ found. entries (line_map found.items) ≡ map line_entry found.items) }
+        → IfOk result (λ found. HoldsPairs paid_columns ((state S.Store conn.old).now.trees 7) (line_map found.rows.items)) }
+    ensures room { HasCleanDisk (state S.Store conn.new) → HasOurTables (state S.Store conn.old)
+        → IfOk result (λ found. (found.has_room ≡ true) ↔ AllLeaveRoom ((state S.Store conn.old).now.trees 7)) }
+    ensures listed { IfOk result (λ found. entries (line_map found.rows.items) ≡ map line_entry found.rows.items) }
     ensures usable { HasCleanDisk (state S.Store conn.new) → IfErr result (λ e. e ≡ OpenFault.Unusable → HasOurTables (state S.Store conn.old)
         → IsTrue (state S.Store conn.old).is_open → (m : FinMap pair_cmp PaidRow) → ¬ HoldsPairs paid_columns ((state S.Store conn.old).now.trees 7) m) }
     ensures only_loads { OnlyLoads (state S.Store conn.old) (state S.Store conn.new) result }
     ensures cause { FailsForCause HasOurTables (state S.Store conn.old) (state S.Store conn.new) result }
 {
-    let found = read_table(
+    let rows = read_table(
         conn,
         alloc,
         "SELECT ticket, place, letter, number, cents FROM paid ORDER BY ticket, place",
     )?;
-    let _rowids = test_table::<S, Rowid, AnyRow>(
+    let has_room = test_table::<S, Rowid, RoomAbove>(
         conn,
         alloc,
         "SELECT rowid FROM paid ORDER BY rowid",
     )?;
-    Ok(found)
+    Ok(NumberedRows { rows, has_room })
 }
 
 /// Reads the extensions, by period; none if the store lacks their table.

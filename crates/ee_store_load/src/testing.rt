@@ -1,6 +1,6 @@
 //! Reading the rows of a table one after another. Each is tested and dropped before the next.
 
-ghost use Rattle.std.specs.Prelude.{◌≡◌, ◌↔◌, List, [], true, IsTrue, IfOk, IfErr, ⊤, map, ℕ};
+ghost use Rattle.std.specs.Prelude.{◌≡◌, ◌↔◌, List, [], true, IsTrue, IfOk, IfErr, map, ℕ};
 ghost use Rattle.std.specs.List.{AllByRecursion};
 ghost use Rattle.sqlite.specs.State.{HasCleanDisk};
 ghost use Rattle.sqlite.specs.Held.{state};
@@ -27,17 +27,6 @@ pub trait RowTest<T> {
     /// Whether the row passes.
     fn test(alloc: Global, row: &T) -> Result<bool, AllocError>
         ensures { IfOk result (λ right. (right ≡ true) ↔ passes row.now) };
-}
-
-/// The test that each row passes, so that only its key is tested.
-pub(crate) struct AnyRow;
-
-impl<T> RowTest<T> for AnyRow {
-    ghost passes = { λ _. ⊤ };
-
-    fn test(_alloc: Global, _row: &T) -> Result<bool, AllocError> {
-        Ok(true)
-    }
 }
 
 /// What is known about the rows read so far: the last row, whether their keys rise, and whether each passed its test.
