@@ -151,6 +151,24 @@ pub add_four_plain : IsPlain (understood counter_schema add_four_text)
 unfolding understood everything
 add_four_plain = (refl, refl)
 
+abbrev pub add_ten_text : List ℕ
+add_ten_text = codes "INSERT INTO bonds (letter, number, denom, issued, owner, coowner) VALUES (?1, ?2, ?3, ?4, ?5, ?6), (?7, ?8, ?9, ?10, ?11, ?12), (?13, ?14, ?15, ?16, ?17, ?18), (?19, ?20, ?21, ?22, ?23, ?24), (?25, ?26, ?27, ?28, ?29, ?30), (?31, ?32, ?33, ?34, ?35, ?36), (?37, ?38, ?39, ?40, ?41, ?42), (?43, ?44, ?45, ?46, ?47, ?48), (?49, ?50, ?51, ?52, ?53, ?54), (?55, ?56, ?57, ?58, ?59, ?60)"
+
+abbrev pub ten_terms : List Term
+ten_terms = lit Null ∷ col 0 0 ∷ col 0 1 ∷ col 0 2 ∷ col 0 3 ∷ col 0 4 ∷ col 0 5 ∷ lit Null ∷ lit Null ∷ col 0 6 ∷ col 0 7 ∷ col 0 8 ∷ col 0 9 ∷ col 0 10 ∷ col 0 11 ∷ lit Null ∷ lit Null ∷ col 0 12 ∷ col 0 13 ∷ col 0 14 ∷ col 0 15 ∷ col 0 16 ∷ col 0 17 ∷ lit Null ∷ lit Null ∷ col 0 18 ∷ col 0 19 ∷ col 0 20 ∷ col 0 21 ∷ col 0 22 ∷ col 0 23 ∷ lit Null ∷ lit Null ∷ col 0 24 ∷ col 0 25 ∷ col 0 26 ∷ col 0 27 ∷ col 0 28 ∷ col 0 29 ∷ lit Null ∷ lit Null ∷ col 0 30 ∷ col 0 31 ∷ col 0 32 ∷ col 0 33 ∷ col 0 34 ∷ col 0 35 ∷ lit Null ∷ lit Null ∷ col 0 36 ∷ col 0 37 ∷ col 0 38 ∷ col 0 39 ∷ col 0 40 ∷ col 0 41 ∷ lit Null ∷ lit Null ∷ col 0 42 ∷ col 0 43 ∷ col 0 44 ∷ col 0 45 ∷ col 0 46 ∷ col 0 47 ∷ lit Null ∷ lit Null ∷ col 0 48 ∷ col 0 49 ∷ col 0 50 ∷ col 0 51 ∷ col 0 52 ∷ col 0 53 ∷ lit Null ∷ lit Null ∷ col 0 54 ∷ col 0 55 ∷ col 0 56 ∷ col 0 57 ∷ col 0 58 ∷ col 0 59 ∷ lit Null ∷ []
+
+pub add_ten_is : command_of (understood counter_schema add_ten_text) ≡ Insert 2 (Values ten_terms 8)
+unfolding understood everything
+add_ten_is = refl
+
+pub add_ten_whole : IsWhole add_ten_text 60 (understood counter_schema add_ten_text)
+unfolding understood everything
+add_ten_whole = (refl, refl, refl)
+
+pub add_ten_plain : IsPlain (understood counter_schema add_ten_text)
+unfolding understood everything
+add_ten_plain = (refl, refl)
+
 abbrev pub find_answer_text : List ℕ
 find_answer_text = codes "SELECT act, reply FROM answers WHERE desk = ?1 AND number = ?2"
 

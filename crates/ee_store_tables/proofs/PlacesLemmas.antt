@@ -74,11 +74,11 @@ one_before P new (r ∷ rs) free h =
       | Greater ↦ λ e a. a.1
     ] two.0 h
 
-all_before : (P : Row → Type 0) (news rows : List Row) → are_fresh rows news ≡ true → AllByRecursion P (put_all rows news) → AllByRecursion P rows
+pub all_before : (P : Row → Type 0) (news rows : List Row) → are_fresh rows news ≡ true → AllByRecursion P (put_all rows news) → AllByRecursion P rows
 all_before P [] rows fresh h = h
 all_before P (new ∷ news) rows fresh h = one_before P new rows (not_so _ (first_of_both _ _ fresh)) (all_before P news (put_row new rows) (second_of_both _ _ fresh) h)
 
-apart_before : (places : List ℕ) (r : Row) (news rows : List Row) → are_fresh rows news ≡ true → clashes plain places (put_all rows news) r ≡ false → clashes plain places rows r ≡ false
+pub apart_before : (places : List ℕ) (r : Row) (news rows : List Row) → are_fresh rows news ≡ true → clashes plain places (put_all rows news) r ≡ false → clashes plain places rows r ≡ false
 apart_before places r news rows fresh h =
     any_from_none (λ x. agree plain places x places r && differ (rowid x) (rowid r)) rows
     (all_before (λ x. (agree plain places x places r && differ (rowid x) (rowid r)) ≡ false) news rows fresh (none_from_any (λ x. agree plain places x places r && differ (rowid x) (rowid r)) (put_all rows news) h))

@@ -25,7 +25,6 @@ use Rattle.ee_store_tables.specs.Rows.{Rows, Holds, DeskRow, BondRow, optional, 
 use Rattle.ee_store_tables.proofs.Meaning.{set_day_query, set_version_query, mark_bond_query}
 use Rattle.ee_store_tables.proofs.DeskLemmas.{given_days, sets_none, sets_one}
 use Rattle.ee_store_tables.proofs.VersionLemmas.{given_version, version_row, version_none, version_one}
-use Rattle.sqlite_schema.specs.declared.schema.Among.TheVariants as among
 use Rattle.sqlite_keyed.proofs.RuleLemmas.{first_of_both}
 use Rattle.sqlite_keyed.proofs.ListLemmas.{all_weaker}
 use Rattle.ee_store_tables.specs.Keyed.{stored, AreRows}

@@ -163,6 +163,11 @@ with_extension rows extension = record rows { extensions = insert_new rows.exten
 abbrev pub with_bond : Rows → (ℕ × ℕ) × BondRow → Rows
 with_bond rows bond = record rows { bonds = insert_new rows.bonds bond.0 bond.1 (get rows.bonds bond.0) }
 
+-- with bonds in order, each unless its serial number has one
+abbrev pub with_bonds : Rows → List ((ℕ × ℕ) × BondRow) → Rows
+with_bonds rows [] = rows
+with_bonds rows (bond ∷ bonds) = with_bonds (with_bond rows bond) bonds
+
 abbrev pub with_batch : Rows → ℕ → BatchRow → Rows
 with_batch rows day batch = record rows { batches = insert rows.batches day batch }
 
@@ -196,6 +201,11 @@ with_lines rows t place (line ∷ lines) = with_lines (with_line rows t place li
 -- the texts fit a row, which takes a billion bytes in all
 abbrev pub FitsRow : ReplyRow → Type 0
 FitsRow r = length r.act + length r.reply ≤ 900000000
+
+-- no serial number of these bonds is registered, and none is there twice
+abbrev pub CanRegisterAll : Rows → List ((ℕ × ℕ) × BondRow) → Type 0
+CanRegisterAll rows [] = ⊤
+CanRegisterAll rows (bond ∷ bonds) = (get rows.bonds bond.0 ≡ None) × CanRegisterAll (with_bond rows bond) bonds
 
 -- no line pays this bond
 abbrev pub IsUnpaid : Rows → ℕ × ℕ → Type 0

@@ -22,7 +22,7 @@ mod values;
 
 pub use answers::{add_answer, add_answer_texts, find_answer};
 pub use batches::{add_batch, find_batch};
-pub use bonds::{add_bond, bonds_of_owner, find_bond, mark_bond};
+pub use bonds::{add_bond, add_new_bonds, bonds_of_owner, find_bond, mark_bond};
 pub use desk::{find_desk, set_day, set_version};
 pub use extensions::{add_extension, find_extension};
 pub use failures::Failure;
