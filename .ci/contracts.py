@@ -275,7 +275,7 @@ class Rust:
         if public and self.peek() == "(":
             self.group()
             public = False
-        while self.peek() in ("const", "unsafe", "extern", "default", "async"):
+        while self.peek() in ("const", "unsafe", "extern", "default", "async", "final"):
             kind = self.next()
             if kind == "extern" and self.peek().startswith('"'):
                 self.next()
