@@ -1,5 +1,12 @@
--- A query leaves what is known.
-use Rattle.sqlite.specs.State.{State}
+-- What a query leaves: the cache, and what is said of each call of a keeper.
+use Rattle.std.proofs.Common.{Result, Ok, Err, inl, inr}
+use Rattle.sqlite.specs.State.{State, HasCleanDisk}
+use Rattle.ee_desk_laws.specs.Events.{World}
+use Rattle.ee_desk_laws.proofs.Lemmas.{leaves_as_before}
+use Rattle.ee_store_books.specs.Seen.{StandsFor}
+use Rattle.ee_store.specs.Served.{FollowsWorld}
+use Rattle.ee_desk_model.specs.declared.refusals.Unserved.{Unserved}
+use Rattle.ee_keeper.specs.Keeping.{Shows, FailsOnlyIf}
 use Rattle.ee_store_tables.specs.Statements.{LeavesNoMore}
 use Rattle.ee_store_tables.proofs.Lemmas.Transactions.{clean_before}
 use Rattle.ee_store_queries.specs.Asking.{KeepsContent}
@@ -10,3 +17,21 @@ pub still_informed : (old new : State) (known : Known) → LeavesNoMore old new 
 still_informed old new known crash kept informed clean =
     let it = informed (clean_before old new crash clean) in
     (it.0, kept clean it.0 it.1, it.2)
+
+-- a query is no event
+pub follows_still : (old new : State) → LeavesNoMore old new → KeepsContent old new → HasCleanDisk new → (w : World) → FollowsWorld old w → FollowsWorld new w
+follows_still old new crash kept clean w (has, leaves) = (
+  kept clean w.now has,
+  leaves_as_before StandsFor old.may_leave new.may_leave w (λ db may. elim (crash.crash clean db may) [ inl before ↦ before | inr none ↦ absurd none ]) leaves,
+)
+
+-- the cache stays as well as the content
+pub shows_both : {X : Type 0} (IsRight : X → Type 0) (result : Result X Unserved) (has informed : Type 0)
+    → Shows IsRight result has → informed → Shows IsRight result (has × informed)
+shows_both IsRight (Ok shown) has informed shows still = (shows.0, (shows.1, still))
+shows_both IsRight (Err unserved) has informed shows still = (shows, still)
+
+-- nothing is said of when a store that may fail does
+pub may_fail : {X : Type 0} (result : Result X Unserved) → FailsOnlyIf (Unit {0}) result
+may_fail (Ok shown) = tt
+may_fail (Err unserved) = λ _. tt
