@@ -2,12 +2,11 @@
 
 ghost use Rattle.std.specs.Prelude.{◌≡◌, true, false};
 ghost use Rattle.sqlite_std_file.specs.File.{IsFresh};
-ghost use Rattle.sqlite.specs.Files.{file_state};
 ghost use Rattle.sqlite.specs.WalFiles.{image_at};
-ghost use Rattle.ee_store.specs.Ended.{RestsIn, StandsAlone};
+ghost use Rattle.ee_store.specs.Ended.{EndsTested, RestsIn, StandsAlone};
 ghost use Rattle.ee_store.specs.History.{HasLeft, RestsAfter};
 ghost use Rattle.ee_cli_stores.specs.Faults.{fault_of_opening, IsRefused, Keeps};
-ghost use Rattle.ee_cli_stores.specs.Tested.{EndsTested};
+ghost use Rattle.ee_cli_stores.specs.Tested.{IsTested};
 
 use crate::laws::lines_law;
 use ee_cli_actions::{RunFault, StoreFault};
@@ -70,8 +69,9 @@ impl<F: Start + Copy> Stores for StoreFiles<'_, F> {
     ghost opens = { λ _ _ start events. HasLeft start events (image_at F.Start) };
 
     // The files are at rest with what the store had, which is what its whole history led to. If its reads were tested, the files
-    // returned what was written there, or two pages had one digest.
-    ghost rests = { λ store files. RestsIn store.conn files × RestsAfter store.conn files × ((file_state store.conn).IsShielded → EndsTested F.Start files) };
+    // returned what was written there, or two pages have one digest.
+    ghost rests = { λ store files. RestsIn store.conn files × RestsAfter store.conn files × EndsTested store.conn files
+        × IsTested F.Start store.conn files };
 
     // What the files held was refused for this fault, and is still there.
     ghost refuses = { λ _ _ fault refused. IsRefused (λ files. IsFresh true files.log) (λ files. IsFresh false files.db) (image_at F.Start) fault refused.rest };

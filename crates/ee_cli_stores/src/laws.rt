@@ -1,7 +1,7 @@
 //! The law of command lines in a row. Its body here does nothing; the clauses state the law.
 
 ghost use Rattle.ee_store.specs.History.{OpensHistory, HoldHistory};
-ghost use Rattle.ee_cli_stores.specs.Lines.{ClosesLine, LeadsInARow, WaitsLine};
+ghost use Rattle.ee_cli_stores.specs.Lines.{ClosesLine, EndsLine, LeadsInARow, WaitsLine};
 
 use ee_store::laws::whole_history_law;
 use sqlite_disk::Disk;
@@ -13,6 +13,8 @@ use sqlite_disk::Disk;
 /// - `opens`: a line opens a store that has gone through what led to its files.
 /// - `closes`: if a line's store is at rest as the line ends (`Stores::rests`), the line leads to its two files:
 ///   by the events of its requests, whether their replies arrived or not, and a stop.
+/// - `tested`: if a line's store was clean as it was opened, its files returned what was written as the line ends, or
+///   two pages have one digest.
 /// - `waits`: a line whose store wasn't opened is no event, if what is left of its files holds what they held, as
 ///   `Stores::open` says of files that `sqlite` didn't open.
 /// - `leads`: lines in a row lead to what the last one left.
@@ -21,6 +23,7 @@ use sqlite_disk::Disk;
 pub const fn lines_law<D: Disk>()
     ensures opens { OpensHistory D.Disk }
     ensures closes { ClosesLine D.Disk }
+    ensures tested { EndsLine D.Disk }
     ensures waits { WaitsLine }
     ensures leads { LeadsInARow }
     ensures holds { HoldHistory }

@@ -10,3 +10,4 @@ mod OpenedRoom
 mod Asked
 mod Shut
 mod Going
+mod Tested

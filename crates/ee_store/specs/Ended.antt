@@ -1,6 +1,7 @@
 -- A store in a file at rest, and why it isn't.
-use Rattle.std.specs.Prelude.{◌≡◌, ◌⊎◌, false}
+use Rattle.std.specs.Prelude.{◌≡◌, ◌⊎◌, ℕ, false, List}
 use Rattle.sqlite_disk.specs.Disk.{MoreFaults}
+use Rattle.sqlite_disk.specs.Events.{Event, replay, HasCollision}
 use Rattle.sqlite_disk.specs.declared.Disk.{Ghosts}
 use Rattle.sqlite_disk.specs.declared.Files.{Files}
 use Rattle.sqlite.specs.Tree.{Trees}
@@ -9,7 +10,6 @@ use Rattle.sqlite.specs.WalFiles.{outcomes}
 use Rattle.sqlite.specs.WalReads.{AreClean}
 use Rattle.sqlite.specs.declared.FileStore.{FileStore}
 use Rattle.sqlite.specs.FileStore.{faults}
-use Rattle.sqlite_store.specs.FileStore.{files as store_files, is_shielded}
 use Rattle.sqlite.specs.Held.{Held}
 use Rattle.sqlite.specs.Files.{image_of, file_state}
 use Rattle.sqlite.specs.Closing.{HoldsAlone}
@@ -37,6 +37,25 @@ RestsIn {g = g} c files = AreClean g files.log files.db → (content : Content) 
 abbrev pub FailsToEnd : {D : Type 0} {g : Ghosts D} → Held (FileStore D g) → FileStore D g → Failure → Type 0
 FailsToEnd c last failure = failure ≡ StoreFailed → MoreFaults (faults c.store) (faults last) ⊎ ((file_state c).is_open ≡ false)
 
--- the reads of the files were tested to the end: they are those of a store that is shielded
-abbrev pub AreShielded : {D : Type 0} (g : Ghosts D) → Files D → Type 0
-AreShielded {D} g files = (last : FileStore D g) × (store_files last ≡ (files.log, files.db)) × is_shielded last
+-- ---- reads that are tested
+
+-- the disks are as the records of their calls say, which began with these bytes; the files of this system keep such records
+pub record AreRecorded {D : Type 0} (g : Ghosts D) (start : D → List ℕ) (history : D → List Event) : Type 0 where
+  pub clean : (d : D) → g.is_clean d ≡ (replay (start d) (history d)).is_honest
+  pub fair : (d : D) → g.is_fair d ≡ (replay (start d) (history d)).is_fair
+  pub keyed : (d : D) → g.key_of d ≡ (replay (start d) (history d)).key
+
+-- a tested read of one of the files returned other bytes than were written there, of the same digest under the log's key
+abbrev pub HasCollided : {D : Type 0} → (D → List ℕ) → (D → List Event) → Files D → Type 0
+HasCollided start history files =
+    HasCollision (replay (start files.log) (history files.log)).key (start files.log) (history files.log)
+    ⊎ HasCollision (replay (start files.log) (history files.log)).key (start files.db) (history files.db)
+
+-- the disks returned what was written, or two pages have one digest
+abbrev pub AreCleanOrCollided : {D : Type 0} → Ghosts D → Files D → Type 0
+AreCleanOrCollided {D} g files = (start : D → List ℕ) (history : D → List Event) → AreRecorded g start history
+    → AreClean g files.log files.db ⊎ HasCollided start history files
+
+-- so it is of a store whose reads were tested
+abbrev pub EndsTested : {D : Type 0} {g : Ghosts D} → Held (FileStore D g) → Files D → Type 0
+EndsTested {g = g} c files = (file_state c).IsShielded → AreCleanOrCollided g files

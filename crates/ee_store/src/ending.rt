@@ -9,7 +9,7 @@ ghost use Rattle.ee_desk_laws.specs.Events.{World};
 ghost use Rattle.ee_desk_laws.specs.Ties.{Leaves};
 ghost use Rattle.ee_store_books.specs.Seen.{StandsFor};
 ghost use Rattle.ee_store.specs.Served.{FollowsWorld};
-ghost use Rattle.ee_store.specs.Ended.{AreShielded, FailsToEnd, RestsIn};
+ghost use Rattle.ee_store.specs.Ended.{EndsTested, FailsToEnd, RestsIn};
 ghost use Rattle.ee_store.specs.History.{RestsAfter};
 
 use crate::keeper::SqlKeeper;
@@ -26,7 +26,8 @@ impl<D: Disk + Drop> SqlKeeper<FileStore<D>> {
     ///   and as a crash may leave them.
     /// - `history`: whatever has happened since the store was new, that content is the one of requests that were
     ///   sent, each acting once, and each reply that was given is still the answer (`whole_history_law`).
-    /// - `tested`: if the store's reads are tested, so was each read of its files.
+    /// - `tested`: if the store's reads were tested, the files returned what was written, or two pages have one
+    ///   digest.
     /// - `left`, `follows`: if it fails, a crash leaves what it could leave before, so what the next command finds
     ///   still follows the events.
     /// - `cause`: it fails only if memory was refused, the device failed once more, or the store was shut before.
@@ -37,7 +38,7 @@ impl<D: Disk + Drop> SqlKeeper<FileStore<D>> {
     pub fn close_files(self) -> Result<Files<D>, (Failure, FileStore<D>)>
         ensures at_rest { IfOk result (λ files. RestsIn self.conn files) }
         ensures history { IfOk result (λ files. RestsAfter self.conn files) }
-        ensures tested { IfOk result (λ files. (file_state self.conn).IsShielded → AreShielded D.Disk files) }
+        ensures tested { IfOk result (λ files. EndsTested self.conn files) }
         ensures left { IfErr result (λ e. (db : Trees) → recovers e.1 db → (file_state self.conn).may_leave db) }
         ensures follows { IfErr result (λ e. (w : World) → FollowsWorld (file_state self.conn) w → Leaves StandsFor (recovers e.1) w) }
         ensures cause { IfErr result (λ e. IsClean (view e.1) → FailsToEnd self.conn e.1 e.0) }

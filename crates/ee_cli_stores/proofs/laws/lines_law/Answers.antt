@@ -15,3 +15,6 @@ returns-clause-holds g c = c.whole_history_law.ensures.files
 
 pub returns-clause-waits : goal.returns-clause-waits
 returns-clause-waits g c = waits_line c.whole_history_law.ensures.waits
+
+pub returns-clause-tested : goal.returns-clause-tested
+returns-clause-tested g c held opened left files from stays ends = ends (stays from.shielded)

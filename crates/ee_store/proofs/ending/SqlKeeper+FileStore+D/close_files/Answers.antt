@@ -14,6 +14,7 @@ use Rattle.ee_store_books.specs.Seen.{StandsFor}
 use Rattle.ee_store.specs.Ended.{FailsToEnd}
 use Rattle.ee_store.proofs.AtRest.{at_rest}
 use Rattle.ee_store.proofs.History.{rests_after}
+use Rattle.ee_store.proofs.Tested.{clean_or_collided}
 use Rattle.ee_store.proofs.ending.SqlKeeper+FileStore+D.close_files.Goals as goal
 
 pub returns-in-Ok-clause-at_rest : goal.returns-in-Ok-clause-at_rest
@@ -24,6 +25,15 @@ pub returns-in-Ok-clause-history : goal.returns-in-Ok-clause-history
 returns-in-Ok-clause-history g c =
     rests_after c.args.self.conn c.in-Ok.files c.whole_history_law.ensures.content
     (λ clean content has. at_rest c.args.self.conn c.in-Ok.files content c.schema-schema.ensures.live (subst (λ conn. IsCopied conn c.in-Ok.files) c.close.ensures (c.in-Ok.ensures.copied clean)) has)
+
+pub returns-in-Ok-clause-tested : goal.returns-in-Ok-clause-tested
+returns-in-Ok-clause-tested g c =
+    let ended = c.in-Ok.ensures.ok in
+    let closed = subst (λ conn. IsClosed conn ended.0) c.close.ensures ended.2 in
+    λ shielded. clean_or_collided g.D.Disk ended.0 c.in-Ok.files ended.1 (closed.quiet.shield shielded)
+
+pub returns-in-Err-clause-tested : goal.returns-in-Err-clause-tested
+returns-in-Err-clause-tested g c = tt
 
 pub returns-in-Err-clause-at_rest : goal.returns-in-Err-clause-at_rest
 returns-in-Err-clause-at_rest g c = tt
@@ -54,11 +64,3 @@ pub returns-in-Err-clause-cause : goal.returns-in-Err-clause-cause
 returns-in-Err-clause-cause g c clean =
     let fails = subst (λ conn. FailsToClose conn c.in-Err.store c.in-Err.error) c.close.ensures (c.in-Err.ensures.err.1 clean) in
     subst (FailsToEnd c.args.self.conn c.in-Err.store) (sym (c.from.ensures ∙ ap failure_of fails.1)) (excused_end c.args.self.conn c.in-Err.store fails.0 fails.2)
-
-pub returns-in-Ok-clause-tested : goal.returns-in-Ok-clause-tested
-returns-in-Ok-clause-tested g c = λ shielded.
-    let closed = c.in-Ok.ensures.ok in
-    (closed.0, closed.1, closed.2.quiet.shield (subst (λ conn. (file_state conn).IsShielded) (sym c.close.ensures) shielded))
-
-pub returns-in-Err-clause-tested : goal.returns-in-Err-clause-tested
-returns-in-Err-clause-tested g c = tt
