@@ -50,7 +50,7 @@ pub fn write_field<W: fmt::Write>(
     column: FileColumn,
     shown: Option<&str>,
 ) -> fmt::Result
-    ensures writes { DisplaysOnOk W.write_str_gives f.old result (Some (explanation_text (says.Field file.entry row column shown))) f.new }
+    ensures writes { DisplaysOnOk W.write_str_gives f.old result (Some (explanation_text (says.Field file.entry row column shown.entry))) f.new }
 {
     let shown = Is(shown);
     let spelling = spelling_of_column(column);

@@ -187,6 +187,8 @@ fn found<K: Keeper>(keeper: &mut K, query: Query) -> Result<Answer, Unserved> {
             issued,
             month,
         } => Answer::Row(keeper.quote(denom, issued, month)?),
+        // No message asks for them.
+        Query::Bonds(_) => Answer::Fault(WireFault::NoRoute),
     })
 }
 
