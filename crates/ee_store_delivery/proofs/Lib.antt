@@ -9,6 +9,7 @@ mod Named
 mod NewNumbers
 mod Writable
 mod WriteCauses
+mod Together
 mod RoomAfter
 mod Knowing
 mod Informed

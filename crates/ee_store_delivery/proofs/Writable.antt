@@ -1,12 +1,13 @@
 -- What an act changes can be written: its rows are new, and its amounts fit.
 use Rattle.std.proofs.Common.{◌≡◌, ◌≢◌, ℕ, suc, ◌+◌, ◌<◌, ◌≤◌, eqb, true, false, cond, ◌&&◌, List, [], ◌∷◌, ◌++◌, map, length, length-append, arith, refl, sym, ap, ◌∙◌, subst, append-nil, true≢false, ltb-false, eq-eqb, Less, Equal, Greater}
-use Rattle.std.specs.Prelude.{Option, Some, None, IfSome, ⊤, flat_map, nat_lt, is_none}
+use Rattle.std.specs.Prelude.{Bool, Option, Some, None, IfSome, ⊤, flat_map, nat_lt, is_none}
+use Rattle.std.specs.Option.{option_map}
 use Rattle.std.specs.List.{AllByRecursion}
 use Rattle.std.specs.Ordering.{nat_cmp, eq_by_cmp, is_eq, ordering_then}
 use Rattle.std.specs.declared.cmp.Ordering.{Ordering}
 use Rattle.std.specs.Cmp.{nat_cmp_total, nat_cmp_is}
 use Rattle.std.specs.FinMap as finite
-use Rattle.std.specs.FinMap.{entries, find, put, insert, get-insert, get-from_entries, entries-insert}
+use Rattle.std.specs.FinMap.{FinMap, entries, find, put, insert, get-insert, get-from_entries, entries-insert}
 use Rattle.std.specs.FinMap.Entries.{by_order}
 use Rattle.std.proofs.lemmas.Bool.{false_from_ne_true}
 use Rattle.std.proofs.lemmas.List.{map-append, length-map}
@@ -28,9 +29,9 @@ use Rattle.ee_desk_model.specs.declared.changes.Effects.{Effects}
 use Rattle.ee_desk_model.specs.declared.replies.Line.{Line}
 use Rattle.ee_desk_model.specs.declared.replies.Ticket.{Ticket}
 use Rattle.ee_desk_model.specs.declared.replies.Batch.{Batch}
-use Rattle.ee_desk_model.specs.Serials.{same_serial}
+use Rattle.ee_desk_model.specs.Serials.{serial_cmp, same_serial}
 use Rattle.ee_desk_model.specs.PlainBooks.{PlainBooks, cents_of, batch_of}
-use Rattle.ee_desk_model.specs.Seen.{Seen, shown, line_for}
+use Rattle.ee_desk_model.specs.Seen.{Seen, shown, line_for, held_as}
 use Rattle.ee_desk_model.specs.Refusals.{refusal_of, refusal_of_length, length_refusal, when, most_rows, most_serials}
 use Rattle.ee_desk_model.specs.Effects.{new_rates, new_bonds, rate_change, unless_refused, effects_of}
 use Rattle.ee_desk_model.specs.Acts.{changed, applied, books_after}
@@ -40,17 +41,18 @@ use Rattle.ee_desk_model.specs.Ranges.{IsInRange}
 use Rattle.ee_desk_model.specs.Repeats.{Content}
 use Rattle.ee_desk_model.specs.Sound.{IsSound, IsDay, IsRightTicket, NumberedFrom, day_of_batch, open_days, last_of}
 use Rattle.ee_desk_model.proofs.Lemmas.Books.{few_tickets, few_tickets_on, few_bonds_on, small_total_on, act_keeps_sound, applied_are_books_after, seen_enough, refused_by_length, none_from_cond, none_from_option_or, line_le, paid_lines_push}
-use Rattle.ee_desk_model.proofs.Lemmas.Maps.{all_weaker, all_append, all_mapped, rising_below, all_both}
+use Rattle.ee_desk_model.proofs.Lemmas.Maps.{serials_total, all_weaker, all_append, all_mapped, rising_below, all_both}
 use Rattle.ee_desk_decide.specs.Applicable.{IsRate, IsBond, AreApplicable}
+use Rattle.ee_desk_decide.specs.NewRows.{bond_row as bond_row_of, AreNew}
 use Rattle.ee_desk_decide.proofs.Lemmas.{decided_are_applicable}
 use Rattle.ee_desk_texts.specs.Ranges.{ActFits}
 use Rattle.ee_store_tables.specs.AsRows.{Fits}
 use Rattle.ee_store_tables.specs.Keyed.{pair_cmp}
-use Rattle.ee_store_tables.specs.Rows.{Rows, DeskRow, BondRow, PaidRow, day_set, marked_as, with_batch, with_ticket, with_paid, with_line, with_lines, IsUnpaid, CanPayAll, with_rate}
+use Rattle.ee_store_tables.specs.Rows.{Rows, DeskRow, BondRow, PaidRow, day_set, marked_as, insert_new, with_bond, with_batch, with_ticket, with_paid, with_line, with_lines, IsUnpaid, CanPayAll, with_rate}
 use Rattle.ee_store_tables.proofs.Lemmas.Rows.{pair_total, pair_same}
-use Rattle.ee_store_books.specs.Standing.{rows_of, key_of, ticket_row, paid_row, placed, batch_row, IsRight}
-use Rattle.ee_store_books.proofs.Lemmas.Contents.{ticket_entry, ticket_lines, batch_entry, paid_entries}
-use Rattle.ee_store_delivery.specs.Written.{with_named, changed_rows, applied_rows, CanPayTicket, CanClose, CanWriteAll, all_added_rows}
+use Rattle.ee_store_books.specs.Standing.{rows_of, key_of, bond_row, ticket_row, paid_row, placed, batch_row, IsRight}
+use Rattle.ee_store_books.proofs.Lemmas.Contents.{get_bond_row, ticket_entry, ticket_lines, batch_entry, paid_entries}
+use Rattle.ee_store_delivery.specs.Written.{with_named, changed_rows, applied_rows, CanPayTicket, CanClose, CanWriteAll, all_added_rows, new_entry}
 use Rattle.ee_store_delivery.proofs.Delivered.{changes_fit}
 
 -- ---- lists
@@ -247,19 +249,41 @@ rates_fit last rows (change.Day day ∷ cs) h = absurd h.0
 rates_fit last rows (change.Ticket ticket ∷ cs) h = absurd h.0
 rates_fit last rows (change.Batch batch ∷ cs) h = absurd h.0
 
-bonds_fit : (last : Option ℕ) (rows : Rows) (cs : List Change) → AllByRecursion IsBond cs → CanWriteAll last rows cs
-bonds_fit last rows [] h = tt
-bonds_fit last rows (change.Bond bond ∷ cs) h = (tt, bonds_fit last (changed_rows last rows (change.Bond bond)) cs h.1)
-bonds_fit last rows (change.Rates from rates ∷ cs) h = absurd h.0
-bonds_fit last rows (change.Day day ∷ cs) h = absurd h.0
-bonds_fit last rows (change.Ticket ticket ∷ cs) h = absurd h.0
-bonds_fit last rows (change.Batch batch ∷ cs) h = absurd h.0
+-- a serial number that no bond has is in no row
+abbrev FreeIn : Rows → FinMap serial_cmp Bond → Type 0
+FreeIn rows bonds = (s : SerialNumber) → finite.get bonds s ≡ None → finite.get rows.bonds (key_of s) ≡ None
+
+free_of : (S : Content) → FreeIn (rows_of S) S.books.bonds
+free_of S s none = get_bond_row S.books.bonds S.books.tickets s ∙ ap (option_map (λ bond. bond_row (held_as S.books.tickets s bond))) none
+
+not_same : {X : Type 0} (b : Bool) (x : X) (o : Option X) → cond b (Some x) o ≡ None → (b ≡ false) × (o ≡ None)
+not_same true x o h = absurd (cc)
+not_same false x o h = (refl, h)
+
+free_then : (rows : Rows) (bonds : FinMap serial_cmp Bond) (bond : Bond) → FreeIn rows bonds → finite.get bonds bond.serial ≡ None
+    → FreeIn (with_bond rows (new_entry bond)) (insert bonds bond.serial bond)
+free_then rows bonds bond free none s later =
+    let k = key_of bond.serial in
+    let row = (new_entry bond).1 in
+    let two = not_same (eq_by_cmp serial_cmp s bond.serial) bond (finite.get bonds s) (sym (get-insert serials_total bonds bond.serial bond s) ∙ later) in
+    ap (λ o. finite.get (insert_new rows.bonds k row o) (key_of s)) (free bond.serial none)
+    ∙ get-insert pair_total rows.bonds k row (key_of s)
+    ∙ ap (λ b. cond b (Some row) (finite.get rows.bonds (key_of s))) two.0 ∙ free s two.1
+
+bonds_fit : (last : Option ℕ) (rows : Rows) (bonds : FinMap serial_cmp Bond) (cs : List Change) → FreeIn rows bonds → AllByRecursion IsBond cs → AreNew bond_row_of bonds cs → CanWriteAll last rows cs
+bonds_fit last rows bonds [] free h new = tt
+bonds_fit last rows bonds (change.Bond bond ∷ cs) free h new =
+    (free bond.serial new.0, bonds_fit last (changed_rows last rows (change.Bond bond)) (insert bonds bond.serial bond) cs (free_then rows bonds bond free new.0) h.1 new.1)
+bonds_fit last rows bonds (change.Rates from rates ∷ cs) free h new = absurd h.0
+bonds_fit last rows bonds (change.Day day ∷ cs) free h new = absurd h.0
+bonds_fit last rows bonds (change.Ticket ticket ∷ cs) free h new = absurd h.0
+bonds_fit last rows bonds (change.Batch batch ∷ cs) free h new = absurd h.0
 
 -- changes that leave sound books can be written
 pub changes_fit_rows : (S : Content) (cs : List Change) → IsRight S → IsSound (applied S.books cs) → AreApplicable S.books cs → CanWriteAll S.books.last_day (rows_of S) cs
 changes_fit_rows S [] right after fits = tt
 changes_fit_rows S (change.Rates from rates ∷ cs) right after fits = (tt, rates_fit S.books.last_day _ cs fits.0)
-changes_fit_rows S (change.Bond bond ∷ cs) right after fits = (tt, bonds_fit S.books.last_day _ cs fits.0)
+changes_fit_rows S (change.Bond bond ∷ cs) right after fits = bonds_fit S.books.last_day (rows_of S) S.books.bonds (change.Bond bond ∷ cs) (free_of S) (tt, fits.0) fits.1
 changes_fit_rows S (change.Day day ∷ []) right after fits = (last_day_fits S.books right.sound, tt)
 changes_fit_rows S (change.Day day ∷ c ∷ cs) right after fits = absurd (cc)
 changes_fit_rows S (change.Ticket ticket ∷ []) right after fits = (ticket_fits S ticket right.sound.numbered after, tt)

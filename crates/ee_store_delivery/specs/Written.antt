@@ -1,5 +1,5 @@
 -- The rows after changes to the books.
-use Rattle.std.specs.Prelude.{◌≡◌, ◌≤◌, ⊤, ℕ, ◌+◌, List, [], ◌∷◌, map, length, Option, Some, None, IfSome}
+use Rattle.std.specs.Prelude.{◌≡◌, ◌≤◌, ⊤, ℕ, ◌+◌, List, [], ◌∷◌, take, map, length, Option, Some, None, IfSome}
 use Rattle.std.specs.List.{AllByRecursion}
 use Rattle.std.specs.FinMap.{get}
 use Rattle.ee_value.specs.Chain.{named_extension}
@@ -7,8 +7,10 @@ use Rattle.ee_desk_model.specs.declared.changes.Change.{Change}
 use Rattle.ee_desk_model.specs.declared.changes.Change.TheVariants as change
 use Rattle.ee_desk_model.specs.declared.replies.Ticket.{Ticket}
 use Rattle.ee_desk_model.specs.declared.replies.Batch.{Batch}
-use Rattle.ee_store_tables.specs.AsRows.{Fits}
-use Rattle.ee_store_tables.specs.Rows.{Rows, with_rate, with_extension, with_bond, with_day, with_batch, with_ticket, with_lines, CanPayAll}
+use Rattle.ee_calculator.specs.declared.bonds.Bond.{Bond}
+use Rattle.ee_store_tables.specs.declared.records.UnpaidBond.{UnpaidBond}
+use Rattle.ee_store_tables.specs.AsRows.{Fits, entry_of_unpaid}
+use Rattle.ee_store_tables.specs.Rows.{Rows, BondRow, with_rate, with_extension, with_bond, with_day, with_batch, with_ticket, with_lines, CanPayAll}
 use Rattle.ee_store_books.specs.Standing.{key_of, bond_row, ticket_row, paid_row, batch_row}
 
 -- the rows with the extension of a period, if there is one
@@ -50,7 +52,7 @@ pub record CanClose (rows : Rows) (batch : Batch) : Type 0 where
 -- the change can be written, given the last closed day
 abbrev pub CanWrite : Option ℕ → Rows → Change → Type 0
 CanWrite last_day rows (change.Rates from rates) = ⊤
-CanWrite last_day rows (change.Bond bond) = ⊤
+CanWrite last_day rows (change.Bond bond) = get rows.bonds (key_of bond.serial) ≡ None
 CanWrite last_day rows (change.Day day) = IfSome last_day Fits
 CanWrite last_day rows (change.Ticket ticket) = CanPayTicket rows ticket
 CanWrite last_day rows (change.Batch batch) = CanClose rows batch
@@ -59,6 +61,26 @@ CanWrite last_day rows (change.Batch batch) = CanClose rows batch
 abbrev pub CanWriteAll : Option ℕ → Rows → List Change → Type 0
 CanWriteAll last_day rows [] = ⊤
 CanWriteAll last_day rows (change ∷ changes) = CanWrite last_day rows change × CanWriteAll last_day (changed_rows last_day rows change) changes
+
+-- ---- bonds that are registered together
+
+-- the row of a bond that no ticket pays, under its serial number
+abbrev pub new_entry : Bond → (ℕ × ℕ) × BondRow
+new_entry bond = (key_of bond.serial, bond_row (record { bond = bond; ticket = None }))
+
+-- that of the bond that a change adds
+abbrev pub added_entry : Change → Option ((ℕ × ℕ) × BondRow)
+added_entry (change.Rates from rates) = None
+added_entry (change.Bond bond) = Some (new_entry bond)
+added_entry (change.Day day) = None
+added_entry (change.Ticket ticket) = None
+added_entry (change.Batch batch) = None
+
+-- the changes begin with bonds that have these rows
+abbrev pub BeginWith : List Change → List UnpaidBond → Type 0
+BeginWith changes rows = (length rows ≤ length changes) × (map (λ row. Some (entry_of_unpaid row)) rows ≡ map added_entry (take (length rows) changes))
+
+-- ---- room
 
 -- the number of rows with a hidden rowid that a change adds at most
 abbrev pub added_rows : Change → ℕ

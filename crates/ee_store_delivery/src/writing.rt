@@ -1,8 +1,8 @@
 //! Writing changes to the books as rows.
 
-ghost use Rattle.std.specs.Prelude.{◌≡◌, IfSome, length, Some, None};
+ghost use Rattle.std.specs.Prelude.{◌≡◌, All, IfErr, IfOk, IfSome, length, Some, None};
 ghost use Rattle.sqlite.specs.Held.{state};
-ghost use Rattle.ee_store_tables.specs.AsRows.{Fits};
+ghost use Rattle.ee_store_tables.specs.AsRows.{Fits, FitsUnpaid};
 ghost use Rattle.ee_store_tables.specs.Rows.{HasRoom};
 ghost use Rattle.ee_store_tables.specs.Statements.{WritesInside, WritesIfAny, Makes, FailsByCause, KeepsRoom};
 ghost use Rattle.ee_store_delivery.specs.Causes.{LeavesRoom};
@@ -16,14 +16,15 @@ ghost use Rattle.ee_store_delivery.specs.Written.{
   CanWriteAll,
   added_rows,
   all_added_rows,
+  BeginWith,
 };
 
 use crate::to_rows::{batch_row, bond_row, line_rows, ticket_row, whole, whole_option};
 use ee_calculator::Bond;
 use ee_desk_model::{Batch, Change, Terms, Ticket};
 use ee_store_tables::{
-    Failure, PeriodRate, add_batch, add_bond, add_extension, add_rate, add_ticket, pay_lines,
-    set_day,
+    Failure, PeriodRate, UnpaidBond, add_batch, add_bond, add_extension, add_new_bonds, add_rate,
+    add_ticket, pay_lines, set_day,
 };
 use ee_units::{Day, IssueMonth, Rate};
 use sqlite::{Alter, Transaction};
@@ -168,8 +169,8 @@ fn write_change<S: Alter>(
     }
 }
 
-/// Writes changes in order, given the last closed day.
-pub fn write_changes<S: Alter>(
+/// Writes changes in order, one by one, given the last closed day.
+fn write_each<S: Alter>(
     tx: &mut Transaction<'_, S>,
     alloc: Global,
     last_day: Option<u64>,
@@ -186,4 +187,43 @@ pub fn write_changes<S: Alter>(
         write_change(tx, alloc, last_day, change)?;
     }
     Ok(())
+}
+
+/// The rows of the bonds that changes begin with.
+fn first_bonds(alloc: Global, changes: &[Change]) -> Result<Vec<UnpaidBond>, Failure>
+    ensures rows { IfOk result (λ rows. BeginWith changes.now rows.items) }
+    ensures fit { IfOk result (λ rows. All FitsUnpaid rows.items) }
+    ensures memory { IfErr result (λ e. e ≡ Failure.NoMemory) }
+{
+    let mut rows = Vec::new(alloc);
+    for change in changes {
+        let Change::Bond(bond) = change else {
+            return Ok(rows);
+        };
+        if rows.push(bond_row(bond)).is_err() {
+            return Err(Failure::NoMemory);
+        }
+    }
+    Ok(rows)
+}
+
+/// Writes changes in order, given the last closed day. The bonds that they begin with are registered
+/// together.
+pub fn write_changes<S: Alter>(
+    tx: &mut Transaction<'_, S>,
+    alloc: Global,
+    last_day: Option<u64>,
+    changes: &[Change],
+) -> Result<(), Failure>
+    ensures same_reference { tx.new.conn.ghost_name ≡ tx.old.conn.ghost_name }
+    ensures writes_if_any { WritesIfAny (state S.Store tx.old.conn.now) (state S.Store tx.new.conn.now) result }
+    ensures written { Makes (state S.Store tx.old.conn.now) (state S.Store tx.new.conn.now) result (λ rows. applied_rows last_day rows changes.now) }
+    ensures room { LeavesRoom (state S.Store tx.old.conn.now) (state S.Store tx.new.conn.now) result (all_added_rows changes.now) }
+    ensures cause { FailsByCause (state S.Store tx.old.conn.now) (state S.Store tx.new.conn.now) result
+        (λ rows. CanWriteAll last_day rows changes.now × HasRoom (all_added_rows changes.now) (state S.Store tx.old.conn.now)) }
+{
+    let bonds = first_bonds(alloc, changes)?;
+    add_new_bonds(tx, alloc, &bonds)?;
+    let (_, rest) = changes.split_at(bonds.len());
+    write_each(tx, alloc, last_day, rest)
 }

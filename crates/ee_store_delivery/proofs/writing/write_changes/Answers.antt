@@ -1,82 +1,86 @@
-use Rattle.std.proofs.Common.{◌≡◌, ℕ, ◌+◌, ◌<◌, add-one, List, ◌∷◌, length, drop, drop-cons, get_or, refl, sym, ap, ◌∙◌, subst, arith}
-use Rattle.std.proofs.lemmas.List.{drop_all}
+use Rattle.std.proofs.Common.{rules, ◌≡◌, ◌+◌, ◌++◌, map, length, take, drop, arith, sym, ap, ◌∙◌, subst}
+use Rattle.std.proofs.lemmas.List.{take-append-drop}
+use Rattle.std.proofs.lemmas.Result.{on_ok_weaker, IfErr-weaker}
 use Rattle.sqlite.specs.Held.{state}
-use Rattle.sqlite.specs.State.{State}
-use Rattle.ee_desk_model.specs.declared.changes.Change.{Change}
-use Rattle.ee_store_tables.specs.Rows.{Sees, HasRoom}
+use Rattle.ee_store_tables.specs.AsRows.{entry_of_unpaid}
+use Rattle.ee_store_tables.specs.Rows.{Sees, with_bonds}
 use Rattle.ee_store_tables.proofs.Lemmas.Transactions.{clean_before}
 use Rattle.ee_store_tables.proofs.Lemmas.Causes.{room_less}
-use Rattle.ee_store_tables.specs.Statements.{IsExcused}
-use Rattle.ee_store_delivery.specs.Written.{applied_rows, changed_rows, CanWriteAll, added_rows, all_added_rows}
-use Rattle.ee_store_books.proofs.Lemmas.Lookups.{excused_later, nothing_done, done_then, handed_on}
+use Rattle.ee_store_books.proofs.Lemmas.Lookups.{statement_failed, excused_later}
+use Rattle.ee_store_delivery.specs.Written.{applied_rows, CanWriteAll, all_added_rows}
+use Rattle.ee_store_delivery.proofs.Together.{AreEntries, bonds_first, rows_first, can_together}
 use Rattle.ee_store_delivery.proofs.writing.write_changes.Goals as goal
 
--- the changes that are left are the next one and the later ones
-left_is : (changes : List Change) (i : ℕ) (change : Change) → i < length changes → change ≡ get_or changes i change → drop i changes ≡ change ∷ drop (i + 1) changes
-left_is changes i change below is =
-    drop-cons changes i change below ∙ (λ k. sym is k ∷ drop (sym (add-one i) k) changes)
-
-room_next : (now : State) (changes : List Change) (i n : ℕ) (change : Change) → drop i changes ≡ change ∷ drop (i + 1) changes
-    → HasRoom (all_added_rows (drop i changes) + n) now → HasRoom (added_rows change + (all_added_rows (drop (i + 1) changes) + n)) now
-room_next now changes i n change is room =
-    let count = ap all_added_rows is in
-    room_less now _ (all_added_rows (drop i changes) + n) (omega (arith, count)) room
-
-pub loop-change-init : goal.loop-change-init
-loop-change-init g c = record { same_reference = refl; stays = nothing_done (state g.S.Store c.args.tx.now.conn.now); written = λ _ rows sees. (rows, sees, refl, λ can. can); room = λ _ _ rows sees n room. room }
-
-pub loop-change-preserved : goal.loop-change-preserved
-loop-change-preserved g c =
-    let old = state g.S.Store c.args.tx.now.conn.now in
-    let middle = state g.S.Store c.loop-change.tx.conn.now in
-    let new = state g.S.Store c.write_change.new.tx.conn.now in
-    let was = c.loop-change.invariant in
-    let last = c.args.last_day in
-    let change = c.change-item.result in
-    let left = left_is c.args.changes.now c.loop-change.change-index change c.loop-change-test.true c.change-item.is in
-    record {
-      same_reference = c.write_change.ensures.same_reference ∙ was.same_reference;
-      stays = done_then old middle new was.stays c.write_change.ensures.writes_if_any.crash c.write_change.ensures.writes_if_any.commit c.in_ok-write_change.ensures.writes_if_any.still_open c.in_ok-write_change.ensures.writes_if_any.inside;
-      written = λ clean rows sees.
-          let here = was.written (clean_before middle new c.write_change.ensures.writes_if_any.crash clean) rows sees in (
-            changed_rows last here.0 change,
-            c.in_ok-write_change.ensures.written clean here.0 here.1,
-            sym (ap (applied_rows last here.0) left) ∙ here.2,
-            λ can. (subst (CanWriteAll last here.0) left (here.3 can)).1,
-          );
-      room = λ clean inside rows sees n room.
-          let before = clean_before middle new c.write_change.ensures.writes_if_any.crash clean in
-          let here = was.written before rows sees in
-          c.in_ok-write_change.ensures.room clean (was.stays.inside before inside) here.0 here.1 (all_added_rows (drop (c.loop-change.change-index + 1) c.args.changes.now) + n)
-          (room_next middle c.args.changes.now c.loop-change.change-index n change left (was.room before inside rows sees n room));
-    }
-
 pub returns-clause-written : goal.returns-clause-written
-returns-clause-written g c clean rows sees =
-    let here = c.loop-change.invariant.written clean rows sees in
-    let all : here.0 ≡ applied_rows c.args.last_day rows c.args.changes.now
-    = ap (applied_rows c.args.last_day here.0) (sym (drop_all c.loop-change.change-index c.args.changes.now c.loop-change-test.false)) ∙ here.2 in
-    subst (Sees (state g.S.Store c.loop-change.tx.conn.now)) all here.1
+returns-clause-written g c clean =
+    let middle = state g.S.Store c.add_new_bonds.new.tx.conn.now in
+    let new = state g.S.Store c.write_each.new.tx.conn.now in
+    let before = clean_before middle new c.write_each.ensures.writes_if_any.crash clean in
+    let last = c.args.last_day in
+    let n = length c.in_ok-bonds.bonds.items in
+    let changes = c.args.changes.now in
+    let given : c.deref.result.now ≡ c.in_ok-bonds.bonds.items = search rules in
+    let left : c.split_at.result.1.now ≡ drop n changes = search rules in
+    let are : AreEntries c.deref.result.now (take n changes) = subst (λ rows. AreEntries rows (take n changes)) (sym given) c.in_ok-bonds.ensures.rows.1 in
+    let two : changes ≡ take n changes ++ c.split_at.result.1.now = sym (take-append-drop n changes) ∙ ap (λ rest. take n changes ++ rest) (sym left) in
+    on_ok_weaker c.write_each.result (λ written rows sees.
+    subst (Sees new) (sym (ap (applied_rows last rows) two ∙ bonds_first last rows c.deref.result.now (take n changes) c.split_at.result.1.now are))
+    (written (with_bonds rows (map entry_of_unpaid c.deref.result.now)) (c.in_ok-add_new_bonds.ensures.added before rows sees)))
+    (c.write_each.ensures.written clean)
 
 pub returns-clause-room : goal.returns-clause-room
-returns-clause-room g c clean inside rows sees n room =
-    let none = ap all_added_rows (drop_all c.loop-change.change-index c.args.changes.now c.loop-change-test.false) in
-    room_less (state g.S.Store c.loop-change.tx.conn.now) n _ (omega (arith, none)) (c.loop-change.invariant.room clean inside rows sees n room)
-
-pub returns-in_err-write_change-clause-cause : goal.returns-in_err-write_change-clause-cause
-returns-in_err-write_change-clause-cause g c clean inside endless rows sees can =
+returns-clause-room g c clean inside =
     let old = state g.S.Store c.args.tx.now.conn.now in
-    let middle = state g.S.Store c.loop-change.tx.conn.now in
-    let new = state g.S.Store c.write_change.new.tx.conn.now in
-    let was = c.loop-change.invariant in
-    let change = c.change-item.result in
+    let middle = state g.S.Store c.add_new_bonds.new.tx.conn.now in
+    let new = state g.S.Store c.write_each.new.tx.conn.now in
+    let before = clean_before middle new c.write_each.ensures.writes_if_any.crash clean in
+    let n = length c.in_ok-bonds.bonds.items in
     let changes = c.args.changes.now in
-    let left = left_is changes c.loop-change.change-index change c.loop-change-test.true c.change-item.is in
-    let before = clean_before middle new c.write_change.ensures.writes_if_any.crash clean in
-    let here = was.written before rows sees in
-    let room = room_next middle changes c.loop-change.change-index 0 change left (was.room before inside rows sees 0 (room_less old (all_added_rows changes + 0) (all_added_rows changes) (omega arith) can.1)) in
-    let e = c.in_err-write_change.field-0.0 in
-    handed_on (IsExcused old new) c.from_residual.result e c.from_residual.ensures.1
-    (excused_later old middle new clean was.stays.crash c.write_change.ensures.writes_if_any.crash e
-    (c.in_err-write_change.ensures.cause clean (was.stays.inside before inside) (was.stays.crash.limit ∙ endless) here.0 here.1
-    ((subst (CanWriteAll c.args.last_day here.0) left (here.3 can.0)).0, room_less middle (added_rows change) _ (omega arith) room)))
+    let given : c.deref.result.now ≡ c.in_ok-bonds.bonds.items = search rules in
+    let left : c.split_at.result.1.now ≡ drop n changes = search rules in
+    let are : AreEntries c.deref.result.now (take n changes) = subst (λ rows. AreEntries rows (take n changes)) (sym given) c.in_ok-bonds.ensures.rows.1 in
+    let two : changes ≡ take n changes ++ c.split_at.result.1.now = sym (take-append-drop n changes) ∙ ap (λ rest. take n changes ++ rest) (sym left) in
+    let all = ap all_added_rows two ∙ rows_first c.deref.result.now (take n changes) c.split_at.result.1.now are in
+    on_ok_weaker c.write_each.result (λ leaves rows sees m room.
+    leaves (with_bonds rows (map entry_of_unpaid c.deref.result.now)) (c.in_ok-add_new_bonds.ensures.added before rows sees) m
+    (c.in_ok-add_new_bonds.ensures.room before inside rows sees (all_added_rows c.split_at.result.1.now + m)
+    (room_less old _ (all_added_rows changes + m) (omega (arith, all)) room)))
+    (c.write_each.ensures.room clean (c.in_ok-add_new_bonds.ensures.writes_if_any.inside before inside))
+
+pub returns-in_err-add_new_bonds-clause-cause : goal.returns-in_err-add_new_bonds-clause-cause
+returns-in_err-add_new_bonds-clause-cause g c clean inside endless rows sees can =
+    let old = state g.S.Store c.args.tx.now.conn.now in
+    let n = length c.in_ok-bonds.bonds.items in
+    let changes = c.args.changes.now in
+    let given : c.deref.result.now ≡ c.in_ok-bonds.bonds.items = search rules in
+    let are : AreEntries c.deref.result.now (take n changes) = subst (λ rows. AreEntries rows (take n changes)) (sym given) c.in_ok-bonds.ensures.rows.1 in
+    let two : changes ≡ take n changes ++ drop n changes = sym (take-append-drop n changes) in
+    let all = ap all_added_rows two ∙ rows_first c.deref.result.now (take n changes) (drop n changes) are in
+    statement_failed old (state g.S.Store c.add_new_bonds.new.tx.conn.now) c.from_residual-in_err-add_new_bonds.result c.in_err-add_new_bonds.field-0.0 c.from_residual-in_err-add_new_bonds.ensures.1
+    (c.in_err-add_new_bonds.ensures.cause clean inside endless rows sees (
+      room_less old (length c.deref.result.now) (all_added_rows changes) (omega (arith, all)) can.1,
+      (can_together c.args.last_day rows c.deref.result.now (take n changes) (drop n changes) are (subst (CanWriteAll c.args.last_day rows) two can.0)).0,
+    ))
+
+pub returns-clause-cause : goal.returns-clause-cause
+returns-clause-cause g c clean inside endless rows sees can =
+    let old = state g.S.Store c.args.tx.now.conn.now in
+    let middle = state g.S.Store c.add_new_bonds.new.tx.conn.now in
+    let new = state g.S.Store c.write_each.new.tx.conn.now in
+    let before = clean_before middle new c.write_each.ensures.writes_if_any.crash clean in
+    let last = c.args.last_day in
+    let n = length c.in_ok-bonds.bonds.items in
+    let changes = c.args.changes.now in
+    let given : c.deref.result.now ≡ c.in_ok-bonds.bonds.items = search rules in
+    let left : c.split_at.result.1.now ≡ drop n changes = search rules in
+    let are : AreEntries c.deref.result.now (take n changes) = subst (λ rows. AreEntries rows (take n changes)) (sym given) c.in_ok-bonds.ensures.rows.1 in
+    let two : changes ≡ take n changes ++ c.split_at.result.1.now = sym (take-append-drop n changes) ∙ ap (λ rest. take n changes ++ rest) (sym left) in
+    let all = ap all_added_rows two ∙ rows_first c.deref.result.now (take n changes) c.split_at.result.1.now are in
+    let both = can_together last rows c.deref.result.now (take n changes) c.split_at.result.1.now are (subst (CanWriteAll last rows) two can.0) in
+    IfErr-weaker c.write_each.result _ _ (excused_later old middle new clean c.add_new_bonds.ensures.writes_if_any.crash c.write_each.ensures.writes_if_any.crash)
+    (c.write_each.ensures.cause clean (c.in_ok-add_new_bonds.ensures.writes_if_any.inside before inside) (c.add_new_bonds.ensures.writes_if_any.crash.limit ∙ endless)
+    (with_bonds rows (map entry_of_unpaid c.deref.result.now)) (c.in_ok-add_new_bonds.ensures.added before rows sees) (
+      both.1,
+      c.in_ok-add_new_bonds.ensures.room before inside rows sees (all_added_rows c.split_at.result.1.now)
+          (room_less old _ (all_added_rows changes) (omega (arith, all)) can.1),
+    ))

@@ -4,7 +4,7 @@ use Rattle.sqlite.specs.State.{HasCleanDisk}
 use Rattle.ee_store_tables.specs.Rows.{Rows, Sees, IsInside, HasRoom}
 use Rattle.ee_store_delivery.specs.Written.{applied_rows, CanWriteAll, all_added_rows}
 use Rattle.ee_store_books.proofs.Lemmas.Lookups.{Stays}
-use Rattle.ee_store_delivery.proofs.writing.write_changes.Given as goal
+use Rattle.ee_store_delivery.proofs.writing.write_each.Given as goal
 
 -- the changes that are left make of the rows so far what all of them make of the first ones
 abbrev pub invariant-loop-change : goal.invariant-loop-change
