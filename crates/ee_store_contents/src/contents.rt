@@ -1,10 +1,10 @@
 //! The books that the rows of a store represent.
 
-ghost use Rattle.std.specs.Prelude.{◌≡◌, ◌↔◌, Some, None, IfOk, IfErr, IfSome};
+ghost use Rattle.std.specs.Prelude.{◌≡◌, ◌↔◌, Some, None, IfOk, IfErr, IfSome, option_map};
 ghost use Rattle.ee_desk_model.specs.Repeats.{Content};
 ghost use Rattle.ee_desk_soundness.specs.Parts.{AreUnsound};
 ghost use Rattle.ee_desk_soundness.specs.Made.{IsMadeOf};
-ghost use Rattle.ee_store_contents.specs.Reading.{parts_in};
+ghost use Rattle.ee_store_contents.specs.Reading.{each, bond_in, mark_at, tickets_in, parts_in};
 ghost use Rattle.ee_store_tables.specs.Rows.{Rows as TableRows};
 ghost use Rattle.ee_store_load.specs.Whole.{AreInOrder, AreRead};
 ghost use Rattle.ee_store_books.specs.Standing.{StandAt};
@@ -17,11 +17,14 @@ use crate::rates::rates_in;
 use crate::reading::{batches_in, bonds_in, days_in};
 use crate::tickets::tickets_in;
 use crate::unit_tables::kept_tables;
-use ee_desk_model::{Rows, UnitTables};
+use ee_calculator::Bond;
+use ee_desk_model::{Rows, Ticket, UnitTables};
 use ee_desk_soundness::{Indexes, Parts, PartsFault, checked};
-use ee_store_load::AllRows;
+use ee_store_load::{AllRows, StoredBond, StoredLine, StoredTicket};
 use ee_store_schema::StoredAnswer;
+use ee_units::Serial;
 use std::alloc::{AllocError, Global};
+use std::collections::BTreeMap;
 use std::mem;
 use thiserror::Error;
 
@@ -47,26 +50,60 @@ impl From<AllocError> for ContentFault {
     }
 }
 
-/// The parts of the books with these rows.
+/// The tickets of rows, as `tickets_in`. Drops the rows.
+fn own_tickets(
+    alloc: Global,
+    rows: Vec<StoredTicket>,
+    lines: Vec<StoredLine>,
+) -> Result<Option<Vec<Ticket>>, AllocError>
+    ensures { IfOk result (λ o. option_map (λ v. v.items) o ≡ tickets_in rows.items lines.items) }
+{
+    tickets_in(alloc, &rows, &lines)
+}
+
+/// The bonds of rows, as `bonds_in`. Drops the rows and the marks.
+fn own_bonds(
+    alloc: Global,
+    marks: BTreeMap<Serial, u64>,
+    rows: Vec<StoredBond>,
+) -> Result<Option<Vec<Bond>>, AllocError>
+    ensures { IfOk result (λ o. option_map (λ v. v.items) o ≡ each (bond_in (mark_at marks.entries)) rows.items) }
+{
+    bonds_in(alloc, &marks, &rows)
+}
+
+/// The parts of the books with these rows. Drops the rows of each table as soon as their parts are made.
 #[tactic(auto, unfolding(crate::specs::Reading::parts_in))]
-fn parts_in(alloc: Global, stored: &AllRows) -> Result<Option<Parts>, AllocError>
-    ensures value { IfOk result (λ o. o ≡ parts_in stored.now) }
+fn parts_in(alloc: Global, stored: AllRows) -> Result<Option<Parts>, AllocError>
+    ensures value { IfOk result (λ o. o ≡ parts_in stored) }
     ensures fits { IfOk result (λ o. IfSome o PartsFit) }
 {
-    let Some(days) = days_in(stored.form.version(), &stored.desk) else {
+    let AllRows {
+        form,
+        desk,
+        rates,
+        bonds,
+        tickets,
+        lines,
+        batches,
+        extensions,
+        replies: _,
+        has_room: _,
+    } = stored;
+    let Some(days) = days_in(form.version(), &desk) else {
         return Ok(None);
     };
-    let Some(rates) = rates_in(alloc, &stored.rates, &stored.extensions)? else {
+    let Some(rates) = rates_in(alloc, &rates, &extensions)? else {
         return Ok(None);
     };
-    let Some(tickets) = tickets_in(alloc, &stored.tickets, &stored.lines)? else {
+    let Some(tickets) = own_tickets(alloc, tickets, lines)? else {
         return Ok(None);
     };
     let marks = marks_of(alloc, &tickets)?;
-    let Some(bonds) = bonds_in(alloc, &marks, &stored.bonds)? else {
+    let Some(bonds) = own_bonds(alloc, marks, bonds)? else {
         return Ok(None);
     };
-    let Some(batches) = batches_in(alloc, &stored.batches)? else {
+    let Some(batches) = batches_in(alloc, &batches)? else {
         return Ok(None);
     };
     let parts = Parts {
@@ -87,7 +124,7 @@ fn right_parts(alloc: Global, stored: AllRows) -> Result<Parts, ContentFault>
     ensures fits { IfOk result PartsFit }
     ensures none { IfErr result (λ fault. fault ≡ ContentFault.Unusable → None ≡ parts_in stored) }
 {
-    match parts_in(alloc, &stored)? {
+    match parts_in(alloc, stored)? {
         Some(parts) => Ok(parts),
         None => Err(ContentFault::Unusable),
     }

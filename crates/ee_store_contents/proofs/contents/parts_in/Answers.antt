@@ -8,7 +8,7 @@ use Rattle.ee_store_contents.proofs.contents.parts_in.Goals as goal
 
 pub returns-clause-value : goal.returns-clause-value
 returns-clause-value c =
-    let stored = c.args.stored.now in
+    let stored = c.args.stored in
     let days : days_in (version_of stored.form) stored.desk.items ≡ Some c.in-Some.days = search rules in
     let rates : rates_in stored.rates.items stored.extensions.items ≡ Some c.in-Some-2.rates.items = search rules in
     let tickets : tickets_in stored.tickets.items stored.lines.items ≡ Some c.in-Some-3.tickets.items = search rules in
