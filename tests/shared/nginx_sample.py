@@ -5,6 +5,7 @@ import base64
 import http.client
 import json
 import os
+import secrets
 import socket
 import ssl
 import subprocess
@@ -22,11 +23,13 @@ PAGE = TOP / "clients" / "teller"
 SOCKET = "unix:/run/counter-http.sock"
 #: Where wrong passwords wait.
 WAITING = "127.0.0.1:838"
+#: Where passwords are tested, and the folder in which nginx keeps that they were right.
+TESTING, SIGN_INS = "127.0.0.1:839", "/run/counter-sign-ins"
 CLIENT = {"X-Counter-Client": "test", "Content-Type": "application/json"}
 
 #: What stands for Debian's own nginx.conf. The media types are those that the page needs.
 PLAIN = """
-{modules}
+load_module /usr/lib/nginx/modules/ngx_http_js_module.so;
 worker_processes 2;
 user {user};
 pid {folder}/nginx.pid;
@@ -45,8 +48,6 @@ http {{
 """
 #: The password and the groups of each user.
 Users = Mapping[str, tuple[str, str]]
-#: Debian's module for scripts, which the log with replies needs.
-SCRIPTS = "load_module /usr/lib/nginx/modules/ngx_http_js_module.so;"
 
 
 def basic(user: str, password: str) -> dict[str, str]:
@@ -67,10 +68,9 @@ class Nginx:
         self.make_users(hashed or self.hashed)
         self.make_settings(conf, counter_port, rate)
         user = user or ("root" if os.getuid() == 0 else "nobody")
-        modules = SCRIPTS if requests else ""
         if requests:
             self.make_requests(requests)
-        (self.folder / "nginx.conf").write_text(PLAIN.format(folder=self.folder, user=user, modules=modules))
+        (self.folder / "nginx.conf").write_text(PLAIN.format(folder=self.folder, user=user))
         self.process = self.started()
 
     def make_certificate(self) -> None:
@@ -88,10 +88,11 @@ class Nginx:
         (self.folder / "groups").write_text("".join(f'{name} "{groups}";\n' for name, (_, groups) in self.users.items() if groups))
 
     def make_settings(self, conf: str | Path, counter_port: int, rate: int | None) -> None:
-        self.late = free_port()
-        own = [("listen 443 ssl", f"listen 127.0.0.1:{self.port} ssl"), ("server_name counter.bank.example", "server_name 127.0.0.1"), ("/etc/counter/", f"{self.folder}/"), ("/opt/counter/teller/", f"{self.page}/")]
-        text = replaced(Path(conf).read_text(), own).replace(WAITING, f"127.0.0.1:{self.late}")
-        passing = (SAMPLE / "pass_to_counter.conf").read_text()
+        self.late, self.testing = free_port(), free_port()
+        self.places = ((WAITING, f"127.0.0.1:{self.late}"), (TESTING, f"127.0.0.1:{self.testing}"), (SIGN_INS, f"{self.folder}/sign-ins"), ("/etc/counter/", f"{self.folder}/"), (SOCKET, f"127.0.0.1:{counter_port}"))
+        own = [("listen 443 ssl", f"listen 127.0.0.1:{self.port} ssl"), ("server_name counter.bank.example", "server_name 127.0.0.1"), ("/opt/counter/teller/", f"{self.page}/")]
+        text = self.placed(replaced(Path(conf).read_text(), own))
+        passing = self.placed((SAMPLE / "pass_to_counter.conf").read_text())
         if "pass_to_counter.conf" in text:
             text = text.replace("/var/log/nginx/", f"{self.folder}/log/")
         else:
@@ -99,8 +100,16 @@ class Nginx:
         if rate is not None:
             text = replaced(text, [("counter_requests:10m rate=10r/s", f"counter_requests:10m rate={rate}r/s"), ("    limit_conn counter_users 8;\n", ""), ("    limit_conn counter_addresses 100;\n", "")])
         (self.folder / "conf.d" / "counter.conf").write_text(text)
-        (self.folder / "pass_to_counter.conf").write_text(passing.replace(SOCKET, f"127.0.0.1:{counter_port}").replace("/etc/counter/", f"{self.folder}/"))
-        (self.folder / "sign_in.conf").write_text((SAMPLE / "sign_in_password.conf").read_text().replace("/etc/counter/", f"{self.folder}/"))
+        (self.folder / "pass_to_counter.conf").write_text(passing)
+        (self.folder / "sign_in.conf").write_text(self.placed((SAMPLE / "sign_in_password.conf").read_text()))
+        (self.folder / "counter_sign_in.js").write_text(self.placed((SAMPLE / "counter_sign_in.js").read_text()))
+        (self.folder / "sign_in_key.conf").write_text(f'map "" $counter_key {{ default {secrets.token_hex(32)}; }}\n')
+
+    def placed(self, text: str) -> str:
+        """The text of a sample with this nginx's own files and addresses."""
+        for old, new in self.places:
+            text = text.replace(old, new)
+        return text
 
     def make_requests(self, file: str | Path) -> None:
         where = replaced((SAMPLE / "server_requests.conf").read_text(), [("/srv/requests/requests.log", str(file))])

@@ -59,10 +59,11 @@ def counter_at_the_port(machine: Fresh) -> None:
 
 
 def passwords_by_fail2ban(machine: Fresh) -> None:
-    """A wrong password costs no time, and fail2ban counts them."""
+    """nginx tests a password where a client asks, a wrong one costs no time, and fail2ban counts them."""
     write(machine, "/etc/fail2ban/jail.d/counter.local", JAIL)
     machine.shell(
-        "sed -i '/limit_conn/d; /auth_request .late;/d' /etc/nginx/sites-available/counter.conf\n"
+        "sed -i '/limit_conn/d; s|auth_request /late;|auth_basic off; auth_request off;|' /etc/nginx/sites-available/counter.conf\n"
+        "sed -i 's|^auth_request .*|auth_basic counter; auth_basic_user_file /etc/counter/passwords; auth_request /allowed;|; s|^ *proxy_pass .*|if ($is_of_group) { return 204; } return 403;|' /etc/counter/sign_in.conf\n"
         "systemctl restart nginx.service fail2ban.service"
     )
 

@@ -167,6 +167,13 @@ def stand_in(what: str, titles: tuple[str, ...], path: str, text: str, said: str
     return run(what, titles, f"[ ! -e {path} ] || mv {path} {path}.kept; {write}", f"rm {path}; [ ! -e {path}.kept ] || mv {path}.kept {path}", said)
 
 
+def with_rsa(what: str, script: str, said: str) -> Trouble:
+    """Ciphers of the site, which sed changes, beside a key of RSA: without one none lacks forward secrecy."""
+    certificate = replaced(CERTIFICATE, [("ec -pkeyopt ec_paramgen_curve:prime256v1", "rsa:2048")])
+    kept = f"cp -a /etc/counter kept; cp {SITE} site; {certificate}; sed -i '{script}' {SITE}; {RELOAD}"
+    return run(what, (FORWARD,), kept, f"cp -a kept/. /etc/counter; rm -r kept; cp site {SITE}; {RELOAD}", said)
+
+
 NGINX_TROUBLES = (
     run("nginx's settings have a fault", (SETTINGS,), "echo 'other on;' > /etc/nginx/conf.d/other.conf", "rm /etc/nginx/conf.d/other.conf", "unknown directive"),
     run("nginx doesn't start with the machine", (SETTINGS,), "systemctl disable nginx.service", "systemctl enable nginx.service", "enable --now"),
@@ -186,12 +193,14 @@ NGINX_TROUBLES = (
         f"cp -a kept/. /etc/counter; rm -r kept; {RELOAD}",
         "renew",
     ),
+    Trouble("the key of what is kept for all to read", lambda machine: for_all(machine, "/etc/counter/sign_in_key.conf"), ("the key is secret",), "nobody reads"),
     Trouble("a key for all to read", lambda machine: for_all(machine, "/etc/counter/key.pem"), ("certificate and key belong to root", "the key is secret"), "nobody reads"),
-    edit("any password", (WITHOUT_PASSWORD, WAITS, LIMITED), (SIGN_IN, ('auth_basic "counter"', "auth_basic off"))),
+    edit("any password", (WITHOUT_PASSWORD, WAITS, LIMITED), (SITE, ('auth_basic "counter"', "auth_basic off"))),
+    edit("passwords are tested for anybody", ("passwords are tested for nginx alone",), (SITE, ("$http_x_counter_key != $counter_key", "$http_x_counter_key = none")), said="204"),
     edit("any name", ("nothing is answered under another name",), (SITE, ("if ($host != $server_name)", "if ($host = none)"))),
     edit("TLS 1.1", ("TLS 1.1 is refused",), (SITE, ("ssl_protocols TLSv1.2", "ssl_protocols TLSv1.1 TLSv1.2"), ("ssl_ciphers ", "ssl_ciphers @SECLEVEL=0:ECDHE+AES:"))),
-    edit("no list of ciphers", (FORWARD,), (SITE, ("    ssl_ciphers", "    #")), said="AES"),
-    edit("ciphers without forward secrecy alone", (FORWARD,), (SITE, ("ssl_ciphers ", "ssl_ciphers AES256-GCM-SHA384; #")), said="AES256-GCM-SHA384 is accepted"),
+    with_rsa("no list of ciphers", "s/    ssl_ciphers/    #/", "AES"),
+    with_rsa("ciphers without forward secrecy alone", "s/ssl_ciphers /ssl_ciphers AES256-GCM-SHA384; #/", "AES256-GCM-SHA384 is accepted"),
 )
 NETWORK_TROUBLES = (
     run("the counter doesn't start with the machine", (RUNS,), f"systemctl disable {COUNTER}", f"systemctl enable {COUNTER}", "disabled"),
@@ -248,7 +257,7 @@ ASKED_TROUBLES = (
     edit(
         "a page of another origin asks who is signed in",
         (ORIGINS,),
-        (SITE, ("location = /user {\n        if ($is_foreign)", 'location = /user {\n        if ($arg_other)')),
+        (SITE, ("location = /user {\n        set $wanted_group none;\n        if ($is_foreign)", "location = /user {\n        set $wanted_group none;\n        if ($arg_other)")),
         said="/user with",
     ),
     edit("bodies in chunks", ("bodies in chunks are refused",), (PASS, ("if ($http_transfer_encoding)", "if ($http_x_other)"))),
@@ -261,7 +270,7 @@ ASKED_TROUBLES = (
         ("/etc/nginx/conf.d/0-counter-requests.conf", ("$request_body", "")),
         said="requests.log has the user 'anna' and 0 of 40016 bytes",
     ),
-    edit("wrong passwords cost no time", (WAITS, LIMITED), (SITE, ("        auth_request /late;\n", ""))),
+    edit("wrong passwords cost no time", (WAITS, LIMITED), (SITE, ("        auth_request /late;", "        auth_request off;"))),
     edit("any number of requests at once", (LIMITED,), (SITE, ("    limit_conn counter_users 8;", ""))),
     edit(
         "any number of requests",
