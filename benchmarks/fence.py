@@ -2,9 +2,9 @@
 """Measures what the sample's nginx costs: fence.py PROGRAM FOLDER [REQUESTS], where PROGRAM is the built ee_cli. FOLDER gets the stores and nginx's files. It needs Debian's nginx-light, openssl and
 apache2-utils.
 
-A teller redeems REQUESTS bonds (600 without the number), one a request, each over a connection of its own, as the page and the Python client do. The processor time of nginx's workers and of the
-counter is counted. A row of the table is a way to hash passwords, a kind of key, and whether clients resume their session of TLS, as browsers do. The rounds of all rows alternate. It prints medians,
-in milliseconds a request."""
+A teller redeems REQUESTS bonds (100 without the number), one a request, each over a connection of its own, as the page and the Python client do. The processor time of nginx's workers and of the
+counter is counted. A row of the table is how often a password is hashed (by bcrypt, cost 5, as htpasswd does it), a kind of key, and whether clients resume their session of TLS, as browsers do. The
+rounds of all rows alternate. It prints medians, in milliseconds a request."""
 from __future__ import annotations
 
 import http.client
@@ -19,48 +19,54 @@ from typing import NamedTuple
 sys.dont_write_bytecode = True
 sys.path.insert(0, str(Path(__file__).resolve().parents[1] / "tests" / "shared"))
 
-from counter_calls import apply, beginning, done, free_port, post, serve, wait_for  # noqa: E402
+from counter_calls import apply, beginning, done, free_port, post, replaced, serve, wait_for  # noqa: E402
 from nginx_sample import CLIENT, Nginx, basic  # noqa: E402
 
 USER, PASSWORD = "anna", "j3Zr0uVgk7cTqSx1mYpB"
-REQUESTS, ROUNDS = 600, 5
+REQUESTS, ROUNDS = 100, 9
 DAY = "2012-02-06"
 RSA, CURVE = ("rsa:2048",), ("ec", "-pkeyopt", "ec_paramgen_curve:prime256v1")
 
 
 class Way(NamedTuple):
-    """How passwords are hashed, which key the server has, and whether clients resume their session."""
+    """How often a password is hashed, by changes of sign_in.conf; which key the server has, and whether clients resume their session."""
 
-    hashing: str
+    hashed: str
     key: tuple[str, ...]
     is_resumed: bool
 
-    def hashed(self, password: str) -> str:
-        if self.hashing == "SHA-512":
-            return done("openssl", "passwd", "-6", password).strip()
-        return done("htpasswd", "-nbB", "-C", self.hashing[-1], USER, password).strip().split(":")[1]
-
     def cells(self) -> str:
-        return f"{self.hashing} | {'P-256' if self.key == CURVE else 'RSA, 2,048 bits'} | {'yes' if self.is_resumed else 'no'}"
+        return f"{self.hashed} | {'P-256' if self.key == CURVE else 'RSA, 2,048 bits'} | {'yes' if self.is_resumed else 'no'}"
 
 
+EACH, KEPT, NEVER = "for every request", "once in five minutes", "never: none is asked for"
+CHANGES: dict[str, list[tuple[str, str]]] = {EACH: [("proxy_cache counter_sign_ins;", "proxy_cache off;")], KEPT: [], NEVER: [("auth_request /allowed;", "")]}
 WAYS = (
-    Way("SHA-512", RSA, False),
-    Way("SHA-512", RSA, True),
-    Way("bcrypt, cost 5", RSA, False),
-    Way("bcrypt, cost 5", RSA, True),
-    Way("bcrypt, cost 5", CURVE, True),
-    Way("bcrypt, cost 4", CURVE, False),
-    Way("bcrypt, cost 4", CURVE, True),
+    Way(EACH, RSA, False),
+    Way(EACH, RSA, True),
+    Way(KEPT, RSA, False),
+    Way(KEPT, RSA, True),
+    Way(KEPT, CURVE, False),
+    Way(KEPT, CURVE, True),
+    Way(NEVER, CURVE, True),
 )
 
 
 class Fence(Nginx):
-    """The sample's nginx with a key of this kind, without its limits."""
+    """The sample's nginx, hashing and with a key as this way says, without its limits."""
 
     def __init__(self, folder: Path, counter_port: int, way: Way) -> None:
         self.way = way
-        super().__init__(folder, counter_port, {USER: (PASSWORD, "teller supervisor office")}, rate=1_000_000, hashed=way.hashed)
+        super().__init__(folder, counter_port, {USER: (PASSWORD, "teller supervisor office")}, rate=1_000_000)
+
+    @staticmethod
+    def hashed(password: str) -> str:
+        return done("htpasswd", "-nbB", USER, password).strip().split(":")[1]
+
+    def make_settings(self, conf: str | Path, counter_port: int, rate: int | None) -> None:
+        super().make_settings(conf, counter_port, rate)
+        file = self.folder / "sign_in.conf"
+        file.write_text(replaced(file.read_text(), CHANGES[self.way.hashed]))
 
     def make_certificate(self) -> None:
         names = ("-subj", "/CN=localhost", "-addext", "subjectAltName=DNS:localhost,IP:127.0.0.1")
@@ -131,7 +137,7 @@ def main() -> None:
     program, folder = sys.argv[1], Path(sys.argv[2]).resolve()
     requests = int(sys.argv[3]) if len(sys.argv) > 3 else REQUESTS
     rounds = [{way: measured(program, folder / f"{turn}-{place}", way, requests) for place, way in enumerate(WAYS)} for turn in range(ROUNDS)]
-    print("| Passwords | Key | Sessions resumed | nginx | the counter | nginx, compared with the counter |\n|---|---|---|---|---|---|")
+    print("| A password is hashed | Key | Sessions resumed | nginx | the counter | nginx, compared with the counter |\n|---|---|---|---|---|---|")
     for way in WAYS:
         nginx, counter = (statistics.median(found[way][part] for found in rounds) for part in (0, 1))
         print(f"| {way.cells()} | {nginx:.2f} | {counter:.2f} | {nginx / counter:.1f} |")
