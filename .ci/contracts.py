@@ -275,7 +275,7 @@ class Rust:
         if public and self.peek() == "(":
             self.group()
             public = False
-        while self.peek() in ("const", "unsafe", "extern", "default", "async", "final"):
+        while self.peek() in "const unsafe extern default async final".split():
             kind = self.next()
             if kind == "extern" and self.peek().startswith('"'):
                 self.next()
