@@ -1,11 +1,10 @@
 //! The numbers of desks.
 
 ghost use Rattle.std.specs.Prelude.{◌≡◌, ◌≤◌, option_and_then};
-ghost use Rattle.std.specs.Char.{is_ascii_digit};
-ghost use Rattle.std.specs.List.{list_all};
 ghost use Rattle.ee_units.specs.Spelling.{in_range};
 ghost use Rattle.ee_desk_model.specs.Desks.{is_desk, desk_of};
 
+use ee_units::pieces::is_all_digits;
 use std::marker::Model;
 
 /// The number of a desk, 0 to 999. Each desk numbers its requests independently.
@@ -52,12 +51,6 @@ impl Desk {
     {
         self.number
     }
-}
-
-fn is_all_digits(text: &str) -> bool
-    ensures { result ≡ list_all is_ascii_digit text.now }
-{
-    text.bytes().all(|b| b.is_ascii_digit())
 }
 
 #[tactic(auto, unfolding(crate::specs::Desks::is_desk))]

@@ -1,12 +1,11 @@
 //! Values under a key of a JSON object; their texts are borrowed.
 
 ghost use Rattle.std.specs.Prelude.{◌≡◌, option_map};
-ghost use Rattle.std.specs.Char.{is_ascii_digit};
-ghost use Rattle.std.specs.List.{list_all};
 ghost use Rattle.json.specs.Value.{value_view, items_view};
 ghost use Rattle.ee_desk_texts.specs.Reading.{text_at, is_whole, count_of, count_at, customer_at, day_at, rate_at, issue_at, serial_at, cents_at, items_at};
 
 use crate::money::cents_in;
+use ee_units::pieces::is_all_digits;
 use ee_units::{
     Cents, Customer, Day, IssueMonth, Rate, Serial, read_day, read_issue, read_rate, read_serial,
 };
@@ -17,12 +16,6 @@ pub fn text_at<'a>(value: &Value<'a>, key: &str) -> Option<&'a str>
     ensures { option_map (λ s. s.now) result ≡ text_at key.now (value_view value.now) }
 {
     value.get(key)?.as_str()
-}
-
-fn is_all_digits(text: &str) -> bool
-    ensures { result ≡ list_all is_ascii_digit text.now }
-{
-    text.bytes().all(|b| b.is_ascii_digit())
 }
 
 #[tactic(auto, unfolding(crate::specs::Reading::is_whole))]

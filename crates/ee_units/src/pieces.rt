@@ -5,7 +5,8 @@ ghost use Rattle.std.specs.Char.{is_ascii_digit};
 ghost use Rattle.std.specs.List.{list_all};
 ghost use Rattle.ee_units.specs.Spelling.{is_number, number_of, digits_of, parts_at};
 
-fn is_all_digits(text: &str) -> bool
+/// Says whether each byte of a text is a digit, which holds of the empty text.
+pub fn is_all_digits(text: &str) -> bool
     ensures { result ≡ list_all is_ascii_digit text.now }
 {
     text.bytes().all(|b| b.is_ascii_digit())

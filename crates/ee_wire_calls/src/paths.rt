@@ -1,7 +1,6 @@
 //! The parts of a path.
 ghost use Rattle.std.specs.Prelude.{◌≡◌, ◌==◌};
-ghost use Rattle.std.specs.List.{before_first, after_first, list_all};
-ghost use Rattle.std.specs.Char.{is_ascii_digit};
+ghost use Rattle.std.specs.List.{before_first, after_first};
 ghost use Rattle.ee_wire_calls.specs.Paths.{part, segment, query_of};
 ghost use Rattle.ee_wire_calls.specs.Kinds.{number_text};
 ghost use Rattle.ee_units.specs.Denoms.{denom_of};
@@ -12,6 +11,7 @@ ghost use Rattle.ee_wire_calls.specs.declared.routes.Get.TheVariants as Get;
 use crate::faults::Field;
 use crate::routes::Get;
 use ee_desk_model::Query;
+use ee_units::pieces::is_all_digits;
 use ee_units::{
     Customer, Day, Denom, IssueMonth, Month, read_customer, read_day, read_denom, read_issue,
     read_month,
@@ -44,12 +44,6 @@ fn segment(path: &str, slashes: usize) -> &str
         rest = after_slash(rest);
     }
     before_slash(rest)
-}
-
-fn is_all_digits(text: &str) -> bool
-    ensures { result ≡ list_all is_ascii_digit text.now }
-{
-    text.bytes().all(|b| b.is_ascii_digit())
 }
 
 /// A number of 1 to 19 digits, from 1 to 2^63 - 1.
