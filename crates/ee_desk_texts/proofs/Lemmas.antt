@@ -1,11 +1,10 @@
 -- Lemmas that the proofs of crates above use.
-use Rattle.std.proofs.Common.{IsUtf8, List, Option, Some, ◌++◌, ◌≡◌}
+use Rattle.std.proofs.Common.{IsUtf8, List, ◌++◌, ◌≡◌}
 use Rattle.json.specs.Token as token
 use Rattle.json.specs.Written.{Written}
 use Rattle.ee_desk_model.specs.declared.acts.Act.{Act}
 use Rattle.ee_desk_model.specs.declared.replies.Reply.{Reply}
 use Rattle.ee_desk_texts.specs.Ranges.{ActFits, ReplyFits}
-use Rattle.ee_desk_texts.specs.Reading.{ReadsReply}
 use Rattle.ee_desk_texts.specs.Texts.{act_text, reply_text}
 use Rattle.ee_desk_texts.specs.Writing.{Added}
 use Rattle.ee_desk_texts.proofs.Ascii
@@ -20,10 +19,6 @@ one_act = Same.one_act
 -- a text is the text of one reply
 pub one_reply : (p q : Reply) → ReplyFits p → ReplyFits q → reply_text p ≡ reply_text q → p ≡ q
 one_reply = Same.one_reply
-
--- the text of a reply is read as that reply alone
-pub reply_only : (p : Reply) (o : Option Reply) → ReplyFits p → ReadsReply (reply_text p) o → o ≡ Some p
-reply_only = Same.reply_only
 
 -- the text of an act is UTF-8: it is ASCII
 pub act_text-utf8 : (a : Act) → ActFits a → IsUtf8 (act_text a)

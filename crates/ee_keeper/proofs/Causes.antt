@@ -1,5 +1,5 @@
 -- Why a keeper's answers say that the store failed, over several calls.
-use Rattle.std.proofs.Common.{◌≡◌, inl, inr, ℕ, zero, suc, ◌+◌, ◌-◌, add-zero, ◌≤◌, ◌⊎◌, Bool, true, false, List, [], ◌∷◌, ◌++◌, Result, Ok, Err, refl, sym, subst, arith}
+use Rattle.std.proofs.Common.{◌≡◌, inl, inr, ℕ, zero, suc, ◌+◌, ◌-◌, add-zero, ◌≤◌, ◌⊎◌, Bool, List, [], ◌∷◌, Result, Ok, Err, subst, arith}
 use Rattle.std.specs.List.{AllByRecursion}
 use Rattle.ee_desk_model.specs.declared.refusals.Unserved.{Unserved}
 use Rattle.ee_keeper.specs.Keeping.{Continues, FailsOnlyIf, FailedIn, HasFailed, HasCause, IsShutByCause}

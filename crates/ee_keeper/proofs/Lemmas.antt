@@ -1,5 +1,5 @@
 -- Lemmas that the proofs of crates above use.
-use Rattle.std.proofs.Common.{◌≡◌, ◌⊎◌, ℕ, ◌+◌, ◌≤◌, Bool, List, Result}
+use Rattle.std.proofs.Common.{◌⊎◌, ℕ, ◌+◌, ◌≤◌, Bool, List, Result}
 use Rattle.std.specs.List.{AllByRecursion}
 use Rattle.ee_desk_model.specs.declared.refusals.Unserved.{Unserved}
 use Rattle.ee_keeper.specs.Keeping.{Continues, FailsOnlyIf, FailedIn, HasCause, IsShutByCause}

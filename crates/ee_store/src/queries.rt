@@ -60,7 +60,7 @@ impl<S: Alter> Keeper for SqlKeeper<S> {
     ghost use Rattle.sqlite.specs.State.{HasCleanDisk};
     ghost use Rattle.ee_store_books.specs.Seen.{HasContent};
     ghost use Rattle.ee_store_delivery.specs.Known.{IsInformed};
-    ghost use Rattle.std.specs.Prelude.{◌+◌, ◌*◌, ◌≤◌, ℕ};
+    ghost use Rattle.std.specs.Prelude.{◌*◌, ◌≤◌, ℕ};
     ghost use Rattle.std.proofs.Math.Logic.{∥∥₁_map};
     ghost use Rattle.ee_store.specs.History.{HasCome};
     ghost use Rattle.std.proofs.Common.{inl, le-add_right, le_trans};

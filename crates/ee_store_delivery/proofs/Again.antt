@@ -1,5 +1,5 @@
 -- The kept reply by the texts of acts.
-use Rattle.std.proofs.Common.{◌≡◌, ◌≢◌, ℕ, cond, List, Option, Some, None, sym, ap, ◌∙◌}
+use Rattle.std.proofs.Common.{◌≡◌, ◌≢◌, ℕ, cond, List, Option, Some, sym, ap, ◌∙◌}
 use Rattle.std.specs.Option.{unwrap_or}
 use Rattle.std.proofs.lemmas.Bool.{false_from_ne_true}
 use Rattle.ee_desk_model.specs.declared.acts.Act.{Act}
@@ -38,7 +38,3 @@ of_same act reply asked told same reads number kept again is fits one two three 
     let is_same = ap (same_act kept.act) (sym acts) ∙ same_act-self kept.act in
     some_is told kept.reply (reads kept.reply is.reply_in_range two)
     ∙ sym (ap (λ b. cond b kept.reply (Refused NumberReused)) is_same)
-
--- the text of a kept reply is that of a reply
-pub kept_is_read : (reply : List ℕ) (number : RequestKey) (kept : Kept) → IsKept number kept → reply ≡ reply_text kept.reply → ¬ ReadsKnown reply None
-kept_is_read reply number kept is own reads = absurd (let e = reads kept.reply is.reply_in_range own in cc)

@@ -3,9 +3,8 @@ use Rattle.ee_desk_laws.proofs.Lemmas.{lead_nowhere}
 use Rattle.std.proofs.Common.{◌≡◌, ◌∙◌, ◌+◌, ◌*◌, ◌++◌, ◌∷◌, [], ◌≤◌, length, arith, refl, subst, inl}
 use Rattle.ee_keeper.specs.Keeping.{HasAfter}
 use Rattle.ee_keeper.proofs.Lemmas.{continues_itself, continues_on, failed_after, takes_fewer}
-use Rattle.ee_cli_actions.proofs.Connections.{left_of}
 use Rattle.std.proofs.lemmas.Result.{err_from_is_err_and}
-use Rattle.ee_cli_actions.proofs.Connections.{breaks_before, broken_off, count_more, each_more, each_yet, failed_more, lines_failed, printed_more, until_more, until_none}
+use Rattle.ee_cli_actions.proofs.Connections.{breaks_before, broken_off, count_more, each_more, each_yet, failed_more, left_of, lines_failed, printed_more, until_more, until_none}
 use Rattle.ee_cli_actions.proofs.serving.serve_on.Goals as goal
 
 pub returns-in_err-ended-clause-serves : goal.returns-in_err-ended-clause-serves

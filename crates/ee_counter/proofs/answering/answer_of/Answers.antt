@@ -1,7 +1,7 @@
 use Rattle.std.proofs.Common.{subst}
 use Rattle.ee_desk_model.specs.Queries.{ShowsQuery}
 use Rattle.ee_desk_model.specs.declared.queries.Shown.{Shown}
-use Rattle.ee_counter.proofs.Right.{batch_answers, bonds_answer, row_answers, sheet_answers, ticket_answers}
+use Rattle.ee_counter.proofs.Right.{batch_answers, row_answers, sheet_answers, ticket_answers}
 use Rattle.ee_counter.proofs.answering.answer_of.Goals as goal
 
 pub returns-in-Sheet-clause-answers : goal.returns-in-Sheet-clause-answers
