@@ -1,5 +1,5 @@
 -- The JSON of an act, and of a reply, is read as it; so what a text was written of is read from it, and nothing else.
-use Rattle.std.proofs.Common.{◌≡◌, ◌<◌, ◌≤◌, ◌^◌, ℕ, false, List, [], ◌∷◌, Some, None, Option, IfSome, refl, sym, ap, ◌∙◌, arith, lit<, map, option_and_then, bytes_eq}
+use Rattle.std.proofs.Common.{◌≡◌, ◌≢◌, ◌<◌, ◌≤◌, ◌^◌, ℕ, false, List, [], ◌∷◌, Some, None, Option, IfSome, MatchOption, refl, sym, ap, ◌∙◌, arith, lit<, map, option_and_then, bytes_eq}
 use Rattle.std.specs.List.{AllByRecursion}
 use Rattle.std.proofs.lemmas.Bool.{false≢true}
 use Rattle.std.proofs.lemmas.Slice.Eq.{bytes_eq-Decides}
@@ -161,3 +161,9 @@ act_only a (Some b) fits some = ap Some (sym (one_act a b fits some.0 some.1))
 pub reply_only : (p : Reply) (o : Option Reply) → ReplyFits p → ReadsReply (reply_text p) o → o ≡ Some p
 reply_only p None fits none = absurd (none p fits refl)
 reply_only p (Some q) fits some = ap Some (sym (one_reply p q fits some.0 some.1))
+
+-- the act that a text was read as, which is taken if the text is its own
+pub act_told : (text : List ℕ) (act : Act) (o : Option Act) → ((a : Act) → ActFits a → text ≡ act_text a → Some act ≡ Some a)
+    → MatchOption o (text ≢ act_text act) (λ a. (a ≡ act) × ActFits a × (text ≡ act_text a)) → ReadsAct text o
+act_told text act None only apart = λ a fits same. let one = only a fits same in let is : act ≡ a = cc in apart (same ∙ ap act_text (sym is))
+act_told text act (Some a) only told = (told.1, told.2)

@@ -1,6 +1,6 @@
 //! Reading acts from their texts.
 
-ghost use Rattle.std.specs.Prelude.{◌≡◌, IfOk, option_map};
+ghost use Rattle.std.specs.Prelude.{◌≡◌, ◌≢◌, IfOk, IfSome, MatchOption, option_map};
 ghost use Rattle.json.specs.Value.{value_view, items_view};
 ghost use Rattle.ee_desk_texts.specs.Reading.{
   each,
@@ -16,11 +16,14 @@ ghost use Rattle.ee_desk_texts.specs.Reading.{
   act_of,
   ReadsAct,
 };
+ghost use Rattle.ee_desk_texts.specs.Ranges.{ActFits};
+ghost use Rattle.ee_desk_texts.specs.Texts.{act_text};
 
 use crate::acts::canonical;
 use crate::fields::{
     count_at, customer_at, day_at, issue_at, items_at, rate_at, serial_at, text_at,
 };
+use crate::quick::quick_act;
 use ee_calculator::Bond;
 use ee_desk_model::{Act, RateRow, Rows};
 use ee_units::{Customer, Denom, Rate, Serial, read_serial};
@@ -176,9 +179,40 @@ fn act_in(alloc: Global, value: &Value<'_>) -> Result<Option<Act>, AllocError>
     }
 }
 
+// The act, if this is its text.
+fn if_act(alloc: Global, act: Act, text: &str) -> Result<Option<Act>, AllocError>
+    ensures { IfOk result (λ o. MatchOption o (text.now ≢ act_text act) (λ a. (a ≡ act) × ActFits a × (text.now ≡ act_text a))) }
+{
+    if canonical(alloc, &act)?.as_str() == text {
+        Ok(Some(act))
+    } else {
+        Ok(None)
+    }
+}
+
 /// Parses a canonical act. `None` if the text isn't exactly the canonical text of an act: another order
 /// of keys, another spelling or a space makes another text.
 pub fn read_act(alloc: Global, text: &str) -> Result<Option<Act>, AllocError>
+    ensures { IfOk result (λ o. ReadsAct text.now o) }
+{
+    match quick_act_of(alloc, text)? {
+        Some(act) => Ok(Some(act)),
+        None => read_any_act(alloc, text),
+    }
+}
+
+// The act that was read quickly, if this is its text.
+fn quick_act_of(alloc: Global, text: &str) -> Result<Option<Act>, AllocError>
+    ensures { IfOk result (λ o. IfSome o (λ a. ActFits a × (text.now ≡ act_text a))) }
+{
+    match quick_act(alloc, text)? {
+        Some(quick) => if_act(alloc, quick, text),
+        None => Ok(None),
+    }
+}
+
+// Parses a canonical act by its JSON.
+fn read_any_act(alloc: Global, text: &str) -> Result<Option<Act>, AllocError>
     ensures { IfOk result (λ o. ReadsAct text.now o) }
 {
     let mut scratch = Scratch::new(alloc);
@@ -187,12 +221,8 @@ pub fn read_act(alloc: Global, text: &str) -> Result<Option<Act>, AllocError>
         Err(Error::Invalid) => return Ok(None),
         Err(_) => return Err(AllocError),
     };
-    let Some(act) = act_in(alloc, &value)? else {
-        return Ok(None);
-    };
-    if canonical(alloc, &act)?.as_str() == text {
-        Ok(Some(act))
-    } else {
-        Ok(None)
+    match act_in(alloc, &value)? {
+        Some(act) => if_act(alloc, act, text),
+        None => Ok(None),
     }
 }

@@ -13,6 +13,7 @@ mod fields;
 mod invariants;
 mod laws;
 mod money;
+mod quick;
 mod refusal_reading;
 mod refusals;
 mod replies;

@@ -1,6 +1,6 @@
 //! Reading replies from their texts.
 
-ghost use Rattle.std.specs.Prelude.{◌≡◌, IfOk, Some, option_map};
+ghost use Rattle.std.specs.Prelude.{◌≡◌, ◌≢◌, IfOk, IfSome, MatchOption, Some, option_map};
 ghost use Rattle.json.specs.Value.{value_view, items_view};
 ghost use Rattle.ee_desk_model.specs.declared.replies.Reply.{Reply};
 ghost use Rattle.ee_desk_texts.specs.Ranges.{ReplyFits};
@@ -8,6 +8,7 @@ ghost use Rattle.ee_desk_texts.specs.Reading.{each, added_of, opened_of, batch_o
 ghost use Rattle.ee_desk_texts.specs.Texts.{reply_text};
 
 use crate::fields::{cents_at, count_at, customer_at, day_at, items_at, serial_at};
+use crate::quick::quick_reply;
 use crate::refusal_reading::refused_in;
 use crate::replies::reply_text;
 use ee_desk_model::{Batch, Line, Reply, Rows, Ticket};
@@ -131,12 +132,39 @@ pub fn read_known_reply(alloc: Global, text: &str) -> Result<Option<Reply>, Allo
 pub fn read_reply(alloc: Global, text: &str) -> Result<Option<Reply>, AllocError>
     ensures { IfOk result (λ o. ReadsReply text.now o) }
 {
-    let Some(reply) = read_known_reply(alloc, text)? else {
-        return Ok(None);
-    };
+    match quick_reply_of(alloc, text)? {
+        Some(reply) => Ok(Some(reply)),
+        None => read_any_reply(alloc, text),
+    }
+}
+
+// The reply, if this is its text.
+fn if_reply(alloc: Global, reply: Reply, text: &str) -> Result<Option<Reply>, AllocError>
+    ensures { IfOk result (λ o. MatchOption o (text.now ≢ reply_text reply) (λ p. (p ≡ reply) × ReplyFits p × (text.now ≡ reply_text p))) }
+{
     if reply_text(alloc, &reply)?.as_str() == text {
         Ok(Some(reply))
     } else {
         Ok(None)
+    }
+}
+
+// The reply that was read quickly, if this is its text.
+fn quick_reply_of(alloc: Global, text: &str) -> Result<Option<Reply>, AllocError>
+    ensures { IfOk result (λ o. IfSome o (λ p. ReplyFits p × (text.now ≡ reply_text p))) }
+{
+    match quick_reply(alloc, text)? {
+        Some(quick) => if_reply(alloc, quick, text),
+        None => Ok(None),
+    }
+}
+
+// Parses the text of a reply by its JSON.
+fn read_any_reply(alloc: Global, text: &str) -> Result<Option<Reply>, AllocError>
+    ensures { IfOk result (λ o. ReadsReply text.now o) }
+{
+    match read_known_reply(alloc, text)? {
+        Some(reply) => if_reply(alloc, reply, text),
+        None => Ok(None),
     }
 }

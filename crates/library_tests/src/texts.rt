@@ -47,6 +47,7 @@ fn texts_of_acts(rt: HostRuntime) -> Result<(), Fail> {
 const REPLIES: &str = r#"{"new":2,"same":0} => Added { new: 2, same: 0 }
 {"opened":"2012-02-06"} => Opened(Day { count: 15376 })
 {"day":"2012-02-06","lines":[{"paid":"25.88","serial":"L1EE"},{"paid":"38.34","serial":"K2EE"},{"paid":"5132.00","serial":"M3EE"}],"payee":7,"ticket":1,"total":"5196.22"} => Ticket(Ticket { ticket: 1, day: Day { count: 15376 }, payee: Customer { number: 7 }, lines: Rows { items: [Line { serial: Serial { letter: 12, number: 1 }, cents: Cents(2588) }, Line { serial: Serial { letter: 11, number: 2 }, cents: Cents(3834) }, Line { serial: Serial { letter: 13, number: 3 }, cents: Cents(513200) }] }, total: Cents(519622) })
+{"day":"2012-02-06","lines":[],"payee":7,"ticket":1,"total":"0.00"} => Ticket(Ticket { ticket: 1, day: Day { count: 15376 }, payee: Customer { number: 7 }, lines: Rows { items: [] }, total: Cents(0) })
 {"bonds":3,"day":"2012-02-06","tickets":1,"total":"5196.22"} => Batch(Batch { day: Day { count: 15376 }, tickets: 1, bonds: 3, total: Cents(519622) })
 {"bonds":0,"day":"2012-02-07","tickets":0,"total":"0.00"} => Batch(Batch { day: Day { count: 15377 }, tickets: 0, bonds: 0, total: Cents(0) })
 {"bonds":100000,"day":"2012-02-06","tickets":1000,"total":"184467440737095516.15"} => Batch(Batch { day: Day { count: 15376 }, tickets: 1000, bonds: 100000, total: Cents(18446744073709551615) })
@@ -106,6 +107,9 @@ null => none
 {"act":"redeem","day":"2012-02-06","payee":"7","serials":["L1EE"]} => none
 {"act":"redeem","day":"2012-02-06","payee":7.0,"serials":["L1EE"]} => none
 {"act":"redeem","day":"2012-02-06","payee":4294967303,"serials":["L1EE"]} => none
+{"act":"redeem","day":"2012-02-06","payee":07,"serials":["L1EE"]} => none
+{"act":"redeem","day":"2012-02-06","payee":7,"serials":["L1EE"]}} => none
+{"act":"redeem","day":"2012-02-06","payee":7,"serials":["L1EE", "K2EE"]} => none
 {"act":"rates","rates":[{"from":"2010-05","rate":"2.00"}]} => none
 {"act":"rates","rates":[{"from":"05/2010","rate":"2.00%"}]} => none
 {"act":"rates","rates":[{"from":"2010-05","rate":"2.00%","x":0}]} => none
@@ -139,6 +143,11 @@ const NO_REPLIES: &str = r#" => none
 {"bonds":0,"day":"2012-02-07","tickets":0,"total":"00.00"} => none
 {"bonds":0,"day":"2012-02-07","tickets":0,"total":"0.0"} => none
 {"bonds":0,"day":"2012-02-07","tickets":0,"total":"184467440737095516.16"} => none
+{"day":"2012-02-06","lines":[{"paid":"025.88","serial":"L1EE"}],"payee":7,"ticket":1,"total":"25.88"} => none
+{"day":"2012-02-06","lines":[{"paid":"25.88","serial":"L-1-EE"}],"payee":7,"ticket":1,"total":"25.88"} => none
+{"day":"2012-02-06","lines":[{"paid":"25.88","serial":"L1EE"}],"payee":07,"ticket":1,"total":"25.88"} => none
+{"day":"2012-02-06","lines":[{"paid":"25.88","serial":"L1EE"}],"payee":7,"ticket":01,"total":"25.88"} => none
+{"day":"2012-02-06","lines":[{"paid":"25.88","serial":"L1EE"}],"payee":7,"ticket":1,"total":"25.88"}x => none
 {"code":11,"refused":"TooMany"} => none
 {"code":30,"refused":"NoRate"} => none
 {"code":51,"refused":"NotPayee","serial":"N04EE"} => none
