@@ -1,7 +1,6 @@
 -- Lemmas that the proofs of crates above use: what is said of a command is said of it too if less is known of its file, or of the
 -- store that it leaves.
-use Rattle.std.proofs.Common.{ℕ, List, ◌++◌, Option, Some, None, Result, Ok, Err}
-use Rattle.std.proofs.lemmas.Option.{none-some}
+use Rattle.std.proofs.Common.{ℕ, List, ◌++◌, Option, Some, Result, Ok, Err, refl, subst}
 use Rattle.ee_desk_model.specs.Numbers.{RequestKey}
 use Rattle.ee_desk_model.specs.Repeats.{Content}
 use Rattle.ee_desk_model.specs.declared.acts.Act.{Act}
@@ -12,7 +11,9 @@ use Rattle.ee_desk_laws.specs.Attempts.{Attempt}
 use Rattle.ee_files.specs.RateFile.{rates_of_file}
 use Rattle.ee_files.specs.BondFile.{bonds_of_file}
 use Rattle.ee_keeper.specs.Keeping.{Shows}
-use Rattle.ee_counter.specs.Filing.{Imports, Exports, Reading}
+use Rattle.ee_files.specs.Answers.{Gives}
+use Rattle.ee_files.specs.declared.faults.FileFault.{FileFault}
+use Rattle.ee_counter.specs.Filing.{Imports, Exports, Reading, Reads}
 use Rattle.ee_counter.specs.Serving.{Serves, attempts_by_all}
 use Rattle.ee_counter.proofs.Lemmas.{ends_with}
 use Rattle.ee_counter.specs.declared.connections.Ended.{Ended}
@@ -23,21 +24,25 @@ use Rattle.ee_counter.specs.declared.files.ImportFault.TheVariants as import
 use Rattle.ee_cli_commands.specs.declared.commands.FileKind.{FileKind}
 use Rattle.ee_cli_commands.specs.declared.commands.FileKind.TheVariants as kind
 use Rattle.ee_cli_value.specs.declared.endings.Outcome.{Outcome}
-use Rattle.ee_cli_actions.specs.Actions.{Applies, ImportsInto, ExportsFrom, ShowsSheet}
+use Rattle.ee_cli_actions.specs.Actions.{Applies, AreOf, ImportsInto, ExportsFrom, ShowsSheet}
 use Rattle.ee_cli_actions.specs.Connections.{ServesAll}
 use Rattle.ee_cli_actions.proofs.Connections.{each_with}
 use Rattle.ee_cli_actions.specs.declared.faults.RunFault.{RunFault}
 
-rows_forgotten : {A : Type 0} (rows_of : Reading A) (act_of : List A → Act) (bytes : List ℕ) (number : RequestKey) (c : Content) (answer : Result Reply ImportFault) (Has : Content → List Attempt → Type 0)
-    → Imports rows_of act_of (Some bytes) number c answer Has → Imports rows_of act_of None number c answer Has
-rows_forgotten rows_of act_of bytes number c (Ok reply) Has (rows, reads, delivers) = (rows, λ source is. absurd (none-some source is), delivers)
-rows_forgotten rows_of act_of bytes number c (Err (import.File fault)) Has (reads, has) = (λ source is. absurd (none-some source is), has)
-rows_forgotten rows_of act_of bytes number c (Err (import.Unserved cause)) Has (rows, reads, has) = (rows, λ source is. absurd (none-some source is), has)
+gives_known : {A : Type 0} (rows_of : Reading A) (bytes : List ℕ) (known : Option (List ℕ)) (read : Result (List A) FileFault) → AreOf known bytes → Reads rows_of (Some bytes) read → Reads rows_of known read
+gives_known rows_of bytes known read are reads = λ source is. subst (λ b. Gives (λ rows. rows) read (rows_of b)) (are source is) (reads bytes refl)
 
-pub bytes_forgotten : (kind : FileKind) (bytes : List ℕ) (old new : Option (List ℕ)) (number : RequestKey) (c : Content) (result : Result Outcome RunFault) (Has : Content → List Attempt → Type 0)
-    → ImportsInto kind (Some bytes) old new number c result Has → ImportsInto kind None old new number c result Has
-bytes_forgotten kind.Rates bytes old new number c result Has (answer, imports, told) = (answer, rows_forgotten rates_of_file act.AddRates bytes number c answer Has imports, told)
-bytes_forgotten kind.Inventory bytes old new number c result Has (answer, imports, told) = (answer, rows_forgotten bonds_of_file act.AddBonds bytes number c answer Has imports, told)
+-- what is said of a file of these bytes is said of a reader that gave them, if any are known
+rows_known : {A : Type 0} (rows_of : Reading A) (act_of : List A → Act) (bytes : List ℕ) (known : Option (List ℕ)) (number : RequestKey) (c : Content) (answer : Result Reply ImportFault) (Has : Content → List Attempt → Type 0)
+    → AreOf known bytes → Imports rows_of act_of (Some bytes) number c answer Has → Imports rows_of act_of known number c answer Has
+rows_known rows_of act_of bytes known number c (Ok reply) Has are (rows, reads, delivers) = (rows, gives_known rows_of bytes known (Ok rows) are reads, delivers)
+rows_known rows_of act_of bytes known number c (Err (import.File fault)) Has are (reads, has) = (gives_known rows_of bytes known (Err fault) are reads, has)
+rows_known rows_of act_of bytes known number c (Err (import.Unserved cause)) Has are (rows, reads, has) = (rows, gives_known rows_of bytes known (Ok rows) are reads, has)
+
+pub bytes_known : (kind : FileKind) (bytes : List ℕ) (known old new : Option (List ℕ)) (number : RequestKey) (c : Content) (result : Result Outcome RunFault) (Has : Content → List Attempt → Type 0)
+    → AreOf known bytes → ImportsInto kind (Some bytes) old new number c result Has → ImportsInto kind known old new number c result Has
+bytes_known kind.Rates bytes known old new number c result Has are (answer, imports, told) = (answer, rows_known rates_of_file act.AddRates bytes known number c answer Has are imports, told)
+bytes_known kind.Inventory bytes known old new number c result Has are (answer, imports, told) = (answer, rows_known bonds_of_file act.AddBonds bytes known number c answer Has are imports, told)
 
 -- ---- what is left of a store
 

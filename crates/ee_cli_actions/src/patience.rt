@@ -1,4 +1,4 @@
-//! A socket with a time limit for each turn.
+//! Time limits for the turns of a connection.
 
 ghost use Rattle.std.specs.Prelude.{⊤};
 
@@ -22,23 +22,21 @@ struct Turn {
     begun: Instant,
 }
 
-/// A socket on which all reads between two writes, and all writes between two reads, together take at most
-/// `patience`; then a call fails. So a message has that long to arrive, and a response to be taken, even if
-/// single bytes move now and then, which a timeout of the socket alone would allow.
+/// The turns of a connection, on which all reads between two writes, and all writes between two reads, together
+/// take at most `patience`; then a call fails. So a message has that long to arrive, and a response to be taken,
+/// even if single bytes move now and then, which a timeout of the socket alone would allow.
 #[derive(Drop)]
-pub struct Patient<'c, 's, C: Clock> {
+pub struct Turns<'c, C: Clock> {
     clock: &'c C,
-    stream: &'s TcpStream,
     patience: Duration,
     turn: Cell<Option<Turn>>,
 }
 
-impl<'c, 's, C: Clock> Patient<'c, 's, C> {
-    /// The stream with a time limit of `patience` for each turn, by this clock.
-    pub fn new(clock: &'c C, stream: &'s TcpStream, patience: Duration) -> Patient<'c, 's, C> {
-        Patient {
+impl<'c, C: Clock> Turns<'c, C> {
+    /// The turns of a new connection, with a time limit of `patience` for each, by this clock.
+    pub fn new(clock: &'c C, patience: Duration) -> Turns<'c, C> {
+        Turns {
             clock,
-            stream,
             patience,
             turn: Cell::new(None),
         }
@@ -57,38 +55,56 @@ impl<'c, 's, C: Clock> Patient<'c, 's, C> {
             None => Err(ErrorKind::TimedOut.into()),
         }
     }
+}
 
-    /// Ends a connection on which responses were written: tells the other side that none follow, then reads and
-    /// drops what still comes, until the other side ends too or its time is over. If a socket is closed before
-    /// that, with unread bytes, the system resets it, and the other side may lose responses.
-    pub fn let_go(&self) -> io::Result<()> {
-        self.stream.shutdown(Shutdown::Write)?;
-        let mut reader = self;
-        let mut dropped = [0u8; 16_384];
-        for _ in 0..u64::MAX {
-            if reader.read(&mut dropped)? == 0 {
-                break;
-            }
-        }
-        Ok(())
+/// A reader that can be told how long a read may wait.
+pub trait TimedRead: Read {
+    /// Limits the time of each read from now on.
+    fn limit_reads(&self, most: Duration) -> io::Result<()>;
+}
+
+/// A writer that can be told how long a write may wait.
+pub trait TimedWrite: Write {
+    /// Limits the time of each write from now on.
+    fn limit_writes(&self, most: Duration) -> io::Result<()>;
+}
+
+impl<'s> TimedRead for &'s TcpStream {
+    fn limit_reads(&self, most: Duration) -> io::Result<()> {
+        self.set_read_timeout(Some(most))
     }
 }
 
-impl<'p, 'c, 's, C: Clock> Read for &'p Patient<'c, 's, C> {
+impl<'s> TimedWrite for &'s TcpStream {
+    fn limit_writes(&self, most: Duration) -> io::Result<()> {
+        self.set_write_timeout(Some(most))
+    }
+}
+
+/// One direction of a connection. Its bytes are those of the stream.
+#[derive(Drop)]
+pub struct Timed<'t, 'c, C: Clock, S> {
+    pub turns: &'t Turns<'c, C>,
+    pub stream: S,
+}
+
+impl<'t, 'c, C: Clock, R: TimedRead> Read for Timed<'t, 'c, C, R> {
+    ghost remaining = { λ timed. R.remaining timed.stream };
+
     fn read(&mut self, buf: &mut [u8]) -> io::Result<usize> {
-        let left = self.left(Way::In)?;
-        self.stream.set_read_timeout(Some(left))?;
-        let mut reader = self.stream;
-        reader.read(buf)
+        let left = self.turns.left(Way::In)?;
+        self.stream.limit_reads(left)?;
+        self.stream.read(buf)
     }
 }
 
-impl<'p, 'c, 's, C: Clock> Write for &'p Patient<'c, 's, C> {
+impl<'t, 'c, C: Clock, W: TimedWrite> Write for Timed<'t, 'c, C, W> {
+    ghost contents = { λ timed. W.contents timed.stream };
+
     fn write(&mut self, buf: &[u8]) -> io::Result<usize> {
-        let left = self.left(Way::Out)?;
-        self.stream.set_write_timeout(Some(left))?;
-        let mut writer = self.stream;
-        writer.write(buf)
+        let left = self.turns.left(Way::Out)?;
+        self.stream.limit_writes(left)?;
+        self.stream.write(buf)
     }
 
     fn flush(&mut self) -> io::Result<()> {
@@ -96,7 +112,7 @@ impl<'p, 'c, 's, C: Clock> Write for &'p Patient<'c, 's, C> {
     }
 }
 
-impl<'p, 'c, 's, C: Clock> Source for &'p Patient<'c, 's, C> {
+impl<'t, 'c, C: Clock, R: TimedRead> Source for Timed<'t, 'c, C, R> {
     ghost may_have_failed = { λ _. ⊤ };
 
     fn read_once(&mut self, buf: &mut [u8]) -> io::Result<usize> {
@@ -104,10 +120,25 @@ impl<'p, 'c, 's, C: Clock> Source for &'p Patient<'c, 's, C> {
     }
 }
 
-impl<'p, 'c, 's, C: Clock> Sink for &'p Patient<'c, 's, C> {
+impl<'t, 'c, C: Clock, W: TimedWrite> Sink for Timed<'t, 'c, C, W> {
     ghost may_have_failed = { λ _. ⊤ };
 
     fn write_once(&mut self, text: &[u8]) -> io::Result<usize> {
         self.write(text)
     }
+}
+
+/// Ends a connection on which responses were written: tells the other side that none follow, then reads and
+/// drops what still comes, until the other side ends too or its time is over. If a socket is closed before
+/// that, with unread bytes, the system resets it, and the other side may lose responses.
+pub fn let_go<C: Clock>(turns: &Turns<'_, C>, stream: &TcpStream) -> io::Result<()> {
+    stream.shutdown(Shutdown::Write)?;
+    let mut reader = Timed { turns, stream };
+    let mut dropped = [0u8; 16_384];
+    for _ in 0..u64::MAX {
+        if reader.read(&mut dropped)? == 0 {
+            break;
+        }
+    }
+    Ok(())
 }

@@ -4,13 +4,13 @@ ghost use Rattle.std.specs.Prelude.{◌≡◌, ◌⊎◌, ◌+◌, ◌*◌, ℕ,
 ghost use Rattle.ee_desk_model.specs.Repeats.{Content};
 ghost use Rattle.ee_keeper.specs.Keeping.{Continues, FailedIn, HasAfter};
 ghost use Rattle.ee_counter.specs.Answering.{FitMessages};
-ghost use Rattle.ee_counter.specs.Serving.{most_messages};
+ghost use Rattle.ee_counter.specs.Serving.{Serves, most_messages};
 ghost use Rattle.ee_cli_actions.specs.Connections.{PrintsLine, ServesAll, ServesNext, ServesSocket};
 ghost use Rattle.ee_cli_actions.specs.Endings.{TellsFailureOnlyIf};
 ghost use Rattle.ee_cli_actions.specs.Printed.{connection_line};
 
 use crate::faults::{Outcome, RunFault, StoreFault};
-use crate::patience::Patient;
+use crate::patience::{Timed, TimedRead, TimedWrite, Turns, let_go};
 use crate::printing::print;
 use crate::reasons::Reason;
 use ee_counter::{Ended, Why, serve};
@@ -93,29 +93,34 @@ fn serve_stream<C: Clock, K: Keeper>(
     ensures cause { K.is_clean keeper.new → (c : Content) → K.has keeper.old c → (n : ℕ) → K.takes (n + most_messages) keeper.old → FitMessages K.fits
         → result.store_failed ≡ true → FailedIn K.is_open K.faults keeper.old keeper.new }
 {
-    let patient = Patient::new(clock, stream, patience);
-    let ended = serve_patient(alloc, keeper, &patient);
+    let turns = Turns::new(clock, patience);
+    let turns = &turns;
+    let mut reader = Timed { turns, stream };
+    let mut writer = Timed { turns, stream };
+    let ended = serve_timed(alloc, keeper, &mut reader, &mut writer);
     if leaves_more(ended.why) {
-        let _let_go = patient.let_go();
+        let _let_go = let_go(turns, stream);
     }
     ended
 }
 
-fn serve_patient<'c, 's, C: Clock, K: Keeper>(
+// Serves a connection with time limits. It is one function for all streams, so what it promises of those whose bytes
+// are known, that they had these messages and got these responses, is so of sockets too, whose bytes no clause knows.
+fn serve_timed<C: Clock, K: Keeper, R: TimedRead, W: TimedWrite>(
     alloc: Global,
     keeper: &mut K,
-    patient: &Patient<'c, 's, C>,
+    reader: &mut Timed<'_, '_, C, R>,
+    writer: &mut Timed<'_, '_, C, W>,
 ) -> Ended
     ensures continues { Continues K.is_clean K.is_guarded K.is_open K.faults keeper.old keeper.new }
-    ensures serves { K.is_clean keeper.new → (c : Content) → K.has keeper.old c → ServesSocket c result (HasAfter (K.has keeper.new) (K.went keeper.old) (K.went keeper.new)) }
+    ensures serves { K.is_clean keeper.new → (c : Content) → K.has keeper.old c
+        → Serves (R.remaining reader.old.stream) (R.remaining reader.new.stream) (W.contents writer.old.stream) (W.contents writer.new.stream) c result (HasAfter (K.has keeper.new) (K.went keeper.old) (K.went keeper.new)) }
     ensures failed { result.store_failed ≡ true → K.may_fail }
     ensures ready { K.is_clean keeper.new → (c : Content) → K.has keeper.old c → (n : ℕ) → K.takes (n + most_messages) keeper.old → K.takes n keeper.new }
     ensures cause { K.is_clean keeper.new → (c : Content) → K.has keeper.old c → (n : ℕ) → K.takes (n + most_messages) keeper.old → FitMessages K.fits
         → result.store_failed ≡ true → FailedIn K.is_open K.faults keeper.old keeper.new }
 {
-    let mut reader = patient;
-    let mut writer = patient;
-    serve(alloc, keeper, &mut reader, &mut writer)
+    serve(alloc, keeper, reader, writer)
 }
 
 // Whether the other side may still be sending.

@@ -6,7 +6,7 @@ ghost use Rattle.ee_desk_model.specs.Repeats.{Content};
 ghost use Rattle.ee_keeper.specs.Keeping.{Continues, FailedIn, HasAfter};
 ghost use Rattle.ee_counter.specs.Answering.{FitMessages};
 ghost use Rattle.ee_counter.specs.Serving.{most_messages};
-ghost use Rattle.ee_cli_actions.specs.Actions.{FitFile, ImportsInto};
+ghost use Rattle.ee_cli_actions.specs.Actions.{AreOf, FitFile, ImportsInto};
 ghost use Rattle.ee_cli_actions.specs.Endings.{TellsFailureOnlyIf};
 ghost use Rattle.ee_cli_actions.specs.Connections.{ServesAll};
 ghost use Rattle.ee_cli_program.specs.Stores.{Tries};
@@ -18,7 +18,7 @@ use ee_cli_actions::{Outcome, RunFault, import_into, serve_on};
 use ee_cli_commands::FileKind;
 use ee_desk_model::{Desk, Number};
 use ee_files::{FileCode, FileFault, MOST_BYTES, show_field};
-use ee_io::{ReadFault, Sink, read_whole};
+use ee_io::{ReadFault, Sink, Source, read_whole};
 use ee_keeper::Keeper;
 use std::alloc::Global;
 use std::fs;
@@ -59,16 +59,45 @@ pub fn import_path<K: Keeper, W: Sink>(
     match fs::open(rt, path) {
         Ok(mut file) => {
             let is_folder = file.metadata().is_ok_and(|found| found.is_dir());
-            match read_whole(rt.alloc(), &mut file, MOST_BYTES) {
-                Ok(bytes) => import_bytes(rt.alloc(), keeper, kind, desk, number, &bytes, output),
-                Err(fault) => not_read(is_folder, fault),
-            }
+            let alloc = rt.alloc();
+            import_read(
+                alloc, keeper, kind, desk, number, is_folder, &mut file, output,
+            )
         }
         Err(error) => Carried {
             ended: Err(RunFault::Device),
             cause: Some(Cause::File(SystemCause::of(error.kind()))),
             field: None,
         },
+    }
+}
+
+// Imports what this reader has left, which is read whole first. It is one function for all readers, so what it
+// promises of those whose bytes are known, that their rows are imported, is so of files too, whose bytes no clause
+// knows.
+fn import_read<K: Keeper, R: Source, W: Sink>(
+    alloc: Global,
+    keeper: &mut K,
+    kind: FileKind,
+    desk: Desk,
+    number: Number,
+    is_folder: bool,
+    reader: &mut R,
+    output: &mut W,
+) -> Carried
+    ensures continues { Continues K.is_clean K.is_guarded K.is_open K.faults keeper.old keeper.new }
+    ensures imports { K.is_clean keeper.new → (c : Content) → K.has keeper.old c
+        → Tries (W.contents output.old) (W.contents output.new) result.ended
+        (ImportsInto kind (R.remaining reader.old) (W.contents output.old) (W.contents output.new) (desk, number) c result.ended (HasAfter (K.has keeper.new) (K.went keeper.old) (K.went keeper.new)))
+        (HasAfter (K.has keeper.new) (K.went keeper.old) (K.went keeper.new) c []) }
+    ensures cause { K.is_clean keeper.new → (c : Content) → K.has keeper.old c → (n : ℕ) → K.takes (n + 1) keeper.old → FitFile kind K.fits c (desk, number)
+        → TellsFailureOnlyIf (FailedIn K.is_open K.faults keeper.old keeper.new) result.ended }
+    ensures told { TellsOnlyIf result.ended result.cause }
+    ensures shown { IfSome result.field (λ shown. (bytes : List ℕ) × AreOf (R.remaining reader.old) bytes × ShowsField bytes result.ended (string_bytes shown)) }
+{
+    match read_whole(alloc, reader, MOST_BYTES) {
+        Ok(bytes) => import_bytes(alloc, keeper, kind, desk, number, &bytes, output),
+        Err(fault) => not_read(is_folder, fault),
     }
 }
 
