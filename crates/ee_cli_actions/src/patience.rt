@@ -57,25 +57,25 @@ impl<'c, C: Clock> Turns<'c, C> {
     }
 }
 
-/// A reader that can be told how long a read may wait.
-pub trait TimedRead: Read {
+/// A reader whose reads can be limited in time.
+pub trait ReadTimeout: Read {
     /// Limits the time of each read from now on.
     fn limit_reads(&self, most: Duration) -> io::Result<()>;
 }
 
-/// A writer that can be told how long a write may wait.
-pub trait TimedWrite: Write {
+/// A writer whose writes can be limited in time.
+pub trait WriteTimeout: Write {
     /// Limits the time of each write from now on.
     fn limit_writes(&self, most: Duration) -> io::Result<()>;
 }
 
-impl<'s> TimedRead for &'s TcpStream {
+impl<'s> ReadTimeout for &'s TcpStream {
     fn limit_reads(&self, most: Duration) -> io::Result<()> {
         self.set_read_timeout(Some(most))
     }
 }
 
-impl<'s> TimedWrite for &'s TcpStream {
+impl<'s> WriteTimeout for &'s TcpStream {
     fn limit_writes(&self, most: Duration) -> io::Result<()> {
         self.set_write_timeout(Some(most))
     }
@@ -88,7 +88,7 @@ pub struct Timed<'t, 'c, C: Clock, S> {
     pub stream: S,
 }
 
-impl<'t, 'c, C: Clock, R: TimedRead> Read for Timed<'t, 'c, C, R> {
+impl<'t, 'c, C: Clock, R: ReadTimeout> Read for Timed<'t, 'c, C, R> {
     ghost remaining = { λ timed. R.remaining timed.stream };
 
     fn read(&mut self, buf: &mut [u8]) -> io::Result<usize> {
@@ -98,7 +98,7 @@ impl<'t, 'c, C: Clock, R: TimedRead> Read for Timed<'t, 'c, C, R> {
     }
 }
 
-impl<'t, 'c, C: Clock, W: TimedWrite> Write for Timed<'t, 'c, C, W> {
+impl<'t, 'c, C: Clock, W: WriteTimeout> Write for Timed<'t, 'c, C, W> {
     ghost contents = { λ timed. W.contents timed.stream };
 
     fn write(&mut self, buf: &[u8]) -> io::Result<usize> {
@@ -112,7 +112,7 @@ impl<'t, 'c, C: Clock, W: TimedWrite> Write for Timed<'t, 'c, C, W> {
     }
 }
 
-impl<'t, 'c, C: Clock, R: TimedRead> Source for Timed<'t, 'c, C, R> {
+impl<'t, 'c, C: Clock, R: ReadTimeout> Source for Timed<'t, 'c, C, R> {
     ghost may_have_failed = { λ _. ⊤ };
 
     fn read_once(&mut self, buf: &mut [u8]) -> io::Result<usize> {
@@ -120,7 +120,7 @@ impl<'t, 'c, C: Clock, R: TimedRead> Source for Timed<'t, 'c, C, R> {
     }
 }
 
-impl<'t, 'c, C: Clock, W: TimedWrite> Sink for Timed<'t, 'c, C, W> {
+impl<'t, 'c, C: Clock, W: WriteTimeout> Sink for Timed<'t, 'c, C, W> {
     ghost may_have_failed = { λ _. ⊤ };
 
     fn write_once(&mut self, text: &[u8]) -> io::Result<usize> {

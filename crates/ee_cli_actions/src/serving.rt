@@ -10,7 +10,7 @@ ghost use Rattle.ee_cli_actions.specs.Endings.{TellsFailureOnlyIf};
 ghost use Rattle.ee_cli_actions.specs.Printed.{connection_line};
 
 use crate::faults::{Outcome, RunFault, StoreFault};
-use crate::patience::{Timed, TimedRead, TimedWrite, Turns, let_go};
+use crate::patience::{ReadTimeout, Timed, Turns, WriteTimeout, let_go};
 use crate::printing::print;
 use crate::reasons::Reason;
 use ee_counter::{Ended, Why, serve};
@@ -106,7 +106,7 @@ fn serve_stream<C: Clock, K: Keeper>(
 
 // Serves a connection with time limits. It is one function for all streams, so what it promises of those whose bytes
 // are known, that they had these messages and got these responses, is so of sockets too, whose bytes no clause knows.
-fn serve_timed<C: Clock, K: Keeper, R: TimedRead, W: TimedWrite>(
+fn serve_timed<C: Clock, K: Keeper, R: ReadTimeout, W: WriteTimeout>(
     alloc: Global,
     keeper: &mut K,
     reader: &mut Timed<'_, '_, C, R>,
