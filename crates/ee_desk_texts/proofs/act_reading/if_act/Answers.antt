@@ -1,4 +1,4 @@
-use Rattle.std.proofs.Common.{◌≡◌, sym, ◌∙◌}
+use Rattle.std.proofs.Common.{sym, ◌∙◌}
 use Rattle.ee_desk_texts.proofs.Same.{differ}
 use Rattle.ee_desk_texts.proofs.act_reading.if_act.Goals as goal
 
