@@ -114,9 +114,19 @@ fn reply_in(alloc: Global, value: &Value<'_>) -> Result<Option<Reply>, AllocErro
     }
 }
 
-/// Parses the text of a reply without a test that it is one: a caller that doesn't know it to be the text of a
+/// Reads the text of a reply without a test that it is one: a caller that doesn't know it to be the text of a
 /// reply calls `read_reply`. `None` if the text has no reply's shape.
 pub fn read_known_reply(alloc: Global, text: &str) -> Result<Option<Reply>, AllocError>
+    ensures { IfOk result (λ o. (p : Reply) → ReplyFits p → text.now ≡ reply_text p → o ≡ Some p) }
+{
+    match quick_reply_of(alloc, text)? {
+        Some(reply) => Ok(Some(reply)),
+        None => parse_reply(alloc, text),
+    }
+}
+
+// Parses the text of a reply by its JSON.
+fn parse_reply(alloc: Global, text: &str) -> Result<Option<Reply>, AllocError>
     ensures { IfOk result (λ o. (p : Reply) → ReplyFits p → text.now ≡ reply_text p → o ≡ Some p) }
 {
     let mut scratch = Scratch::new(alloc);
@@ -159,11 +169,11 @@ fn quick_reply_of(alloc: Global, text: &str) -> Result<Option<Reply>, AllocError
     }
 }
 
-// Parses the text of a reply by its JSON.
+// Parses the text of a reply by its JSON, and tests that it is its text.
 fn read_any_reply(alloc: Global, text: &str) -> Result<Option<Reply>, AllocError>
     ensures { IfOk result (λ o. ReadsReply text.now o) }
 {
-    match read_known_reply(alloc, text)? {
+    match parse_reply(alloc, text)? {
         Some(reply) => if_reply(alloc, reply, text),
         None => Ok(None),
     }

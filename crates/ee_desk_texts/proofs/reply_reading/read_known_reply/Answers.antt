@@ -1,14 +1,11 @@
-use Rattle.std.proofs.Common.{rules, ◌≡◌, Some, None, Err, ◌∙◌}
-use Rattle.std.proofs.lemmas.Result.{IfOk-weaker}
-use Rattle.json.specs.declared.error.Error.TheVariants.{Invalid}
-use Rattle.json.specs.Value.{value_view}
-use Rattle.ee_desk_texts.proofs.Same.{reply_in}
+use Rattle.std.proofs.Common.{◌≡◌, Some, ap, sym, subst, ◌∙◌}
+use Rattle.std.specs.Prelude.{IfSome}
+use Rattle.ee_desk_texts.specs.Texts.{reply_text}
+use Rattle.ee_desk_texts.specs.Ranges.{ReplyFits}
+use Rattle.ee_desk_texts.proofs.Same.{one_reply}
 use Rattle.ee_desk_texts.proofs.reply_reading.read_known_reply.Goals as goal
 
-pub returns-in-Err-Invalid : goal.returns-in-Err-Invalid
-returns-in-Err-Invalid c = λ p fits same.
-    reply_in c.args.text.now None (let is : c.parse.result ≡ Err Invalid = search rules in c.parse.ensures.invalid is) p fits same
-
-pub returns : goal.returns
-returns c =
-    IfOk-weaker c.reply_in.result _ _ (λ o exact p fits same. exact ∙ reply_in c.args.text.now (Some (value_view c.in-Ok.value)) c.in-Ok.ensures.ok p fits same) c.reply_in.ensures
+pub returns-in-Some : goal.returns-in-Some
+returns-in-Some c = λ p fits same.
+    let it = subst (λ o. IfSome o (λ q. ReplyFits q × (c.args.text.now ≡ reply_text q))) c.in-Some.is c.in_ok-reply.ensures in
+    ap Some (one_reply c.in-Some.reply p it.0 fits (sym it.1 ∙ same))
