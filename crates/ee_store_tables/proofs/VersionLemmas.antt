@@ -66,7 +66,7 @@ module _ (version : ℕ) (db new : Trees) (rows : Rows) (stands : Holds db rows)
       (subst (λ rs. HoldsMap desk_columns rs (insert rows.desk 1 next)) (sym (put ∙ ap (edited db) is_edit)) (replaces_keyed desk_columns 1 (db 0) rows.desk stands.desk d next is free))
 
 pub sets_version : (old new : State) (version : ℕ) (count : ℕ) → old.now.schema ≡ counter_schema → Executes set_version_text (given_version version) old new (Ok count)
-    → (new.now.schema ≡ counter_schema) × ((rows : Rows) → Holds old.now.trees rows → Holds new.now.trees (record rows { desk = with_version rows.desk version })) × IsDatabase new.now
+    → (new.now.schema ≡ counter_schema) × ((rows : Rows) → Holds old.now.trees rows → Holds new.now.trees (record rows { desk = with_version rows.desk version })) × IsDatabase new.now × Same 0 old.now.trees new.now.trees
 sets_version old new version count has h =
     let params = given_version version in
     let db = old.now.trees in
@@ -87,4 +87,5 @@ sets_version old new version count has h =
       ap (λ (d : Database). d.schema) now,
       λ rows stands. version_holds version db new.now.trees rows stands same asked.0 a put applied.fresh (get rows.desk 1) refl,
       w.sound,
+      same,
     )

@@ -58,6 +58,7 @@ pub fn set_version<S: Alter>(tx: &mut Transaction<'_, S>, version: u64) -> Resul
     ensures inside { StaysInside (state S.Store tx.old.conn.now) (state S.Store tx.new.conn.now) result }
     ensures set { Makes (state S.Store tx.old.conn.now) (state S.Store tx.new.conn.now) result (λ rows. record rows { desk = with_version rows.desk version }) }
     ensures sound { LeavesSound (state S.Store tx.old.conn.now) (state S.Store tx.new.conn.now) result }
+    ensures room { KeepsRoom (state S.Store tx.old.conn.now) (state S.Store tx.new.conn.now) result }
     ensures commit { HasCleanDisk (state S.Store tx.new.conn.now) → KeepsCommit (state S.Store tx.old.conn.now) (state S.Store tx.new.conn.now) }
     ensures cause { FailsByCause (state S.Store tx.old.conn.now) (state S.Store tx.new.conn.now) result
         (λ _. IsTrue (state S.Store tx.old.conn.now).is_open → IsDatabase (state S.Store tx.old.conn.now).now) }

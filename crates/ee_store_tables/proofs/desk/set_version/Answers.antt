@@ -1,4 +1,4 @@
-use Rattle.std.proofs.Common.{None, refl, sym, subst}
+use Rattle.std.proofs.Common.{None, refl, sym, subst, arith}
 use Rattle.sqlite.specs.Held.{state}
 use Rattle.ee_store_tables.specs.Statements.{IsExcused}
 use Rattle.ee_store_tables.proofs.Meaning.{set_version_text}
@@ -7,6 +7,7 @@ use Rattle.ee_store_tables.proofs.AskLemmas.{writes_version}
 use Rattle.ee_store_tables.proofs.UpdateLemmas.{set_version_stays}
 use Rattle.ee_store_tables.proofs.KeepLemmas.{inside_if_ok}
 use Rattle.ee_store_tables.proofs.VersionLemmas.{given_version, sets_version}
+use Rattle.ee_store_tables.proofs.RoomLemmas.{room_beside}
 use Rattle.ee_store_tables.proofs.desk.set_version.Goals as goal
 
 pub returns-clause-set : goal.returns-clause-set
@@ -37,6 +38,16 @@ returns-clause-sound g c clean inside_old =
     let it = c.in_ok-execute.ensures.runs clean inside in
     let ran = rw (c.whole.ensures, c.whole-2.ensures) at it.0 in
     λ _. (sets_version old new c.args.version c.in_ok-execute.field-0 (inside_old it.1.was_open).1 ran).2
+
+pub returns-clause-room : goal.returns-clause-room
+returns-clause-room g c clean inside_old rows sees n room =
+    let old = state g.S.Store c.args.tx.now.conn.now in
+    let new = state g.S.Store c.execute.new.self.conn.now in
+    let inside = inside_if_ok old.in_transaction c.execute.result c.in_ok-execute.field-0 c.in_ok-execute.was c.execute.ensures.ended in
+    let it = c.in_ok-execute.ensures.runs clean inside in
+    let ran = rw (c.whole.ensures, c.whole-2.ensures) at it.0 in
+    let after = sets_version old new c.args.version c.in_ok-execute.field-0 (inside_old it.1.was_open).1 ran in
+    room_beside old new 0 n (λ e. omega (arith, e)) (λ e. omega (arith, e)) (λ e. omega (arith, e)) after.3 after.2 it.1.was_open room
 
 pub returns-in_err-execute-clause-cause : goal.returns-in_err-execute-clause-cause
 returns-in_err-execute-clause-cause g c clean inside endless rows sees sound =
