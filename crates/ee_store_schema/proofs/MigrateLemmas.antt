@@ -1,11 +1,13 @@
 -- The steps of the migration: what they make of the rows, and why they fail.
-use Rattle.std.proofs.Common.{◌≡◌, ◌≢◌, inl, inr, ℕ, List, IsTrue, Ok, Err, Result, IfErr, sym, subst, ◌∙◌, arith, true≢false}
+use Rattle.std.proofs.Common.{◌≡◌, ◌≢◌, ◌+◌, ◌≤◌, ◌^◌, inl, inr, ℕ, false, List, IsTrue, Ok, Err, Result, IfErr, sym, subst, ◌∙◌, arith, true≢false}
+use Rattle.std.specs.Prelude.{OnOk}
 use Rattle.std.specs.Result.{IsErrAnd}
 use Rattle.sqlite.specs.Tree.{Trees}
 use Rattle.sqlite_trees.specs.declared.error.StoreError.{StoreError}
 use Rattle.sqlite_trees.specs.declared.error.StoreError.TheVariants.{OutOfMemory, Io, Corrupt, Full, Broken, Unstorable}
 use Rattle.sqlite.specs.declared.error.Error.{Error}
-use Rattle.sqlite.specs.State.{State, Survives, HasCleanDisk, store_error, HasCause as Explains}
+use Rattle.sqlite.specs.Effect.{Database, IsDatabase}
+use Rattle.sqlite.specs.State.{State, Shows, Survives, HasCleanDisk, store_error, HasCause as Explains}
 use Rattle.sqlite.specs.Steps.{FailsToCommit}
 use Rattle.ee_store_tables.specs.Failures.{failure_of}
 use Rattle.ee_store_tables.proofs.Lemmas.Transactions.{begun}
@@ -13,7 +15,7 @@ use Rattle.ee_store_tables.specs.declared.failures.Failure.{Failure}
 use Rattle.ee_store_tables.specs.declared.failures.Failure.TheVariants as failure
 use Rattle.ee_store_tables.specs.Statements as statement
 use Rattle.ee_store_tables.specs.Keyed.{pair_cmp, stored, HoldsMap}
-use Rattle.ee_store_tables.specs.Rows.{Rows, Holds, Has, rate_columns, bond_columns, paid_columns, reply_columns}
+use Rattle.ee_store_tables.specs.Rows.{Rows, Holds, Has, HasRoom, HasRoomIn, Rises, rate_columns, bond_columns, paid_columns, reply_columns}
 use Rattle.ee_store_tables.proofs.Lemmas.Rows.{kept_map, kept_pairs}
 use Rattle.ee_store_schema.specs.declared.faults.OpenFault.TheVariants.{WrongVersion, Unusable}
 use Rattle.ee_store_schema.specs.Faults.{IsExcused, fault_told}
@@ -22,7 +24,7 @@ use Rattle.ee_store_schema.specs.declared.forms.Form.{Form}
 use Rattle.ee_store_schema.specs.declared.forms.Form.TheVariants.{Current, First, Earliest}
 use Rattle.ee_store_schema.specs.Making.{GainsTable, ReplacesReplies}
 use Rattle.ee_store_schema.specs.declared.answers.StoredAnswer.{StoredAnswer}
-use Rattle.ee_store_schema.specs.Migrating.{unanswered, migrated, become, HasPlace, Lists, AnswersFit, CanBecome}
+use Rattle.ee_store_schema.specs.Migrating.{unanswered, migrated, become, HasPlace, BondsAndLinesHaveRoom, Lists, AnswersFit, CanBecome}
 use Rattle.ee_store_tables.proofs.Lemmas.Causes.{cause_then}
 use Rattle.ee_store_schema.proofs.FirstLemmas.{no_map, no_rows}
 
@@ -76,6 +78,29 @@ survives_itself s = record { clean = omega arith; shield = λ h. h; counts = ome
 -- there is as much place as is asked for in other words
 pub same_place : (m n : ℕ) (s : State) → m ≡ n → HasPlace m s → HasPlace n s
 same_place m n s same = subst (λ k. HasPlace k s) same
+
+pub same_room : (m n : ℕ) (s : State) → m ≡ n → HasRoom m s → HasRoom n s
+same_room m n s same = subst (λ k. HasRoom k s) same
+
+-- the table of answers is empty, and the other tables keep their room
+pub replaced_room : (old new : State) → ReplacesReplies old new → (n : ℕ) → BondsAndLinesHaveRoom n old.now.trees → 1 + n ≤ 2 ^ 63 → HasRoom n new
+replaced_room old new replaces n room few is_open =
+    let same = replaces.others in
+    (replaces.sound, (subst (Rises 1 n) (sym same.1.1.0) room.0, subst (Rises 1 n) (sym same.1.1.1.1.0) room.1, subst (Rises 1 n) (sym replaces.empty) few))
+
+-- a new table of extensions takes none of it
+pub extended_room : (old new : State) → GainsTable earliest_tables first_tables old new → (n : ℕ) → BondsAndLinesHaveRoom n old.now.trees → BondsAndLinesHaveRoom n new.now.trees
+extended_room old new gained n room =
+    let same = gained.others in (subst (Rises 1 n) (sym same.1.1.0) room.0, subst (Rises 1 n) (sym same.1.1.1.1.0) room.1)
+
+-- nor does a commit
+pub committed_room : (middle new : State) → Shows middle new middle.now middle.now false → (n : ℕ) → HasRoom n middle → HasRoom n new
+committed_room middle new shows n room is_open = subst (λ (d : Database). IsDatabase d × HasRoomIn n d.trees) (sym shows.now_is) (room shows.was_open)
+
+-- what holds for each, if the call succeeds, holds for all if it does
+pub for_each_ok : {X E A : Type 0} (P : A → Type 0) (r : Result X E) → ((a : A) → OnOk r (P a)) → OnOk r ((a : A) → P a)
+for_each_ok P (Ok x) h = h
+for_each_ok P (Err e) h = tt
 
 -- ---- the transaction
 

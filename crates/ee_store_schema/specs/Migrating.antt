@@ -71,6 +71,10 @@ CanAddAll answers (e ∷ es) = CanAdd answers e × CanAddAll (insert answers e.0
 abbrev pub HasPlace : ℕ → State → Type 0
 HasPlace n s = IsTrue s.is_open → IsDatabase s.now × Rises 1 n (s.now.trees 13)
 
+-- this many more rows fit in `bonds` and in `paid`
+abbrev pub BondsAndLinesHaveRoom : ℕ → Trees → Type 0
+BondsAndLinesHaveRoom n db = Rises 1 n (db 2) × Rises 1 n (db 7)
+
 -- from an allowed state, without a limit on steps, it fails only for want of memory or a cause
 abbrev pub FailsIn : {X : Type 0} → (State → Type 0) → State → State → Result X Failure → Type 0
 FailsIn Starts old new result = HasCleanDisk new → Starts old → old.step_limit ≡ None → IfErr result (IsExcused old new)

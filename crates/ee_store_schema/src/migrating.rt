@@ -6,7 +6,8 @@ ghost use Rattle.sqlite.specs.Held.{state};
 ghost use Rattle.sqlite.specs.Effect.{IsDatabase};
 ghost use Rattle.sqlite.specs.Tree.{Trees};
 ghost use Rattle.std.specs.FinMap.{insert};
-ghost use Rattle.ee_store_tables.specs.Rows.{Rows, Has, IsInside, Sees};
+ghost use Rattle.ee_store_tables.specs.Rows.{Rows, Has, HasRoom, IsInside, Sees};
+ghost use Rattle.ee_store_tables.specs.Statements.{TakesRoom};
 ghost use Rattle.ee_store_schema.specs.declared.forms.Form.TheVariants.{Current};
 ghost use Rattle.ee_store_tables.specs.Failures.{failure_of};
 ghost use Rattle.ee_store_schema.specs.Faults.{FailsForCause, StaysOutside, fault_told};
@@ -26,6 +27,7 @@ ghost use Rattle.ee_store_schema.specs.Migrating.{
   CanAddAll,
   HasPlace,
   FailsIn,
+  BondsAndLinesHaveRoom,
 };
 
 use crate::answers::StoredAnswer;
@@ -49,6 +51,8 @@ fn replace_tables<S: Alter>(tx: &mut Transaction<'_, S>, form: Form) -> Result<(
         → Sees (state S.Store tx.new.conn.now) (unanswered rows)) }
     ensures place { HasCleanDisk (state S.Store tx.new.conn.now) → OnOk result (SeesForm form (state S.Store tx.old.conn.now) → (n : ℕ) → 1 + n ≤ 2 ^ 63
         → HasPlace n (state S.Store tx.new.conn.now)) }
+    ensures room { HasCleanDisk (state S.Store tx.new.conn.now) → OnOk result (SeesForm form (state S.Store tx.old.conn.now) → (n : ℕ)
+        → BondsAndLinesHaveRoom n (state S.Store tx.old.conn.now).now.trees → 1 + n ≤ 2 ^ 63 → HasRoom n (state S.Store tx.new.conn.now)) }
     ensures cause { FailsIn (IsOver (schema_of form)) (state S.Store tx.old.conn.now) (state S.Store tx.new.conn.now) result }
     ensures commit { HasCleanDisk (state S.Store tx.new.conn.now) → KeepsCommit (state S.Store tx.old.conn.now) (state S.Store tx.new.conn.now) }
     ensures crash { Survives (state S.Store tx.old.conn.now) (state S.Store tx.new.conn.now) (λ _. ⊥) }
@@ -78,6 +82,7 @@ fn add_answer<S: Alter>(tx: &mut Transaction<'_, S>, answer: &StoredAnswer) -> R
         (record rows { answers = insert rows.answers (answer.now.desk, answer.now.number) (answer_entry answer.now).1 })) }
     ensures place { HasCleanDisk (state S.Store tx.new.conn.now) → IsInside (state S.Store tx.old.conn.now) → OnOk result ((n : ℕ)
         → HasPlace (n + 1) (state S.Store tx.old.conn.now) → HasPlace n (state S.Store tx.new.conn.now)) }
+    ensures room { TakesRoom (state S.Store tx.old.conn.now) (state S.Store tx.new.conn.now) result 1 }
     ensures cause { FailsIn (λ s. IsInside s × (rows : Rows) × Sees s rows × CanAdd rows.answers (answer_entry answer.now)
         × HasPlace 1 s) (state S.Store tx.old.conn.now) (state S.Store tx.new.conn.now) result }
     ensures commit { HasCleanDisk (state S.Store tx.new.conn.now) → KeepsCommit (state S.Store tx.old.conn.now) (state S.Store tx.new.conn.now) }
@@ -109,6 +114,7 @@ fn add_answers<S: Alter>(
         → Sees (state S.Store tx.new.conn.now) (record rows { answers = copied rows.answers (map answer_entry answers.now) })) }
     ensures place { HasCleanDisk (state S.Store tx.new.conn.now) → IsInside (state S.Store tx.old.conn.now) → OnOk result ((n : ℕ)
         → HasPlace (n + length answers.now) (state S.Store tx.old.conn.now) → HasPlace n (state S.Store tx.new.conn.now)) }
+    ensures room { TakesRoom (state S.Store tx.old.conn.now) (state S.Store tx.new.conn.now) result (length answers.now) }
     ensures cause { FailsIn (λ s. IsInside s × (rows : Rows) × Sees s rows × CanAddAll rows.answers (map answer_entry answers.now)
         × HasPlace (length answers.now) s) (state S.Store tx.old.conn.now) (state S.Store tx.new.conn.now) result }
     ensures commit { HasCleanDisk (state S.Store tx.new.conn.now) → KeepsCommit (state S.Store tx.old.conn.now) (state S.Store tx.new.conn.now) }
@@ -135,6 +141,9 @@ fn migrate_in<S: Alter>(
         → Lists answers.now rows → Sees (state S.Store tx.new.conn.now) (migrated rows)) }
     ensures sound { HasCleanDisk (state S.Store tx.new.conn.now) → OnOk result (SeesForm form (state S.Store tx.old.conn.now)
         → IsTrue (state S.Store tx.new.conn.now).is_open → IsDatabase (state S.Store tx.new.conn.now).now) }
+    ensures room { HasCleanDisk (state S.Store tx.new.conn.now) → OnOk result ((rows : Rows) → SeesIn form (state S.Store tx.old.conn.now) rows → (n : ℕ)
+        → BondsAndLinesHaveRoom (n + length answers.now) (state S.Store tx.old.conn.now).now.trees → 1 + (n + length answers.now) ≤ 2 ^ 63
+        → HasRoom n (state S.Store tx.new.conn.now)) }
     ensures cause { FailsIn (λ s. IsTrue s.in_transaction × (rows : Rows) × SeesIn form s rows × Lists answers.now rows
         × AnswersFit rows) (state S.Store tx.old.conn.now) (state S.Store tx.new.conn.now) result }
     ensures commit { HasCleanDisk (state S.Store tx.new.conn.now) → KeepsCommit (state S.Store tx.old.conn.now) (state S.Store tx.new.conn.now) }
@@ -175,6 +184,9 @@ pub fn migrate<S: Alter>(
         → Has (state S.Store conn.new) (become form rows)) }
     ensures current { HasCleanDisk (state S.Store conn.new) → OnOk result (HasForm form (state S.Store conn.old) → HasForm Current (state S.Store conn.new)) }
     ensures same { form ≡ Current → conn.new ≡ conn.old }
+    ensures room { HasCleanDisk (state S.Store conn.new) → OnOk result ((rows : Rows) → HadIn form (state S.Store conn.old) rows → form ≢ Current → (n : ℕ)
+        → BondsAndLinesHaveRoom (n + length answers.now) (state S.Store conn.old).committed.trees → 1 + (n + length answers.now) ≤ 2 ^ 63
+        → HasRoom n (state S.Store conn.new)) }
     ensures failed { HasCleanDisk (state S.Store conn.new) → OnErr result (KeepsCommit (state S.Store conn.old) (state S.Store conn.new)) }
     ensures told { IfErr result (λ e. (e ≢ OpenFault.Unusable) × (e ≢ OpenFault.WrongVersion)) }
     ensures cause { FailsForCause (λ s. (s.in_transaction ≡ false) × CanBecome form answers.now s)

@@ -9,11 +9,11 @@ use Rattle.ee_store_tables.specs.Statements.{IsExcused}
 use Rattle.ee_store_tables.proofs.Lemmas.Transactions.{clean_before}
 use Rattle.ee_store_schema.specs.Migrating.{answer_entry, copied, CanAddAll}
 use Rattle.ee_store_schema.proofs.CopyLemmas.{next_answer, next_count, place_for_one}
-use Rattle.ee_store_schema.proofs.MigrateLemmas.{survives_itself, same_place, passed_on, failure_then}
+use Rattle.ee_store_schema.proofs.MigrateLemmas.{survives_itself, same_place, same_room, passed_on, failure_then}
 use Rattle.ee_store_schema.proofs.migrating.add_answers.Goals as goal
 
 pub loop-answer-init : goal.loop-answer-init
-loop-answer-init g c = (refl, survives_itself _, λ _. record { was_open = λ h. h; committed = λ _. refl }, λ _ h. h, λ _ h. h, λ _ rows sees. (rows.answers, sees, refl, λ h. h), λ _ _ n place. place)
+loop-answer-init g c = (refl, survives_itself _, λ _. record { was_open = λ h. h; committed = λ _. refl }, λ _ h. h, λ _ h. h, λ _ rows sees. (rows.answers, sees, refl, λ h. h), λ _ _ n place. place, λ _ _ rows sees n room. room)
 
 pub loop-answer-preserved : goal.loop-answer-preserved
 loop-answer-preserved g c =
@@ -40,6 +40,10 @@ loop-answer-preserved g c =
             λ can. (subst (CanAddAll here.0) next (here.3 can)).1,
           ),
       λ clean inside n place. it.place clean (was.4 (before clean) inside) (n + length (drop (i + 1) all)) (same_place (n + length (drop i all)) ((n + length (drop (i + 1) all)) + 1) middle (omega (arith, count)) (was.6 (before clean) inside n place)),
+      λ clean inside rows sees n room.
+          let here = was.5 (before clean) rows sees in
+          it.room clean (was.4 (before clean) inside) (record rows { answers = here.0 }) here.1 (n + length (drop (i + 1) all))
+          (same_room (n + length (drop i all)) ((n + length (drop (i + 1) all)) + 1) middle (omega (arith, count)) (was.7 (before clean) inside rows sees n room)),
     )
 
 pub returns-clause-added : goal.returns-clause-added
@@ -55,6 +59,12 @@ returns-clause-place g c clean inside n place =
     let now = state g.S.Store c.loop-answer.tx.conn.now in
     let none = ap length (drop_all c.loop-answer.answer-index c.args.answers.now c.loop-answer-test.false) in
     same_place (n + length (drop c.loop-answer.answer-index c.args.answers.now)) n now (omega (arith, none)) (c.loop-answer.invariant.6 clean inside n place)
+
+pub returns-clause-room : goal.returns-clause-room
+returns-clause-room g c clean inside rows sees n room =
+    let now = state g.S.Store c.loop-answer.tx.conn.now in
+    let none = ap length (drop_all c.loop-answer.answer-index c.args.answers.now c.loop-answer-test.false) in
+    same_room (n + length (drop c.loop-answer.answer-index c.args.answers.now)) n now (omega (arith, none)) (c.loop-answer.invariant.7 clean inside rows sees n room)
 
 pub returns-in_err-add_answer-clause-same_reference : goal.returns-in_err-add_answer-clause-same_reference
 returns-in_err-add_answer-clause-same_reference g c = c.add_answer.ensures.same_reference ∙ c.loop-answer.invariant.0

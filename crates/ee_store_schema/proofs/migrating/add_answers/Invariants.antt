@@ -3,7 +3,7 @@ use Rattle.std.specs.FinMap.{FinMap}
 use Rattle.sqlite.specs.State.{HasCleanDisk, KeepsCommit, Survives}
 use Rattle.sqlite.specs.Held.{state}
 use Rattle.ee_store_tables.specs.Keyed.{pair_cmp}
-use Rattle.ee_store_tables.specs.Rows.{Rows, ReplyRow, IsInside, Sees}
+use Rattle.ee_store_tables.specs.Rows.{Rows, ReplyRow, HasRoom, IsInside, Sees}
 use Rattle.ee_store_schema.specs.Migrating.{answer_entry, copied, CanAddAll, HasPlace}
 use Rattle.ee_store_schema.proofs.migrating.add_answers.Given as goal
 
@@ -17,3 +17,4 @@ invariant-loop-answer g l =
     × (HasCleanDisk now → (rows : Rows) → Sees old rows → (answers : FinMap pair_cmp ReplyRow) × Sees now (record rows { answers = answers }) × (copied answers (map answer_entry left) ≡ copied rows.answers all)
     × (CanAddAll rows.answers all → CanAddAll answers (map answer_entry left)))
     × (HasCleanDisk now → IsInside old → (n : ℕ) → HasPlace (n + length l.fn.answers) old → HasPlace (n + length left) now)
+    × (HasCleanDisk now → IsInside old → (rows : Rows) → Sees old rows → (n : ℕ) → HasRoom (n + length l.fn.answers) old → HasRoom (n + length left) now)

@@ -1,9 +1,9 @@
-use Rattle.std.proofs.Common.{◌≡◌, ◌≢◌, ◌∙◌, false, None, IsTrue, IfErr, refl, sym, ap, subst, true≢false, rules}
+use Rattle.std.proofs.Common.{◌≡◌, ◌≢◌, ◌∙◌, ◌+◌, ◌≤◌, ◌^◌, ℕ, length, false, None, IsTrue, IfErr, refl, sym, ap, subst, true≢false, rules}
 use Rattle.sqlite.specs.Effect.{Database}
 use Rattle.sqlite.specs.Held.{state}
 use Rattle.sqlite.specs.State.{State, HasCleanDisk, Survives}
 use Rattle.sqlite.specs.Steps.{FailsToCommit}
-use Rattle.ee_store_tables.specs.Rows.{Rows, Has, Stores}
+use Rattle.ee_store_tables.specs.Rows.{Rows, Has, HasRoom, Stores}
 use Rattle.ee_store_tables.specs.Failures.{failure_of}
 use Rattle.ee_store_tables.proofs.Lemmas.Causes.{excused_before}
 use Rattle.ee_store_tables.proofs.Lemmas.Meeting.{stored_sees}
@@ -12,11 +12,11 @@ use Rattle.ee_store_schema.specs.declared.faults.OpenFault.TheVariants.{Unusable
 use Rattle.ee_store_schema.specs.declared.forms.Form.TheVariants.{Current}
 use Rattle.ee_store_schema.specs.Faults.{IsExcused, fault_told}
 use Rattle.ee_store_schema.specs.Forms.{HadIn, HasForm}
-use Rattle.ee_store_schema.specs.Migrating.{CanBecome, Lists, become, migrated, Migrates}
+use Rattle.ee_store_schema.specs.Migrating.{BondsAndLinesHaveRoom, CanBecome, Lists, become, migrated, Migrates}
 use Rattle.ee_store_schema.proofs.Lemmas.Beginning.{was_open, sees_form, sees_had}
 use Rattle.ee_store_schema.proofs.Lemmas.Faults.{handed_on}
 use Rattle.ee_store_schema.proofs.Lemmas.Forms.{had_form}
-use Rattle.ee_store_schema.proofs.MigrateLemmas.{told_never, told_excused, begun_excused, commit_excused, failure_then, becomes_migrated, stays_current, of_earlier}
+use Rattle.ee_store_schema.proofs.MigrateLemmas.{told_never, committed_room, told_excused, begun_excused, commit_excused, failure_then, becomes_migrated, stays_current, of_earlier}
 use Rattle.ee_store_schema.proofs.migrating.migrate.Goals.{in-Current, in_default}
 use Rattle.ee_store_schema.proofs.migrating.migrate.Goals as goal
 
@@ -26,6 +26,10 @@ pub returns-then-matches-clause-made : goal.returns-then-matches-clause-made
 returns-then-matches-clause-made g c clean rows had listed =
     let is : c.args.form ≡ Current = elim c.match-matches.branch [ in-Current w ↦ w.in-Current.is | in_default w ↦ absurd (true≢false (sym c.if-matches.true ∙ w.matches-is)) ] in
     stays_current c.args.form (state g.S.Store c.args.conn.now) rows is had
+
+pub returns-then-matches-clause-room : goal.returns-then-matches-clause-room
+returns-then-matches-clause-room g c clean rows had earlier =
+    absurd (earlier (elim c.match-matches.branch [ in-Current w ↦ w.in-Current.is | in_default w ↦ absurd (true≢false (sym c.if-matches.true ∙ w.matches-is)) ]))
 
 -- ---- the earlier ones
 
@@ -137,6 +141,26 @@ returns-in-Ok-clause-current g c =
     let shows = (c.in-Ok.ensures.ok clean).1 in
     ap (λ (d : Database). d.schema) shows.committed_is ∙ (it.inside before (sees_form form old settled start is ours) shows.was_open).1)
 
+pub returns-in-Ok-clause-room : goal.returns-in-Ok-clause-room
+returns-in-Ok-clause-room g c =
+    let old = state g.S.Store c.args.conn.now in
+    let start = state g.S.Store c.transaction-tx.result.conn.now in
+    let is = ap (state g.S.Store) c.transaction-tx.ensures.begun in
+    let middle = state g.S.Store c.migrate_in.new.tx.conn.now in
+    let new = state g.S.Store c.commit.new.self.0 in
+    let same = c.conn-2-1.given.1 (sym (c.in_ok-migrate_in.ensures.same_reference ∙ c.transaction-tx.ensures.same_reference)) in
+    let settled = c.is_autocommit.ensures.settled c.if-not-is_autocommit.false in
+    let form = c.args.form in
+    let count = length c.args.answers.now in
+    let it = c.in_ok-migrate_in.ensures in
+    subst (λ h. HasCleanDisk (state g.S.Store h) → (rows : Rows) → HadIn form old rows → form ≢ Current → (n : ℕ) → BondsAndLinesHaveRoom (n + count) old.committed.trees
+    → 1 + (n + count) ≤ 2 ^ 63 → HasRoom n (state g.S.Store h)) (sym same) (λ clean rows had _ n few most.
+    let before = clean_before middle new c.commit.ensures.survives clean in
+    let was = was_open old start middle is (it.commit before) (it.open before) in
+    let begun_with : start.now.trees ≡ old.committed.trees = ap (λ (s : State). s.now.trees) is ∙ ap (λ (d : Database). d.trees) (settled was) in
+    committed_room middle new (c.in-Ok.ensures.ok clean).1 n
+    (it.room before rows (sees_had form old settled start is rows had) n (subst (BondsAndLinesHaveRoom (n + count)) (sym begun_with) few) most))
+
 pub returns-in-Ok-clause-crash : goal.returns-in-Ok-clause-crash
 returns-in-Ok-clause-crash g c =
     let old = state g.S.Store c.args.conn.now in
@@ -182,6 +206,9 @@ returns-in-Err-clause-open g c = search rules
 
 pub returns-in-Err-clause-same : goal.returns-in-Err-clause-same
 returns-in-Err-clause-same g c = search rules
+
+pub returns-in-Err-clause-room : goal.returns-in-Err-clause-room
+returns-in-Err-clause-room g c = search rules
 
 pub returns-in-Ok-clause-cause : goal.returns-in-Ok-clause-cause
 returns-in-Ok-clause-cause g c = search rules

@@ -9,7 +9,7 @@ use Rattle.ee_store_schema.specs.Migrating.{answer_entry, unanswered, migrated, 
 use Rattle.ee_store_schema.proofs.Lemmas.Causes.{then_survives}
 use Rattle.ee_store_schema.proofs.Lemmas.Faults.{each_fault}
 use Rattle.ee_store_schema.proofs.CopyLemmas.{copied_all, can_add_all, all_have_place}
-use Rattle.ee_store_schema.proofs.MigrateLemmas.{same_place, passed_on, failure_then}
+use Rattle.ee_store_schema.proofs.MigrateLemmas.{same_place, passed_on, failure_then, for_each_ok}
 use Rattle.ee_store_schema.proofs.migrating.migrate_in.Goals as goal
 
 pub returns-clause-made : goal.returns-clause-made
@@ -24,6 +24,24 @@ returns-clause-made g c clean =
     let bare = c.in_ok-replace_tables.ensures.made clean_1 rows sees in
     let done = set (record rows { answers = copied empty all }) (c.in_ok-add_answers.ensures.added clean_2 (unanswered rows) bare) in
     subst (λ answers. Sees new (record (migrated rows) { answers = answers })) (copied_all c.args.answers.now rows listed) done) (c.set_version.ensures.set clean)
+
+pub returns-clause-room : goal.returns-clause-room
+returns-clause-room g c clean =
+    let first = state g.S.Store c.replace_tables.new.tx.conn.now in
+    let second = state g.S.Store c.add_answers.new.tx.conn.now in
+    let new = state g.S.Store c.set_version.new.tx.conn.now in
+    let clean_2 = clean_before second new c.set_version.ensures.crash clean in
+    let clean_1 = clean_before first second c.add_answers.ensures.crash clean_2 in
+    let all = c.args.answers.now in
+    let one = c.in_ok-replace_tables.ensures in
+    let two = c.in_ok-add_answers.ensures in
+    for_each_ok _ c.set_version.result (λ rows. for_each_ok _ c.set_version.result (λ sees.
+    let inside = one.inside clean_1 (λ o. (sees o).0) in
+    let bare = one.made clean_1 rows sees in
+    on_ok_weaker c.set_version.result (λ kept n few most.
+    kept (record rows { answers = copied empty (map answer_entry all) }) (two.added clean_2 (unanswered rows) bare) n
+    (two.room clean_2 inside (unanswered rows) bare n (one.room clean_1 (λ o. (sees o).0) (n + length all) few most)))
+    (c.set_version.ensures.room clean (two.inside clean_2 inside))))
 
 pub returns-in_err-add_answers-clause-cause : goal.returns-in_err-add_answers-clause-cause
 returns-in_err-add_answers-clause-cause g c clean starts limit =

@@ -3,7 +3,7 @@ use Rattle.sqlite.specs.Held.{state}
 use Rattle.ee_store_tables.specs.Rows.{Rises}
 use Rattle.ee_store_tables.proofs.Lemmas.Transactions.{clean_before}
 use Rattle.ee_store_schema.specs.Forms.{SeesForm, SeesIn}
-use Rattle.ee_store_schema.proofs.MigrateLemmas.{extended, replaced}
+use Rattle.ee_store_schema.proofs.MigrateLemmas.{extended, replaced, extended_room, replaced_room}
 use Rattle.ee_store_schema.proofs.migrating.replace_tables.Goals as goal
 
 -- ---- version 1
@@ -28,6 +28,12 @@ returns-in_ok-replace_replies-in-First-clause-place g c clean sees n few is_open
     let old = state g.S.Store c.args.tx.now.conn.now in
     let replaces = c.in_ok-replace_replies-in-First.ensures.replaced clean (subst (λ f. SeesForm f old) c.in-First.is sees) in
     (replaces.sound, subst (Rises 1 n) (sym replaces.empty) few)
+
+pub returns-in_ok-replace_replies-in-First-clause-room : goal.returns-in_ok-replace_replies-in-First-clause-room
+returns-in_ok-replace_replies-in-First-clause-room g c clean sees =
+    let old = state g.S.Store c.args.tx.now.conn.now in
+    let new = state g.S.Store c.replace_replies.new.tx.conn.now in
+    replaced_room old new (c.in_ok-replace_replies-in-First.ensures.replaced clean (subst (λ f. SeesForm f old) c.in-First.is sees))
 
 -- ---- version 1 without extensions
 
@@ -65,3 +71,13 @@ returns-in_ok-replace_replies-in-Earliest-clause-place g c clean sees n few is_o
     let gained = one.gained before (subst (λ f. SeesForm f old) c.in-Earliest.is sees) (one.makes_inside.still_open before) in
     let replaces = c.in_ok-replace_replies-in-Earliest.ensures.replaced clean (λ _. gained.schema) in
     (replaces.sound, subst (Rises 1 n) (sym replaces.empty) few)
+
+pub returns-in_ok-replace_replies-in-Earliest-clause-room : goal.returns-in_ok-replace_replies-in-Earliest-clause-room
+returns-in_ok-replace_replies-in-Earliest-clause-room g c clean sees n room =
+    let old = state g.S.Store c.args.tx.now.conn.now in
+    let middle = state g.S.Store c.define_extensions.new.tx.conn.now in
+    let new = state g.S.Store c.replace_replies-in-Earliest.new.tx.conn.now in
+    let before = clean_before middle new c.replace_replies-in-Earliest.ensures.makes_inside.crash clean in
+    let one = c.in_ok-define_extensions-in-Earliest.ensures in
+    let gained = one.gained before (subst (λ f. SeesForm f old) c.in-Earliest.is sees) (one.makes_inside.still_open before) in
+    replaced_room middle new (c.in_ok-replace_replies-in-Earliest.ensures.replaced clean (λ _. gained.schema)) n (extended_room old middle gained n room)
