@@ -5,7 +5,7 @@ use Rattle.sqlite.specs.State.{State}
 use Rattle.sqlite.specs.Tree.{Trees}
 use Rattle.ee_store_schema.specs.Forms.{IsOurs, HoldsIn}
 use Rattle.sqlite_trees.specs.Tree.{IsTable}
-use Rattle.ee_store_tables.specs.Rows.{Rows, HasRoomIn}
+use Rattle.ee_store_tables.specs.Rows.{Rows, Rises, HasRoomIn}
 use Rattle.ee_store_schema.specs.declared.forms.Form.{Form}
 use Rattle.ee_store_schema.specs.declared.forms.Form.TheVariants.{Current}
 use Rattle.ee_store_load.specs.Numbering.{HasNumbersLeft}
@@ -30,3 +30,7 @@ one_rows = OneLemmas.one_rows
 -- tables in the order of their rowids, whose numbers leave room, take 2^62 more rows each
 pub has_room : (db : Trees) → IsTable (db 2) → IsTable (db 7) → IsTable (db 13) → HasNumbersLeft Current db → HasRoomIn (2 ^ 62) db
 has_room = NumberLemmas.has_room
+
+-- so do bonds and lines in every form of the tables
+pub register_rises : (form : Form) (db : Trees) → IsTable (db 2) → IsTable (db 7) → HasNumbersLeft form db → Rises 1 (2 ^ 62) (db 2) × Rises 1 (2 ^ 62) (db 7)
+register_rises = NumberLemmas.register_rises

@@ -12,6 +12,7 @@ use Rattle.sqlite_value.specs.Order.{column}
 use Rattle.sqlite_keyed.proofs.ListLemmas.{all_map, all_unmap, all_weaker}
 use Rattle.ee_store_tables.specs.Rows.{Rises, HasRoomIn}
 use Rattle.ee_store_tables.proofs.Lemmas.Rows.{cmp_pos, int_in}
+use Rattle.ee_store_schema.specs.declared.forms.Form.{Form}
 use Rattle.ee_store_schema.specs.declared.forms.Form.TheVariants.{Current}
 use Rattle.ee_store_load.specs.declared.entries.Rowid.{Rowid}
 use Rattle.ee_store_load.specs.Reading.{ShowsAll}
@@ -87,3 +88,7 @@ low_rises rows up all = rises_from 1 (omega arith) rows up (all_weaker (λ r. (i
 
 pub has_room : (db : Trees) → IsTable (db 2) → IsTable (db 7) → IsTable (db 13) → HasNumbersLeft Current db → HasRoomIn (2 ^ 62) db
 has_room db bonds lines answers room = (low_rises (db 2) bonds room.0, low_rises (db 7) lines room.1, low_rises (db 13) answers room.2)
+
+-- those of bonds and lines, in every form
+pub register_rises : (form : Form) (db : Trees) → IsTable (db 2) → IsTable (db 7) → HasNumbersLeft form db → Rises 1 (2 ^ 62) (db 2) × Rises 1 (2 ^ 62) (db 7)
+register_rises form db bonds lines room = (low_rises (db 2) bonds room.0, low_rises (db 7) lines room.1)
