@@ -11,3 +11,4 @@ mod Asked
 mod Shut
 mod Going
 mod Tested
+mod RowOrder
