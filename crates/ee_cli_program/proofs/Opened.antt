@@ -1,12 +1,13 @@
 -- What a command did over a store, since the store was opened.
-use Rattle.std.proofs.Common.{inl, inr, ℕ, List, Option, Result}
+use Rattle.std.proofs.Common.{◌⊎◌, ◌+◌, ◌≤◌, inl, inr, ℕ, List, Option, Result, arith}
 use Rattle.ee_desk_model.specs.Repeats.{Content}
 use Rattle.ee_desk_laws.specs.Attempts.{Attempt}
 use Rattle.ee_desk_laws.specs.Events.{Event}
 use Rattle.ee_keeper.specs.Keeping.{HasAfter}
+use Rattle.ee_keeper.proofs.Lemmas.{takes_fewer}
 use Rattle.ee_cli_value.specs.declared.endings.Outcome.{Outcome}
 use Rattle.ee_cli_actions.specs.declared.faults.RunFault.{RunFault}
-use Rattle.ee_cli_program.specs.Stores.{Tries}
+use Rattle.ee_cli_program.specs.Stores.{most_requests, Tries}
 
 -- the store had gone through what the path's store had
 pub since_opened : (Has : Content → Type 0) (Opens Went Left : Content → List Event → Type 0)
@@ -18,3 +19,9 @@ pub tries_with : (old new : Option (List ℕ)) (result : Result Outcome RunFault
     → Tries old new result Carried Stays → Tries old new result Done Now
 tries_with old new result Carried Done Stays Now more stay (inl carried) = inl (more carried)
 tries_with old new result Carried Done Stays Now more stay (inr (failed, same, stays)) = inr (failed, same, stay stays)
+
+-- a store that was opened takes as many requests as are to be taken
+pub takes_enough : {S : Type 0} (takes : ℕ → S → Type 0) (first : S) → ((n : ℕ) → takes (n + 1) first → takes n first) → takes most_requests first → (room : ℕ)
+    → (room ≤ most_requests) ⊎ ((n : ℕ) × takes (n + room) first) → (n : ℕ) × takes (n + room) first
+takes_enough takes first fewer most room (inl few) = (0, takes_fewer takes first fewer (0 + room) most_requests (omega (arith, few)) most)
+takes_enough takes first fewer most room (inr it) = it

@@ -4,6 +4,7 @@ ghost use Rattle.std.specs.Prelude.{◌≡◌, List, IfOk, IfErr, IfSome, ℕ};
 ghost use Rattle.ee_desk_model.specs.Repeats.{Content};
 ghost use Rattle.ee_desk_laws.specs.Events.{Event};
 ghost use Rattle.ee_cli_actions.specs.declared.faults.RunFault.{RunFault};
+ghost use Rattle.ee_cli_program.specs.Stores.{most_requests};
 ghost use Rattle.ee_cli_program.specs.Told.{fault_of_cause};
 
 use ee_cli_actions::RunFault;
@@ -50,12 +51,13 @@ pub trait Stores {
     ghost keeps: { Self.Store → Self.Left → Type 0 };
 
     /// Opens the store at a path; creates its tables if there are none. A cause that is told is one of the fault. Each
-    /// later read of a store that was opened clean is tested (`is_guarded`).
+    /// later read of a store that was opened clean is tested (`is_guarded`), and it takes 2^52 requests.
     fn open(&self, path: &str) -> Result<Self::Store, Unopened<Self::Refused>>
         ensures opened { IfOk result (λ store. Self.Store.is_clean store → (c : Content) → holds self.now path.now c → Self.Store.has store c) }
         ensures gone { IfOk result (λ store. Self.Store.is_clean store → (start : Content) (events : List Event) → opens self.now path.now start events
             → Self.Store.went store start events) }
         ensures tested { IfOk result (λ store. Self.Store.is_clean store → Self.Store.is_guarded store) }
+        ensures takes { IfOk result (λ store. Self.Store.is_clean store → Self.Store.takes most_requests store) }
         ensures told { IfErr result (λ not. IfSome not.cause (λ cause. not.fault ≡ fault_of_cause cause)) }
         ensures refused { IfErr result (λ not. refuses self.now path.now not.fault not.rest) };
 

@@ -1,7 +1,7 @@
 use Rattle.std.proofs.Common.{inl}
 use Rattle.ee_keeper.specs.Keeping.{HasAfter}
 use Rattle.ee_cli_actions.proofs.Lemmas.{applies_with}
-use Rattle.ee_cli_program.proofs.Opened.{since_opened}
+use Rattle.ee_cli_program.proofs.Opened.{takes_enough, since_opened}
 use Rattle.ee_cli_program.proofs.carrying.apply.Goals as goal
 
 pub returns-in-Ok-clause-over : goal.returns-in-Ok-clause-over
@@ -20,7 +20,10 @@ returns-in-Ok-clause-over g c = λ content holds.
       since = record {
         tested = c.in-Ok.ensures.tested;
         continues = c.apply_to-ended.ensures.continues;
-        cause = λ clean n takes fit. c.apply_to-ended.ensures.cause clean content (c.in-Ok.ensures.opened (c.apply_to-ended.ensures.continues.clean clean) content holds) n takes fit;
+        cause = λ clean enough fit.
+            let before = c.apply_to-ended.ensures.continues.clean clean in
+            let it = takes_enough g.O.Store.Keeper.takes c.in-Ok.store (g.met.O.Store.Keeper.fewer c.in-Ok.store) (c.in-Ok.ensures.takes before) 1000 enough in
+            c.apply_to-ended.ensures.cause clean content (c.in-Ok.ensures.opened before content holds) it.0 it.1 fit;
       };
       carried = λ clean.
           let before = c.apply_to-ended.ensures.continues.clean clean in

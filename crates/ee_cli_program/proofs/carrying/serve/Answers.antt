@@ -1,8 +1,8 @@
-use Rattle.std.proofs.Common.{inl, []}
+use Rattle.std.proofs.Common.{◌*◌, inl, []}
 use Rattle.ee_cli_actions.specs.Connections.{ServesAll}
 use Rattle.ee_keeper.specs.Keeping.{HasAfter}
 use Rattle.ee_cli_actions.proofs.Lemmas.{serves_all_with}
-use Rattle.ee_cli_program.proofs.Opened.{since_opened, tries_with}
+use Rattle.ee_cli_program.proofs.Opened.{takes_enough, since_opened, tries_with}
 use Rattle.ee_cli_program.proofs.carrying.serve.Goals as goal
 
 pub returns-in-Ok-clause-over : goal.returns-in-Ok-clause-over
@@ -21,7 +21,10 @@ returns-in-Ok-clause-over g c = λ content holds.
       since = record {
         tested = c.in-Ok.ensures.tested;
         continues = c.serve_port-tried.ensures.continues;
-        cause = λ clean n takes fit. c.serve_port-tried.ensures.cause clean content (c.in-Ok.ensures.opened (c.serve_port-tried.ensures.continues.clean clean) content holds) n takes fit;
+        cause = λ clean enough fit.
+            let before = c.serve_port-tried.ensures.continues.clean clean in
+            let it = takes_enough g.O.Store.Keeper.takes c.in-Ok.store (g.met.O.Store.Keeper.fewer c.in-Ok.store) (c.in-Ok.ensures.takes before) (c.args.connections * 1000) enough in
+            c.serve_port-tried.ensures.cause clean content (c.in-Ok.ensures.opened before content holds) it.0 it.1 fit;
       };
       carried = λ clean.
           let before = c.serve_port-tried.ensures.continues.clean clean in

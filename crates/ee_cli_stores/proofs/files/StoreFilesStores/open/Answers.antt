@@ -18,3 +18,6 @@ returns-in-Err-clause-refused g c =
 
 pub returns-in-Ok-clause-tested : goal.returns-in-Ok-clause-tested
 returns-in-Ok-clause-tested g c clean = (c.in-Ok.ensures.opened clean).shielded
+
+pub returns-in-Ok-clause-takes : goal.returns-in-Ok-clause-takes
+returns-in-Ok-clause-takes g c clean = let it = c.in-Ok.ensures.opened clean in (it.ready, it.numbers)
