@@ -23,6 +23,8 @@ UPDATE answers SET desk = 1000 WHERE number = 3 => UPDATE answers SET desk = 0 W
 UPDATE answers SET desk = -1 WHERE number = 3 => UPDATE answers SET desk = 0 WHERE number = 3 => Unusable => answers -1 3 {"act":"open","day":"2012-02-06"} {"opened":"2012-02-06"}
 UPDATE answers SET number = 0 WHERE number = 3 => UPDATE answers SET number = 3 WHERE number = 0 => Unusable => answers 0 0 {"act":"open","day":"2012-02-06"} {"opened":"2012-02-06"}
 UPDATE paid SET cents = 2589 WHERE place = 1 => UPDATE paid SET cents = 2588 WHERE place = 1 => Unusable => paid 1 1 12 1 2589
+UPDATE paid SET rowid = 0 WHERE place = 1 => UPDATE paid SET rowid = 1 WHERE place = 1 => Unusable => paid 1 1 12 1 2588
+UPDATE answers SET rowid = 4611686018427387904 WHERE number = 3 => UPDATE answers SET rowid = 3 WHERE number = 3 => Unusable => answers 0 3 {"act":"open","day":"2012-02-06"} {"opened":"2012-02-06"}
 INSERT INTO extensions VALUES (72, 400) => DELETE FROM extensions => Unusable => extensions 72 400
 INSERT INTO extensions VALUES (60, 200) => DELETE FROM extensions => Unusable => extensions 60 200
 INSERT INTO extensions VALUES (60, 2001) => DELETE FROM extensions => Unusable => extensions 60 2001
