@@ -1,5 +1,5 @@
 -- What commands print.
-use Rattle.std.specs.Prelude.{ℕ, ◌+◌, List, [], ◌∷◌, ◌++◌, codes}
+use Rattle.std.specs.Prelude.{ℕ, ◌+◌, Bool, true, false, List, [], ◌∷◌, ◌++◌, codes}
 use Rattle.std.specs.Fmt.{decimal}
 use Rattle.ee_desk_model.specs.declared.replies.Reply.{Reply}
 use Rattle.ee_desk_texts.specs.Texts.{reply_text}
@@ -23,10 +23,15 @@ why_text why.ReadFailed = codes "ReadFailed"
 why_text why.WriteFailed = codes "WriteFailed"
 why_text why.NoMemory = codes "NoMemory"
 
+-- what the line adds if an answer said that the store failed
+abbrev pub failure_text : Bool → List ℕ
+failure_text true = codes ", the store failed"
+failure_text false = []
+
 -- `connection I: M messages, WHY`, on a line
 abbrev pub connection_line : ℕ → Ended → List ℕ
 connection_line number e =
-    codes "connection " ++ (decimal number ++ (codes ": " ++ (decimal e.messages ++ (codes " messages, " ++ (why_text e.why ++ 10 ∷ [])))))
+    codes "connection " ++ (decimal number ++ (codes ": " ++ (decimal e.messages ++ (codes " messages, " ++ (why_text e.why ++ (failure_text e.store_failed ++ 10 ∷ []))))))
 
 -- the lines of connections after n others
 abbrev pub connection_lines : ℕ → List Ended → List ℕ

@@ -7,7 +7,7 @@ ghost use Rattle.ee_counter.specs.Answering.{FitMessages};
 ghost use Rattle.ee_counter.specs.Serving.{Serves, most_messages};
 ghost use Rattle.ee_cli_actions.specs.Connections.{PrintsLine, ServesAll, ServesNext, ServesSocket};
 ghost use Rattle.ee_cli_actions.specs.Endings.{TellsFailureOnlyIf};
-ghost use Rattle.ee_cli_actions.specs.Printed.{connection_line};
+ghost use Rattle.ee_cli_actions.specs.Printed.{connection_line, failure_text};
 
 use crate::faults::{Outcome, RunFault, StoreFault};
 use crate::patience::{ReadTimeout, Timed, Turns, WriteTimeout, let_go};
@@ -145,10 +145,18 @@ fn print_line<W: Sink>(
     print(&line, output)
 }
 
+// What the line adds if an answer said that the store failed.
+fn failure_text(store_failed: bool) -> &'static str
+    ensures { result.now ≡ failure_text store_failed }
+{
+    if store_failed { ", the store failed" } else { "" }
+}
+
 fn connection_line(alloc: Global, number: u64, ended: Ended) -> Result<String, AllocError>
     ensures { IfOk result (λ line. string_bytes line ≡ connection_line number ended) }
 {
     let messages = ended.messages;
     let why = Reason(ended.why);
-    format!(in alloc; "connection {number}: {messages} messages, {why}\n")
+    let failure = failure_text(ended.store_failed);
+    format!(in alloc; "connection {number}: {messages} messages, {why}{failure}\n")
 }
