@@ -149,7 +149,11 @@ fn print_line<W: Sink>(
 fn failure_text(store_failed: bool) -> &'static str
     ensures { result.now ≡ failure_text store_failed }
 {
-    if store_failed { ", the store failed" } else { "" }
+    if store_failed {
+        ", the store failed"
+    } else {
+        ""
+    }
 }
 
 fn connection_line(alloc: Global, number: u64, ended: Ended) -> Result<String, AllocError>
