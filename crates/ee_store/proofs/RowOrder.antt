@@ -8,12 +8,11 @@ use Rattle.sqlite.specs.Table.{Table}
 use Rattle.sqlite.specs.Recovery.{Image}
 use Rattle.sqlite.specs.Effect.{Database}
 use Rattle.sqlite.specs.State.{State, IsLive}
-use Rattle.sqlite.specs.Files.{AreFoundIn, IsEmpty}
+use Rattle.sqlite.specs.Files.{IsEmpty}
 use Rattle.sqlite_pages.specs.PageMap.{PageMap}
 use Rattle.sqlite_pool.specs.File.{version_in}
 use Rattle.sqlite_trees.specs.declared.store.Shape.TheVariants as shape
 use Rattle.sqlite_trees.specs.Objects.{catalog_tree, IsListed}
-use Rattle.sqlite_trees.specs.Tree.{IsTable}
 use Rattle.sqlite_trees.specs.View.{IsOrdered, IsShaped}
 use Rattle.sqlite_trees.specs.Props.{IsShaped-prop}
 use Rattle.sqlite_rules.specs.Lists.{Has}
