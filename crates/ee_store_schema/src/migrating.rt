@@ -168,6 +168,8 @@ fn commit_fault(error: Error) -> OpenFault
 /// Writes the replies, one by each statement, and sets the version last. A store in the present form isn't
 /// changed. An error leaves what was committed. A stop leaves what it could leave before, or version 2 with
 /// the same rows and nothing between; after `Ok` in a store of version 1 only that.
+/// A store of version 1 then has the room for new rows that its bonds and lines had, less a row for each reply
+/// (`room`).
 ///
 /// # Errors
 ///
