@@ -1,3 +1,4 @@
+mod Failing
 mod Frames
 mod Left
 mod Orphaned

@@ -1,14 +1,16 @@
 //! Creating a database in two files, and finding out whether that is still to be done.
 
-ghost use Rattle.std.specs.Prelude.{◌≡◌, ◌↔◌, [], true, IsTrue, IfOk, IfErr, OnOk};
+ghost use Rattle.std.specs.Prelude.{◌≡◌, ◌≤◌, ◌↔◌, [], true, IsTrue, IfOk, IfErr, OnOk};
+ghost use Rattle.sqlite_disk.specs.Disk.{CountsFault};
 ghost use Rattle.sqlite_wal.specs.Reads.{IsClean, AreClean, OnlyReads};
 ghost use Rattle.sqlite.specs.Opening.{is_open_error};
 ghost use Rattle.sqlite.specs.State.{HasCleanDisk};
 ghost use Rattle.sqlite.specs.Held.{IsNew};
-ghost use Rattle.sqlite.specs.Files.{file_state, image_of, IsOpened, IsEmpty, IsCleanLeft};
-ghost use Rattle.sqlite_store.specs.FileStore.{view, state, IsReady, is_shielded};
+ghost use Rattle.sqlite.specs.Files.{file_state, image_of, faults_of, faults_left, IsOpened, IsEmpty, IsCleanLeft, IsFullLeft};
+ghost use Rattle.sqlite_store.specs.FileStore.{view, state, faults, IsReady, is_shielded};
 ghost use Rattle.ee_store_files.specs.Orphans.{IsOrphan};
 ghost use Rattle.ee_store_files.specs.Files.{page_size, IsMarked, IsStray, IsUncreated, Leaves};
+ghost use Rattle.ee_store_files.specs.Opening.{Fails, FailsToRead};
 
 use crate::errors::{CANNOT_OPEN, IO, NO_DATABASE, NO_MEMORY, create_error, probe_error};
 use crate::orphans::is_orphan;
@@ -33,6 +35,7 @@ const CHECKPOINTS: usize = 12;
 fn is_marked<D: Disk>(log: &mut D) -> io::Result<bool>
     requires { IsTrue (D.Disk.is_usable log.old) }
     ensures ok { IfOk result (λ b. IsClean D.Disk log.new → (IsTrue b ↔ IsMarked (D.Disk.seen log.old))) }
+    ensures faults { CountsFault result (D.Disk.faults log.old) (D.Disk.faults log.new) }
     ensures same { OnlyReads D.Disk log.old log.new }
 {
     if log.len()? < CHECKPOINTS + 4 {
@@ -48,6 +51,7 @@ fn is_stray<D: Disk>(files: &mut Files<D>) -> io::Result<bool>
     requires log { IsTrue (D.Disk.is_usable files.old.log) }
     requires db { IsTrue (D.Disk.is_usable files.old.db) }
     ensures ok { IfOk result (λ b. AreClean D.Disk files.new.log files.new.db → (IsTrue b ↔ IsStray (image_of D.Disk files.old))) }
+    ensures faults { CountsFault result (faults_of D.Disk files.old) (faults_of D.Disk files.new) }
     ensures log { OnlyReads D.Disk files.old.log files.new.log }
     ensures db { OnlyReads D.Disk files.old.db files.new.db }
 {
@@ -66,6 +70,9 @@ fn refuse_strays<D: Disk>(alloc: Global, files: &mut Files<D>) -> Result<(), Err
     ensures named { IfErr result (λ e. IsTrue (is_open_error e)) }
     ensures taken { OnOk result (AreClean D.Disk files.new.log files.new.db → ¬ IsStray (image_of D.Disk files.old)) }
     ensures with_its_file { OnOk result (AreClean D.Disk files.new.log files.new.db → ¬ IsOrphan (image_of D.Disk files.old)) }
+    ensures counts { faults_of D.Disk files.old ≤ faults_of D.Disk files.new }
+    ensures cause { IfErr result (λ e. AreClean D.Disk files.new.log files.new.db
+        → FailsToRead (image_of D.Disk files.old) (faults_of D.Disk files.old) (faults_of D.Disk files.new) e) }
     ensures log { OnlyReads D.Disk files.old.log files.new.log }
     ensures db { OnlyReads D.Disk files.old.db files.new.db }
 {
@@ -94,6 +101,9 @@ pub fn is_uncreated<D: Disk>(alloc: Global, files: &mut Files<D>) -> Result<bool
     ensures ok { IfOk result (λ b. AreClean D.Disk files.new.log files.new.db → (IsTrue b ↔ IsUncreated (image_of D.Disk files.old))) }
     ensures taken { OnOk result (AreClean D.Disk files.new.log files.new.db → ¬ IsStray (image_of D.Disk files.old)) }
     ensures with_its_file { OnOk result (AreClean D.Disk files.new.log files.new.db → ¬ IsOrphan (image_of D.Disk files.old)) }
+    ensures counts { faults_of D.Disk files.old ≤ faults_of D.Disk files.new }
+    ensures cause { IfErr result (λ e. AreClean D.Disk files.new.log files.new.db
+        → FailsToRead (image_of D.Disk files.old) (faults_of D.Disk files.old) (faults_of D.Disk files.new) e) }
     ensures log { OnlyReads D.Disk files.old.log files.new.log }
     ensures db { OnlyReads D.Disk files.old.db files.new.db }
 {
@@ -122,6 +132,8 @@ fn create_store<D: Disk>(
     ensures empty { IfOk result (λ store. IsTrue (view store).is_clean → IsEmpty (view store).committed) }
     ensures sums { IfOk result (λ store. IsTrue (view store).is_clean → (view store).has_sums ≡ true) }
     ensures size { IfOk result (λ store. IsTrue (view store).is_clean → (state store).page_size ≡ page_size) }
+    ensures counts { IfOk result (λ store. IsTrue (view store).is_clean → faults_of D.Disk files ≤ faults store) }
+    ensures cause { IfErr result (λ e. IsCleanLeft e.1 → Fails (faults_of D.Disk files) (faults_left e.1) (IsFullLeft e.1) e.0) }
     ensures unharmed { IfErr result (λ e. IsCleanLeft e.1 → Leaves files e.1) }
 {
     let size = PageSize::new(NEW_PAGE).unwrap();
@@ -154,6 +166,7 @@ pub fn create<D: Disk + Drop>(
     ensures made { IfOk result (λ c. HasCleanDisk (file_state c) → AreClean D.Disk files.log files.db × IsEmpty (file_state c).committed.trees) }
     ensures sums { IfOk result (λ c. HasCleanDisk (file_state c) → (view c.store).has_sums ≡ true) }
     ensures fresh { IfOk result IsNew }
+    ensures cause { IfErr result (λ e. IsCleanLeft e.1 → Fails (faults_of D.Disk files) (faults_left e.1) (IsFullLeft e.1) e.0) }
     ensures unharmed { IfErr result (λ e. IsCleanLeft e.1 → Leaves files e.1) }
 {
     let store = create_store(alloc, files, options)?;

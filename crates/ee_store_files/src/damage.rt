@@ -5,14 +5,16 @@
 //! replies that were given. A page without its checksum was written by another program.
 
 ghost use Rattle.std.specs.Prelude.{◌≡◌, ◌+◌, ◌^◌, ◌%◌, ◌<◌, ◌≤◌, ◌↔◌, ◌≢◌, length, IsTrue, IfOk, IfErr, OnOk, MatchOption};
+ghost use Rattle.sqlite_disk.specs.Disk.{CountsFault, CountsFaultIf};
 ghost use Rattle.sqlite_wal.specs.Format.{part, be32, IsSigned};
 ghost use Rattle.sqlite_wal.specs.Recovery.{frame_at, frames_len as wal_len, header};
 ghost use Rattle.sqlite_wal.specs.Reads.{IsClean, AreClean, OnlyReads};
 ghost use Rattle.sqlite_wal.specs.PageSize.{bytes_of};
 ghost use Rattle.sqlite_pool.specs.Stored.{sum_bytes};
 ghost use Rattle.sqlite.specs.Opening.{is_open_error};
-ghost use Rattle.sqlite.specs.Files.{image_of};
+ghost use Rattle.sqlite.specs.Files.{image_of, faults_of};
 ghost use Rattle.ee_store_files.specs.Damage.{BeginsAsLog, IsFrontOf, IsOpenAt, EndsOne, HasTwoMore, page_at, IsSummed, AreNumbersOf, IsReplaced, size_after, LacksSum, HasUnsummed, SaysSums, IsWrongAt, IsDamaged};
+ghost use Rattle.ee_store_files.specs.Opening.{Fails, FailsToRead, IsLongFor};
 
 use crate::errors::{FULL, IO, NO_DATABASE, NO_MEMORY, probe_error};
 use sqlite::{Error, Files};
@@ -66,6 +68,7 @@ pub fn read_header<D: Disk>(log: &mut D) -> io::Result<Option<[u8; 32]>>
     requires { IsTrue (D.Disk.is_usable log.old) }
     ensures ok { IfOk result (λ r. IsClean D.Disk log.new → MatchOption r (¬ BeginsAsLog (D.Disk.seen log.old))
         (λ head. BeginsAsLog (D.Disk.seen log.old) × (head ≡ header (D.Disk.seen log.old)))) }
+    ensures faults { CountsFault result (D.Disk.faults log.old) (D.Disk.faults log.new) }
     ensures same { OnlyReads D.Disk log.old log.new }
 {
     if log.len()? < HEADER + FRAME {
@@ -113,6 +116,7 @@ fn read_front<D: Disk>(
     requires few { i ≤ 0xffff_ffff }
     ensures ok { IfOk result (λ r. IsClean D.Disk log.new → MatchOption r (length (D.Disk.seen log.old) < frame_at page_size i + (24 + page_size))
         (λ front. IsFrontOf page_size (D.Disk.seen log.old) i front)) }
+    ensures faults { CountsFault result (D.Disk.faults log.old) (D.Disk.faults log.new) }
     ensures same { OnlyReads D.Disk log.old log.new }
 {
     let at = frame_offset(page_size, i);
@@ -150,6 +154,7 @@ fn ends_one<D: Disk>(
     requires few { i ≤ 0xffff_ffff }
     ensures ok { IfOk result (λ r. IsClean D.Disk log.new → MatchOption r (¬ IsOpenAt page_size (D.Disk.seen log.old) i)
         (λ b. IsOpenAt page_size (D.Disk.seen log.old) i × (IsTrue b ↔ EndsOne page_size (D.Disk.seen log.old) i))) }
+    ensures faults { CountsFault result (D.Disk.faults log.old) (D.Disk.faults log.new) }
     ensures same { OnlyReads D.Disk log.old log.new }
 {
     let Some(front) = read_front(log, len, page_size, i)? else {
@@ -178,6 +183,9 @@ fn has_two_more<D: Disk>(
     ensures named { IfErr result (λ e. IsTrue (is_open_error e)) }
     ensures ok { IfOk result (λ b. IsClean D.Disk log.new → (IsTrue b ↔ HasTwoMore page_size (D.Disk.seen log.old) from)) }
     ensures few { OnOk result (from ≤ 0xffff_ffff) }
+    ensures counts { D.Disk.faults log.old ≤ D.Disk.faults log.new }
+    ensures cause { IfErr result (λ e. IsClean D.Disk log.new → frame_at page_size from ≤ length (D.Disk.seen log.old)
+        → Fails (D.Disk.faults log.old) (D.Disk.faults log.new) (IsLongFor page_size (D.Disk.seen log.old)) e) }
     ensures same { OnlyReads D.Disk log.old log.new }
 {
     let Ok(len) = log.len() else {
@@ -221,6 +229,7 @@ fn is_summed_at<D: Disk>(log: &mut D, size: PageSize, i: usize, page: &mut [u8])
     requires few { i ≤ 0xffff_ffff }
     requires page { length page.old ≡ bytes_of size }
     ensures ok { IfOk result (λ b. IsClean D.Disk log.new → (IsTrue b ↔ IsSummed (bytes_of size) (page_at (bytes_of size) (D.Disk.seen log.old) i))) }
+    ensures faults { CountsFaultIf (IsClean D.Disk log.old → frame_at (bytes_of size) (i + 1) ≤ length (D.Disk.seen log.old)) result (D.Disk.faults log.old) (D.Disk.faults log.new) }
     ensures same { OnlyReads D.Disk log.old log.new }
 {
     let at = frame_offset(size.bytes(), i) + FRAME;
@@ -247,6 +256,7 @@ fn size_after<D: Disk>(log: &mut D, size: PageSize, frames: usize) -> io::Result
     requires few { frames ≤ 0xffff_ffff }
     requires some { 0 < frames }
     ensures ok { IfOk result (λ n. IsClean D.Disk log.new → n ≡ size_after (bytes_of size) (D.Disk.seen log.old) frames) }
+    ensures faults { CountsFaultIf (IsClean D.Disk log.old → frame_at (bytes_of size) frames ≤ length (D.Disk.seen log.old)) result (D.Disk.faults log.old) (D.Disk.faults log.new) }
     ensures same { OnlyReads D.Disk log.old log.new }
 {
     let at = frame_offset(size.bytes(), frames - 1) + 4;
@@ -272,6 +282,7 @@ fn lacks_sum<D: Disk>(
     requires numbers { IsClean D.Disk log.old → AreNumbersOf (bytes_of size) (D.Disk.seen log.old) numbers.now }
     requires count { IsClean D.Disk log.old → count ≡ size_after (bytes_of size) (D.Disk.seen log.old) (length numbers.now) }
     ensures ok { IfOk result (λ b. IsClean D.Disk log.new → (IsTrue b ↔ LacksSum (bytes_of size) (D.Disk.seen log.old) (length numbers.now) i)) }
+    ensures faults { CountsFaultIf (IsClean D.Disk log.old → frame_at (bytes_of size) (length numbers.now) ≤ length (D.Disk.seen log.old)) result (D.Disk.faults log.old) (D.Disk.faults log.new) }
     ensures same { OnlyReads D.Disk log.old log.new }
 {
     if numbers[i] > count {
@@ -295,6 +306,9 @@ fn has_unsummed<D: Disk>(
     requires numbers { IsClean D.Disk log.old → AreNumbersOf (bytes_of size) (D.Disk.seen log.old) numbers.now }
     ensures named { IfErr result (λ e. IsTrue (is_open_error e)) }
     ensures ok { IfOk result (λ b. IsClean D.Disk log.new → (IsTrue b ↔ HasUnsummed (bytes_of size) (D.Disk.seen log.old) (length numbers.now))) }
+    ensures counts { D.Disk.faults log.old ≤ D.Disk.faults log.new }
+    ensures cause { IfErr result (λ e. IsClean D.Disk log.new → frame_at (bytes_of size) (length numbers.now) ≤ length (D.Disk.seen log.old)
+        → Fails (D.Disk.faults log.old) (D.Disk.faults log.new) ⊥ e) }
     ensures same { OnlyReads D.Disk log.old log.new }
 {
     if numbers.is_empty() {
@@ -320,6 +334,7 @@ fn has_unsummed<D: Disk>(
 fn says_sums<D: Disk>(db: &mut D) -> io::Result<bool>
     requires { IsTrue (D.Disk.is_usable db.old) }
     ensures ok { IfOk result (λ b. IsClean D.Disk db.new → (IsTrue b ↔ SaysSums (D.Disk.seen db.old))) }
+    ensures faults { CountsFault result (D.Disk.faults db.old) (D.Disk.faults db.new) }
     ensures same { OnlyReads D.Disk db.old db.new }
 {
     if db.len()? < 24 {
@@ -345,6 +360,9 @@ fn is_wrong<D: Disk>(
     requires numbers { IsClean D.Disk files.old.log → AreNumbersOf (bytes_of size) (D.Disk.seen files.old.log) numbers.now }
     ensures named { IfErr result (λ e. IsTrue (is_open_error e)) }
     ensures ok { IfOk result (λ b. AreClean D.Disk files.new.log files.new.db → (IsTrue b ↔ IsWrongAt (bytes_of size) (image_of D.Disk files.old) (length numbers.now))) }
+    ensures counts { faults_of D.Disk files.old ≤ faults_of D.Disk files.new }
+    ensures cause { IfErr result (λ e. AreClean D.Disk files.new.log files.new.db → frame_at (bytes_of size) (length numbers.now) ≤ length (D.Disk.seen files.old.log)
+        → Fails (faults_of D.Disk files.old) (faults_of D.Disk files.new) (IsLongFor (bytes_of size) (D.Disk.seen files.old.log)) e) }
     ensures log { OnlyReads D.Disk files.old.log files.new.log }
     ensures db { OnlyReads D.Disk files.old.db files.new.db }
 {
@@ -368,6 +386,9 @@ pub fn is_damaged<D: Disk>(alloc: Global, files: &mut Files<D>) -> Result<bool, 
     requires db { IsTrue (D.Disk.is_usable files.old.db) }
     ensures named { IfErr result (λ e. IsTrue (is_open_error e)) }
     ensures ok { IfOk result (λ b. AreClean D.Disk files.new.log files.new.db → (IsTrue b ↔ IsDamaged (image_of D.Disk files.old))) }
+    ensures counts { faults_of D.Disk files.old ≤ faults_of D.Disk files.new }
+    ensures cause { IfErr result (λ e. AreClean D.Disk files.new.log files.new.db
+        → FailsToRead (image_of D.Disk files.old) (faults_of D.Disk files.old) (faults_of D.Disk files.new) e) }
     ensures log { OnlyReads D.Disk files.old.log files.new.log }
     ensures db { OnlyReads D.Disk files.old.db files.new.db }
 {

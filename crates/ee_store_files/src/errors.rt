@@ -1,7 +1,7 @@
 //! The errors for files that aren't opened.
 
-ghost use Rattle.std.specs.Prelude.{IsTrue};
-ghost use Rattle.sqlite.specs.Opening.{is_open_error};
+ghost use Rattle.std.specs.Prelude.{◌≡◌, IsTrue};
+ghost use Rattle.sqlite.specs.Opening.{is_open_error, probed, reported};
 
 use sqlite::{Error, ErrorCode};
 use sqlite_store::OpenError;
@@ -18,25 +18,28 @@ pub const DAMAGED: Error = Error::SqliteFailure(ErrorCode::DatabaseCorrupt);
 
 pub const CANNOT_OPEN: Error = Error::SqliteFailure(ErrorCode::CannotOpen);
 
-/// The error for a file that couldn't be examined.
+/// The error for a file that couldn't be examined, or whose log is refused.
 pub fn probe_error(error: sqlite_wal::Error) -> Error
-    ensures { IsTrue (is_open_error result) }
+    ensures named { IsTrue (is_open_error result) }
+    ensures value { result ≡ probed error }
 {
     match error {
         sqlite_wal::Error::OutOfMemory => NO_MEMORY,
+        sqlite_wal::Error::Io(_) => IO,
         sqlite_wal::Error::Full => FULL,
-        _ => IO,
+        _ => NO_DATABASE,
     }
 }
 
 /// The error for a database that couldn't be created.
 pub fn create_error(error: OpenError) -> Error
-    ensures { IsTrue (is_open_error result) }
+    ensures named { IsTrue (is_open_error result) }
+    ensures value { result ≡ reported error }
 {
     match error {
         OpenError::OutOfMemory => NO_MEMORY,
         OpenError::Io => IO,
         OpenError::Full => FULL,
-        OpenError::Refused => NO_DATABASE,
+        OpenError::Refused => DAMAGED,
     }
 }

@@ -4,6 +4,8 @@ use Rattle.sqlite_trees.proofs.Doubt.{clean_of as sure, no_doubt}
 use Rattle.sqlite_store.specs.FileStore.{view as shown}
 use Rattle.sqlite_store.specs.Laws.{settled_at}
 use Rattle.sqlite.specs.Files.{IsEmpty}
+use Rattle.sqlite.proofs.ListingLemmas.{empty_is_sound}
+use Rattle.ee_store_files.proofs.Failing.{connection_fails}
 use Rattle.ee_store_files.proofs.creating.create.Goals as goal
 
 pub returns-in-Ok-clause-made : goal.returns-in-Ok-clause-made
@@ -39,3 +41,16 @@ pub returns-in_err-store-clause-unharmed : goal.returns-in_err-store-clause-unha
 returns-in_err-store-clause-unharmed g c =
     let p = err_from_is_err_and c.from_residual.result c.from_residual.ensures.1 in
     rw (p.1, p.2) c.in_err-store.ensures.unharmed
+
+pub returns-in_err-store-clause-cause : goal.returns-in_err-store-clause-cause
+returns-in_err-store-clause-cause g c =
+    let p = err_from_is_err_and c.from_residual.result c.from_residual.ensures.1 in
+    rw (p.1, p.2) c.in_err-store.ensures.cause
+
+pub returns-in-Err-clause-cause : goal.returns-in-Err-clause-cause
+returns-in-Err-clause-cause g c late =
+    let now = no_doubt _ late in
+    let before = sure (shown c.in_ok-store.store).is_clean (omega (arith, c.in-Err.ensures.unharmed.clean)) in
+    let made = c.in_ok-store.ensures in
+    let empty : IsEmpty (shown c.in_ok-store.store).trees = subst IsEmpty (sym made.ready.clean) (made.empty before) in
+    connection_fails _ _ _ _ _ _ c.in-Err.error (omega (arith, made.counts before, c.in-Err.ensures.unharmed.counts)) (empty_is_sound _ empty.1) (c.in-Err.ensures.err now)

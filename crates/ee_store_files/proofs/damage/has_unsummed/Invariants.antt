@@ -7,6 +7,7 @@ use Rattle.ee_store_files.proofs.damage.has_unsummed.Given as goal
 abbrev pub invariant-loop-i : goal.invariant-loop-i
 invariant-loop-i g l = record {
   reads : OnlyReads g.D.Disk l.fn.log l.log;
+  counts : g.D.Disk.faults l.log ≡ g.D.Disk.faults l.fn.log;
   count : IsClean g.D.Disk l.log → l.count ≡ size_after (bytes_of l.size) (g.D.Disk.seen l.fn.log) (length l.numbers);
   page : length l.page.items ≡ bytes_of l.size;
   none : IsClean g.D.Disk l.log → (j : ℕ) → j < l.i → ¬ LacksSum (bytes_of l.size) (g.D.Disk.seen l.fn.log) (length l.numbers) j;

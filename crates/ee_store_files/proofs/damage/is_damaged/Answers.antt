@@ -1,11 +1,12 @@
-use Rattle.std.proofs.Common.{◌≡◌, ◌∙◌, ◌↔◌, IsTrue, List, ℕ, length, sym, ap, subst, subst₂}
+use Rattle.std.proofs.Common.{◌≡◌, ◌∙◌, ◌↔◌, IsTrue, List, ℕ, length, sym, ap, subst, subst₂, inl, inr, arith, le_refl}
 use Rattle.std.proofs.lemmas.Bool.{false≢true, and_parts}
-use Rattle.std.proofs.lemmas.Result.{IfOk-weaker}
+use Rattle.std.proofs.lemmas.Result.{IfOk-weaker, IfErr-weaker}
 use Rattle.sqlite_wal.specs.Format.{be32, IsSigned}
 use Rattle.sqlite_wal.specs.Recovery.{header, Replays}
 use Rattle.sqlite_wal.specs.PageSize.{bytes_of}
 use Rattle.sqlite.specs.Files.{image_of}
 use Rattle.ee_store_files.specs.Damage.{AreNumbersOf, IsWrongAt}
+use Rattle.ee_store_files.proofs.Failing.{fails_beside, fails_wider, foreign_if, log_fails, replayed_within, too_long}
 use Rattle.ee_store_files.proofs.Frames.{not_begun, named_by, numbers_of, damaged_if}
 use Rattle.ee_store_files.proofs.damage.is_damaged.Goals as goal
 
@@ -38,3 +39,38 @@ returns-in-Ok-clause-ok g c =
     let iff = damaged_if size (image_of g.D.Disk c.args.files.now) (length numbers) signed (named_by log size begun.0 signed value) replays in
     let at = subst (λ (l : List ℕ). IsTrue b ↔ IsWrongAt size (record { log = l; db = g.D.Disk.seen c.args.files.now.db }) (length numbers)) same (told clean) in
     (λ is. iff.0 (at.0 is), λ damaged. at.1 (iff.1 damaged))) c.is_wrong.ensures.ok
+
+pub returns-in-Ok-clause-cause : goal.returns-in-Ok-clause-cause
+returns-in-Ok-clause-cause g c =
+    IfErr-weaker c.is_wrong.result _ _ (λ e why clean.
+    let both = and_parts (g.D.Disk.is_clean c.is_wrong.new.files.log) (g.D.Disk.is_clean c.is_wrong.new.files.db) clean in
+    let size = bytes_of c.in-Some.size in
+    let log = g.D.Disk.seen c.args.files.now.log in
+    let numbers = c.as_slice.result.now in
+    let walked = c.is_wrong.ensures.log.clean both.0 in
+    let begun = rw c.in-Ok-Some.field-0-is at (c.in-Ok-Some.ensures.ok (c.probe_frames.ensures.same.clean walked)) in
+    let signed : IsSigned (header log) = subst IsSigned begun.1 (c.is_signed.ensures.0 c.if-not-is_signed.false) in
+    let value : size ≡ be32 (header log) 8 = c.in-Some.ensures.value ∙ c.be32_at.ensures ∙ ap (λ (h : List ℕ). be32 h 8) begun.1 in
+    let replays : Replays size log (length numbers) =
+    subst₂ (λ (l n : List ℕ). Replays size l (length n)) c.read_header.ensures.same.seen (sym c.as_slice.ensures.value) (c.in-Ok.ensures.ok walked).0 in
+    let same = c.probe_frames.ensures.same.seen ∙ c.read_header.ensures.same.seen in
+    let fails = rw same at (why clean) in
+    inl (fails_wider _ _ _ _ _ _ e (omega (arith, c.in-Ok-Some.ensures.faults, c.in-Ok.ensures.cause)) (omega arith)
+    (λ long. too_long size (image_of g.D.Disk c.args.files.now) (named_by log size begun.0 signed value) long)
+    (fails (replayed_within size (length numbers) log begun.0 replays)))) c.is_wrong.ensures.cause
+
+pub returns-in-Err-probe_frames-clause-cause : goal.returns-in-Err-probe_frames-clause-cause
+returns-in-Err-probe_frames-clause-cause g c clean =
+    let read = (and_parts (g.D.Disk.is_clean c.probe_frames.new.log) (g.D.Disk.is_clean c.args.files.now.db) clean).0 in
+    let size = bytes_of c.in-Some.size in
+    let log = g.D.Disk.seen c.args.files.now.log in
+    let begun = rw c.in-Ok-Some.field-0-is at (c.in-Ok-Some.ensures.ok (c.probe_frames.ensures.same.clean read)) in
+    let signed : IsSigned (header log) = subst IsSigned begun.1 (c.is_signed.ensures.0 c.if-not-is_signed.false) in
+    let value : size ≡ be32 (header log) 8 = c.in-Some.ensures.value ∙ c.be32_at.ensures ∙ ap (λ (h : List ℕ). be32 h 8) begun.1 in
+    let named = named_by log size begun.0 signed value in
+    let why = rw c.read_header.ensures.same.seen at (log_fails _ _ size (g.D.Disk.seen c.read_header.new.log) c.in-Err-probe_frames.error (c.in-Err-probe_frames.ensures.cause.0 read)) in
+    rw c.probe_error.ensures.value (elim why [
+      | inl fails ↦ inl (fails_beside _ _ _ _ _ _ (le_refl _)
+          (fails_wider _ _ _ _ _ _ _ (omega (arith, c.in-Ok-Some.ensures.faults)) (le_refl _) (λ long. too_long size (image_of g.D.Disk c.args.files.now) named long) fails))
+      | inr refused ↦ inr (inr (inl (refused.0, inr (inl (foreign_if size log named refused.1)))))
+    ])

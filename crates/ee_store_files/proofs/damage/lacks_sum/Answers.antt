@@ -1,6 +1,8 @@
-use Rattle.std.proofs.Common.{◌≤◌, ℕ, slice_index, sym, subst, ◌∙◌, inl, inr}
+use Rattle.std.proofs.Common.{◌+◌, ◌≤◌, ℕ, length, slice_index, sym, subst, ◌∙◌, inl, inr, arith}
 use Rattle.std.proofs.lemmas.Bool.{false≢true, cases_Bool, not_from_true, not_from_false, iff_false}
+use Rattle.std.proofs.lemmas.Result.{err_from_is_err_and}
 use Rattle.sqlite_wal.specs.PageSize.{bytes_of}
+use Rattle.ee_store_files.proofs.Failing.{frames_before}
 use Rattle.ee_store_files.proofs.Frames.{lacks_by, not_replaced}
 use Rattle.ee_store_files.proofs.damage.lacks_sum.Goals as goal
 
@@ -19,3 +21,10 @@ returns-clause-ok g c clean =
         | inr no' ↦ not_from_false _ no'
       ],
     )
+
+pub returns-in_err-is_summed_at-clause-faults : goal.returns-in_err-is_summed_at-clause-faults
+returns-in_err-is_summed_at-clause-faults g c =
+    let p = err_from_is_err_and c.from_residual.result c.from_residual.ensures.1 in
+    let read = c.in_err-is_summed_at.ensures.faults in
+    let below = frames_before (bytes_of c.args.size) (c.args.i + 1) (length c.args.numbers.now) (omega (arith, c.requires.low)) in
+    rw p.1 (λ within. read.0 (λ clean. omega (arith, within clean)), read.1)

@@ -1,0 +1,67 @@
+-- Why two files aren't opened.
+use Rattle.std.specs.Prelude.{◌≡◌, ◌⊎◌, ◌≤◌, ℕ, List, length, IsTrue}
+use Rattle.sqlite_disk.specs.declared.Disk.{Ghosts}
+use Rattle.sqlite_disk.specs.declared.Files.{Files}
+use Rattle.sqlite_disk.specs.Disk.{MoreFaults}
+use Rattle.sqlite_wal.specs.PageSize.{IsPageSize}
+use Rattle.sqlite_wal.specs.Reads.{AreClean, OnlyReads}
+use Rattle.sqlite_wal.specs.Recovery.{Image, frame_at, IsLogFor, Replays}
+use Rattle.sqlite.specs.Tree.{Trees}
+use Rattle.sqlite.specs.State.{is_disk_error}
+use Rattle.sqlite.specs.Files.{image_of, faults_of, faults_left, HoldsDatabase, IsNothing, IsTooLong, IsFullLeft}
+use Rattle.sqlite.specs.declared.error.Error.{Error}
+use Rattle.sqlite.specs.declared.error.Error.TheVariants.{SqliteFailure}
+use Rattle.sqlite.specs.declared.error.ErrorCode.TheVariants as code
+use Rattle.sqlite.specs.declared.file.Leftover.{Leftover}
+use Rattle.ee_store_files.specs.declared.causes.OpenCause.{OpenCause}
+use Rattle.ee_store_files.specs.Causes.{cause_of_error}
+use Rattle.ee_store_files.specs.Damage.{IsDamaged}
+use Rattle.ee_store_files.specs.Orphans.{IsOrphan}
+use Rattle.ee_store_files.specs.Files.{IsStray, IsUncreated}
+
+-- ---- a call that fails
+
+-- memory was refused, a call on a file failed between these two counts, or the files are at a limit
+abbrev pub Fails : ℕ → ℕ → Type 0 → Error → Type 0
+Fails old new AtLimit e =
+    (e ≡ SqliteFailure code.OutOfMemory) ⊎ ((IsTrue (is_disk_error e) × MoreFaults old new) ⊎ ((e ≡ SqliteFailure code.DiskFull) × AtLimit))
+
+-- 32 bits don't number the frames of the log
+abbrev pub IsLongFor : ℕ → List ℕ → Type 0
+IsLongFor page_size log = frame_at page_size 0xffff_fffe ≤ length log
+
+abbrev pub IsLongLog : List ℕ → Type 0
+IsLongLog log = (page_size : ℕ) × IsLogFor page_size log × IsLongFor page_size log
+
+-- ---- files that are refused for what they hold
+
+-- Recovery takes the file for a log, and refuses it for every page size: another program wrote it, or another version of SQLite.
+abbrev pub IsForeign : List ℕ → Type 0
+IsForeign log = (page_size k : ℕ) → IsPageSize page_size → ¬ Replays page_size log k
+
+-- the files hold a database, or none was created in them yet
+abbrev pub IsToOpen : Image → Type 0
+IsToOpen image = IsUncreated image ⊎ (IsNothing image ⊎ ((db : Trees) × HoldsDatabase image db))
+
+-- the files are refused with this error for what they hold
+abbrev pub Refuses : Image → Error → Type 0
+Refuses image e =
+    ((e ≡ SqliteFailure code.CannotOpen) × IsOrphan image)
+    ⊎ (((e ≡ SqliteFailure code.NotADatabase) × (IsStray image ⊎ (IsForeign image.log ⊎ (¬ IsToOpen image))))
+    ⊎ ((e ≡ SqliteFailure code.DatabaseCorrupt) × (IsDamaged image ⊎ (¬ IsToOpen image))))
+
+-- a call that only reads the files fails, or refuses them
+abbrev pub FailsToRead : Image → ℕ → ℕ → Error → Type 0
+FailsToRead image old new e = Fails old new (IsTooLong image) e ⊎ Refuses image e
+
+-- a read of the files gave a wrong answer, which was taken as true
+abbrev pub AreMisread : {D : Type 0} → Ghosts D → Files D → Type 0
+AreMisread {D} g files = (now : Files D) × OnlyReads g files.log now.log × OnlyReads g files.db now.db × (¬ AreClean g now.log now.db)
+
+-- an open fails, or refuses the files
+abbrev pub FailsToOpen : {D : Type 0} {g : Ghosts D} → Files D → Leftover D g → Error → Type 0
+FailsToOpen {g = g} files rest e = Fails (faults_of g files) (faults_left rest) (IsFullLeft rest) e ⊎ Refuses (image_of g files) e
+
+-- this is why the files weren't opened, unless they were misread
+abbrev pub IsCauseOf : {D : Type 0} {g : Ghosts D} → Files D → Leftover D g → OpenCause → Type 0
+IsCauseOf {g = g} files rest cause = AreMisread g files ⊎ ((e : Error) × (cause ≡ cause_of_error e) × FailsToOpen files rest e)
