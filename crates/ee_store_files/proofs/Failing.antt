@@ -5,11 +5,9 @@ use Rattle.sqlite_disk.specs.Disk.{MoreFaults}
 use Rattle.sqlite_wal.specs.declared.error.Error as log_error
 use Rattle.sqlite_wal.specs.declared.error.Error.TheVariants as wal
 use Rattle.sqlite_wal.specs.Files.{IsHuge}
-use Rattle.sqlite_wal.specs.Format.{be32, IsSigned}
 use Rattle.sqlite_wal.specs.Opening.{RefusesLog}
 use Rattle.sqlite_wal.specs.Outcome.{HasCause, OnlyIf}
-use Rattle.sqlite_wal.specs.PageSize.{IsPageSize}
-use Rattle.sqlite_wal.specs.Recovery.{Image, frame_at, frames_len, header, IsLogFor, Replays}
+use Rattle.sqlite_wal.specs.Recovery.{Image, frame_at, frames_len, IsLogFor, Replays}
 use Rattle.sqlite_wal.proofs.PartLemmas.{frames_len-zero, frames_len-le}
 use Rattle.sqlite_wal.proofs.RecoveryLemmas.{committed_within}
 use Rattle.sqlite_disk.specs.declared.tally.Tally.{Tally}
@@ -23,7 +21,7 @@ use Rattle.sqlite_store.specs.declared.error.OpenError.{OpenError}
 use Rattle.sqlite_store.specs.declared.error.OpenError.TheVariants as opening
 use Rattle.sqlite_store.specs.Opening as store
 use Rattle.sqlite_store.specs.Report.{named}
-use Rattle.sqlite.specs.Opening.{probed, reported, FailsAs}
+use Rattle.sqlite.specs.Opening.{reported, FailsAs}
 use Rattle.sqlite.specs.Steps as connection
 use Rattle.sqlite.specs.State.{store_error, is_disk_error}
 use Rattle.sqlite.specs.Files.{HoldsDatabase, IsNothing, IsTooLong}
@@ -32,8 +30,8 @@ use Rattle.sqlite.specs.declared.error.Error.TheVariants.{SqliteFailure}
 use Rattle.sqlite.specs.declared.error.ErrorCode.TheVariants as code
 use Rattle.ee_store_files.specs.Damage.{BeginsAsLog}
 use Rattle.ee_store_files.specs.Files.{IsUncreated}
-use Rattle.ee_store_files.specs.Opening.{Fails, FailsToRead, IsToOpen, Refuses, IsLongFor, IsLongLog, IsForeign}
-use Rattle.ee_store_files.proofs.Frames.{named_by, AreOpen}
+use Rattle.ee_store_files.specs.Opening.{error_of_probe, Fails, FailsToRead, IsToOpen, Refuses, IsLongFor, IsLongLog, IsForeign}
+use Rattle.ee_store_files.proofs.Frames.{AreOpen}
 use Rattle.ee_store_files.proofs.Stops.{named_size}
 
 -- ---- failed calls
@@ -56,7 +54,7 @@ by_fault a b L more = inr (inl (refl, more))
 
 -- why the probe of a log fails
 pub log_fails : (a b page_size : ℕ) (log : List ℕ) (e : log_error.Error) → HasCause a b (RefusesLog page_size log) e
-    → Fails a b (IsLongFor page_size log) (probed e) ⊎ ((probed e ≡ SqliteFailure code.NotADatabase) × ((k : ℕ) → ¬ Replays page_size log k))
+    → Fails a b (IsLongFor page_size log) (error_of_probe e) ⊎ ((error_of_probe e ≡ SqliteFailure code.DatabaseCorrupt) × ((k : ℕ) → ¬ Replays page_size log k))
 log_fails a b page_size log (wal.Io x) cause = inl (by_fault a b _ cause)
 log_fails a b page_size log wal.OutOfMemory cause = inl (inl refl)
 log_fails a b page_size log wal.Full cause = inl (inr (inr (refl, elim cause [ inl bad ↦ let e = bad.0 in absurd (cc) | inr long ↦ long.1 ])))
@@ -72,7 +70,7 @@ reads_wider image a b c e before (inr refused) = inr refused
 
 -- why the probe for an unfinished file fails
 pub blank_fails : (a b page_size : ℕ) (image : Image) (e : log_error.Error) → HasCause a b (OnlyIf wal.Full (IsLogFor page_size image.log × IsHuge page_size image)) e
-    → Fails a b (IsTooLong image) (probed e)
+    → Fails a b (IsTooLong image) (error_of_probe e)
 blank_fails a b page_size image (wal.Io x) cause = by_fault a b _ cause
 blank_fails a b page_size image wal.OutOfMemory cause = inl refl
 blank_fails a b page_size image wal.Full cause = inr (inr (refl, (page_size, (λ _. sym cause.1.0.1, λ ignored. absurd (cause.1.0.0 ignored)), cause.1.1)))
@@ -109,8 +107,8 @@ tells_fault true false = refl
 tells_fault false refused = refl
 
 refused_as : (image : Image) (e : Error) → ¬ IsToOpen image → (e ≡ SqliteFailure code.NotADatabase) ⊎ (e ≡ SqliteFailure code.DatabaseCorrupt) → Refuses image e
-refused_as image e none (inl foreign) = inr (inl (foreign, inr (inr none)))
-refused_as image e none (inr damaged) = inr (inr (damaged, inr none))
+refused_as image e none (inl other) = inr (inl (other, inr none))
+refused_as image e none (inr damaged) = inr (inr (damaged, inr (inr none)))
 
 -- why the database in files that have one isn't opened
 pub open_fails : (a b c : ℕ) (L : Type 0) (image : Image) (old new : Tally) (e : Error) → a ≤ b → ¬ IsUncreated image
@@ -151,14 +149,7 @@ too_long page_size image named long = (page_size, (λ _. sym named.1, λ ignored
 pub log_too_long : (image : Image) → IsLongLog image.log → IsTooLong image
 log_too_long image it = too_long it.0 image it.1 it.2
 
--- ---- a log that recovery refuses
-
+-- a log that recovery refuses
 pub foreign_if : (page_size : ℕ) (log : List ℕ) → IsLogFor page_size log → ((k : ℕ) → ¬ Replays page_size log k) → IsForeign log
 foreign_if page_size log named none other k valid replays =
     none k (subst (λ n. Replays n log k) (sym (named_size page_size other k log named replays)) replays)
-
--- the header names a size that no page has
-pub foreign_size : (log : List ℕ) → BeginsAsLog log → IsSigned (header log) → ¬ IsPageSize (be32 (header log) 8) → IsForeign log
-foreign_size log begins signed none other k valid replays =
-    let named = named_by log (be32 (header log) 8) begins signed refl in
-    none (subst IsPageSize (sym (named_size (be32 (header log) 8) other k log named replays)) valid)

@@ -3,6 +3,8 @@ use Rattle.std.specs.Prelude.{◌≡◌, ◌⊎◌, ◌≤◌, ℕ, List, length
 use Rattle.sqlite_disk.specs.declared.Disk.{Ghosts}
 use Rattle.sqlite_disk.specs.declared.Files.{Files}
 use Rattle.sqlite_disk.specs.Disk.{MoreFaults}
+use Rattle.sqlite_wal.specs.declared.error.Error as log_error
+use Rattle.sqlite_wal.specs.declared.error.Error.TheVariants as log
 use Rattle.sqlite_wal.specs.PageSize.{IsPageSize}
 use Rattle.sqlite_wal.specs.Reads.{AreClean, OnlyReads}
 use Rattle.sqlite_wal.specs.Recovery.{Image, frame_at, IsLogFor, Replays}
@@ -33,6 +35,13 @@ IsLongFor page_size log = frame_at page_size 0xffff_fffe ≤ length log
 abbrev pub IsLongLog : List ℕ → Type 0
 IsLongLog log = (page_size : ℕ) × IsLogFor page_size log × IsLongFor page_size log
 
+-- the error for a log that couldn't be examined, or that recovery refuses
+abbrev pub error_of_probe : log_error.Error → Error
+error_of_probe (log.Io e) = SqliteFailure code.SystemIoFailure
+error_of_probe log.OutOfMemory = SqliteFailure code.OutOfMemory
+error_of_probe log.Full = SqliteFailure code.DiskFull
+error_of_probe e = SqliteFailure code.DatabaseCorrupt
+
 -- ---- files that are refused for what they hold
 
 -- Recovery takes the file for a log, and refuses it for every page size: another program wrote it, or another version of SQLite.
@@ -47,8 +56,8 @@ IsToOpen image = IsUncreated image ⊎ (IsNothing image ⊎ ((db : Trees) × Hol
 abbrev pub Refuses : Image → Error → Type 0
 Refuses image e =
     ((e ≡ SqliteFailure code.CannotOpen) × IsOrphan image)
-    ⊎ (((e ≡ SqliteFailure code.NotADatabase) × (IsStray image ⊎ (IsForeign image.log ⊎ (¬ IsToOpen image))))
-    ⊎ ((e ≡ SqliteFailure code.DatabaseCorrupt) × (IsDamaged image ⊎ (¬ IsToOpen image))))
+    ⊎ (((e ≡ SqliteFailure code.NotADatabase) × (IsStray image ⊎ (¬ IsToOpen image)))
+    ⊎ ((e ≡ SqliteFailure code.DatabaseCorrupt) × (IsDamaged image ⊎ (IsForeign image.log ⊎ (¬ IsToOpen image)))))
 
 -- a call that only reads the files fails, or refuses them
 abbrev pub FailsToRead : Image → ℕ → ℕ → Error → Type 0

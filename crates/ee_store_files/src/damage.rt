@@ -16,7 +16,7 @@ ghost use Rattle.sqlite.specs.Files.{image_of, faults_of};
 ghost use Rattle.ee_store_files.specs.Damage.{BeginsAsLog, IsFrontOf, IsOpenAt, EndsOne, HasTwoMore, page_at, IsSummed, AreNumbersOf, IsReplaced, size_after, LacksSum, HasUnsummed, SaysSums, IsWrongAt, IsDamaged};
 ghost use Rattle.ee_store_files.specs.Opening.{Fails, FailsToRead, IsLongFor};
 
-use crate::errors::{FULL, IO, NO_DATABASE, NO_MEMORY, probe_error};
+use crate::errors::{DAMAGED, FULL, IO, NO_MEMORY, probe_error};
 use sqlite::{Error, Files};
 use sqlite_disk::Disk;
 use sqlite_pager::PageSize;
@@ -380,7 +380,7 @@ fn is_wrong<D: Disk>(
 ///
 /// # Errors
 ///
-/// A file that can't be read, or a log that recovery refuses.
+/// A file that can't be read, or a log that recovery refuses: one of another version of SQLite.
 pub fn is_damaged<D: Disk>(alloc: Global, files: &mut Files<D>) -> Result<bool, Error>
     requires log { IsTrue (D.Disk.is_usable files.old.log) }
     requires db { IsTrue (D.Disk.is_usable files.old.db) }
@@ -401,7 +401,7 @@ pub fn is_damaged<D: Disk>(alloc: Global, files: &mut Files<D>) -> Result<bool, 
         return Ok(true);
     }
     let Some(size) = PageSize::new(be32_at(&head, 8) as usize) else {
-        return Err(NO_DATABASE);
+        return Err(DAMAGED);
     };
     match probe_frames(alloc, &mut files.log, size) {
         Ok(numbers) => is_wrong(alloc, files, &head, size, numbers.as_slice()),

@@ -1,7 +1,8 @@
 //! The errors for files that aren't opened.
 
 ghost use Rattle.std.specs.Prelude.{◌≡◌, IsTrue};
-ghost use Rattle.sqlite.specs.Opening.{is_open_error, probed, reported};
+ghost use Rattle.sqlite.specs.Opening.{is_open_error, reported};
+ghost use Rattle.ee_store_files.specs.Opening.{error_of_probe};
 
 use sqlite::{Error, ErrorCode};
 use sqlite_store::OpenError;
@@ -21,13 +22,13 @@ pub const CANNOT_OPEN: Error = Error::SqliteFailure(ErrorCode::CannotOpen);
 /// The error for a file that couldn't be examined, or whose log is refused.
 pub fn probe_error(error: sqlite_wal::Error) -> Error
     ensures named { IsTrue (is_open_error result) }
-    ensures value { result ≡ probed error }
+    ensures value { result ≡ error_of_probe error }
 {
     match error {
         sqlite_wal::Error::OutOfMemory => NO_MEMORY,
         sqlite_wal::Error::Io(_) => IO,
         sqlite_wal::Error::Full => FULL,
-        _ => NO_DATABASE,
+        _ => DAMAGED,
     }
 }
 

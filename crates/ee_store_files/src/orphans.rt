@@ -25,7 +25,7 @@ fn has_commits<D: Disk>(alloc: Global, log: &mut D) -> Result<bool, Error>
     ensures ok { IfOk result (λ b. IsClean D.Disk log.new → (IsTrue b ↔ HasCommits (D.Disk.seen log.old))) }
     ensures counts { D.Disk.faults log.old ≤ D.Disk.faults log.new }
     ensures cause { IfErr result (λ e. IsClean D.Disk log.new
-        → Fails (D.Disk.faults log.old) (D.Disk.faults log.new) (IsLongLog (D.Disk.seen log.old)) e ⊎ ((e ≡ Error.SqliteFailure ErrorCode.NotADatabase) × IsForeign (D.Disk.seen log.old))) }
+        → Fails (D.Disk.faults log.old) (D.Disk.faults log.new) (IsLongLog (D.Disk.seen log.old)) e ⊎ ((e ≡ Error.SqliteFailure ErrorCode.DatabaseCorrupt) × IsForeign (D.Disk.seen log.old))) }
     ensures same { OnlyReads D.Disk log.old log.new }
 {
     let head = match read_header(log) {

@@ -72,5 +72,5 @@ returns-in-Err-probe_frames-clause-cause g c clean =
     rw c.probe_error.ensures.value (elim why [
       | inl fails ↦ inl (fails_beside _ _ _ _ _ _ (le_refl _)
           (fails_wider _ _ _ _ _ _ _ (omega (arith, c.in-Ok-Some.ensures.faults)) (le_refl _) (λ long. too_long size (image_of g.D.Disk c.args.files.now) named long) fails))
-      | inr refused ↦ inr (inr (inl (refused.0, inr (inl (foreign_if size log named refused.1)))))
+      | inr refused ↦ inr (inr (inr (refused.0, inr (inl (foreign_if size log named refused.1)))))
     ])

@@ -11,5 +11,5 @@ returns-in-Ok-eq0-clause-cause g c = IfErr-weaker c.has_commits.result _ _ (λ e
     elim (why read) [
       | inl fails ↦ inl (fails_beside _ _ _ _ _ e (omega (arith, c.in-Ok-eq0.ensures.faults))
           (fails_wider _ _ _ _ _ _ e (le_refl _) (le_refl _) (log_too_long (image_of g.D.Disk c.args.files.now)) fails))
-      | inr refused ↦ inr (inr (inl (refused.0, inr (inl refused.1))))
+      | inr refused ↦ inr (inr (inr (refused.0, inr (inl refused.1))))
     ]) c.has_commits.ensures.cause
