@@ -1,7 +1,7 @@
 -- Why calls on two files fail.
-use Rattle.std.proofs.Common.{◌≡◌, ◌⊎◌, ◌+◌, ◌≤◌, ◌==◌, ◌∙◌, if◌then◌else◌, ℕ, Bool, true, false, IsTrue, List, length, refl, sym, ap, subst, inl, inr, arith, le_refl}
+use Rattle.std.proofs.Common.{◌≡◌, ◌⊎◌, ◌+◌, ◌≤◌, ◌==◌, ◌∙◌, if◌then◌else◌, ℕ, Bool, true, false, IsTrue, List, length, refl, sym, ap, subst, inl, inr, Result, Ok, Err, arith, le_refl}
 use Rattle.std.proofs.lemmas.Bool.{cases_lt}
-use Rattle.sqlite_disk.specs.Disk.{MoreFaults}
+use Rattle.sqlite_disk.specs.Disk.{CountsFault, MoreFaults}
 use Rattle.sqlite_wal.specs.declared.error.Error as log_error
 use Rattle.sqlite_wal.specs.declared.error.Error.TheVariants as wal
 use Rattle.sqlite_wal.specs.Files.{IsHuge}
@@ -47,6 +47,11 @@ pub fails_beside : (a b c d : ℕ) (L : Type 0) (e : Error) → c ≤ d → Fail
 fails_beside a b c d L e beside (inl memory) = inl memory
 fails_beside a b c d L e beside (inr (inl fault)) = inr (inl (fault.0, omega (arith, fault.1)))
 fails_beside a b c d L e beside (inr (inr full)) = inr (inr full)
+
+-- a call never lowers the count
+pub counts_on : {T E : Type 0} (result : Result T E) (a b : ℕ) → CountsFault result a b → a ≤ b
+counts_on (Ok x) a b same = omega (arith, same)
+counts_on (Err e) a b more = more.1
 
 -- a failed read is told as one of the system
 pub by_fault : (a b : ℕ) (L : Type 0) → MoreFaults a b → Fails a b L (SqliteFailure code.SystemIoFailure)

@@ -1,8 +1,8 @@
-use Rattle.std.proofs.Common.{arith, subst}
+use Rattle.std.proofs.Common.{subst}
 use Rattle.sqlite.specs.Files.{faults_of}
 use Rattle.sqlite.proofs.FileLemmas.{same_image}
 use Rattle.ee_store_files.specs.Opening.{FailsToRead}
-use Rattle.ee_store_files.proofs.Failing.{reads_wider}
+use Rattle.ee_store_files.proofs.Failing.{counts_on, reads_wider}
 use Rattle.ee_store_files.proofs.creating.refuse_strays.Goals as goal
 
 pub returns-in-Err-is_orphan-clause-cause : goal.returns-in-Err-is_orphan-clause-cause
@@ -12,4 +12,4 @@ returns-in-Err-is_orphan-clause-cause g c clean =
     let e = c.in-Err-is_orphan.error in
     let why = subst (λ i. FailsToRead i (faults_of g.D.Disk old) (faults_of g.D.Disk new) e) (same_image c.is_stray.ensures.log c.is_stray.ensures.db)
     (c.in-Err-is_orphan.ensures.cause clean) in
-    reads_wider _ _ _ _ e (omega (arith, c.in-Ok-false.ensures.faults)) why
+    reads_wider _ _ _ _ e (counts_on c.is_stray.result _ _ c.is_stray.ensures.faults) why
