@@ -11,6 +11,7 @@ ghost use Rattle.sqlite.specs.View.{IsClean};
 ghost use Rattle.ee_store_schema.specs.Faults.{fault_of};
 ghost use Rattle.ee_store_files.specs.Causes.{IsOfSystem, error_of};
 ghost use Rattle.ee_store_files.specs.Files.{Leaves};
+ghost use Rattle.ee_store_files.specs.Opening.{IsCauseOf};
 ghost use Rattle.ee_store_delivery.specs.Known.{IsInformed};
 ghost use Rattle.ee_store.specs.Adopted.{IsOpenedFrom, IsRefusedFrom, IfConnection, IfFiles};
 ghost use Rattle.ee_store.specs.Holding.{AreSettled, KeepsHeld};
@@ -57,6 +58,7 @@ pub struct NotOpened<S: Alter, L> {
 /// - `refused`: for a connection that is refused the same is said: why, and what the call left.
 /// - `fault`: a file that `sqlite` doesn't open is neither `WrongVersion` nor `Unusable`.
 /// - `told`, `apart`: a cause is one of that fault, and is told only if `sqlite` didn't open the file.
+/// - `cause`: it is why the files weren't opened, by the clause of that name of `open_files`.
 /// - `left`: the files come back, and recover to what was there or, if there was no database, to none or an empty
 ///   one.
 /// - `held`: so they hold what they held, and the open was no event (`whole_history_law`, `waits`). This is said of
@@ -79,6 +81,7 @@ pub fn open_on<D: Disk + Drop>(
     ensures fault { IfErr result (λ not. IfFiles not.rest (λ _. (not.fault ≡ OpenFault.NoMemory) ⊎ (not.fault ≡ OpenFault.StoreFailed))) }
     ensures told { IfErr result (λ not. IfSome not.cause (λ cause. not.fault ≡ fault_of (error_of cause))) }
     ensures apart { IfErr result (λ not. IfConnection not.rest (λ _. not.cause ≡ None)) }
+    ensures cause { IfErr result (λ not. IfFiles not.rest (λ rest. IsSomeAnd rest (λ left. IsSomeAnd not.cause (λ cause. IsCleanLeft left → IsCauseOf files left cause)))) }
     ensures left { IfErr result (λ not. IfFiles not.rest (λ rest. IsSomeAnd rest (λ left. IsCleanLeft left → Leaves files left))) }
     ensures held { IfErr result (λ not. IfFiles not.rest (λ rest. IsSomeAnd rest (λ left. IsCleanLeft left → AreSettled D.Disk files
         → KeepsHeld (image_of D.Disk files) left))) }
@@ -128,6 +131,8 @@ pub fn open_as<F: Start>(
     ensures fault { IfErr result (λ not. IfFiles not.rest (λ _. (not.fault ≡ OpenFault.NoMemory) ⊎ (not.fault ≡ OpenFault.StoreFailed))) }
     ensures told { IfErr result (λ not. IfSome not.cause (λ cause. not.fault ≡ fault_of (error_of cause))) }
     ensures apart { IfErr result (λ not. IfConnection not.rest (λ _. not.cause ≡ None)) }
+    ensures cause { IfErr result (λ not. IfFiles not.rest (λ rest. IfSome rest (λ left. IsSomeAnd not.cause (λ cause. (files : _) × IsFresh true files.log × IsFresh false files.db
+        × (IsCleanLeft left → IsCauseOf files left cause))))) }
     ensures left { IfErr result (λ not. IfFiles not.rest (λ rest. IfSome rest (λ left. (files : _) × IsFresh true files.log × IsFresh false files.db
         × (IsCleanLeft left → Leaves files left)))) }
     ensures held { IfErr result (λ not. IfFiles not.rest (λ rest. IfSome rest (λ left. IsCleanLeft left → KeepsHeld (image_at F.Start) left))) }
@@ -161,6 +166,8 @@ impl SqlKeeper<FileStore<File>> {
         ensures fault { IfErr result (λ not. IfFiles not.rest (λ _. (not.fault ≡ OpenFault.NoMemory) ⊎ (not.fault ≡ OpenFault.StoreFailed))) }
         ensures told { IfErr result (λ not. IfSome not.cause (λ cause. not.fault ≡ fault_of (error_of cause))) }
         ensures apart { IfErr result (λ not. IfConnection not.rest (λ _. not.cause ≡ None)) }
+        ensures cause { IfErr result (λ not. IfFiles not.rest (λ rest. IfSome rest (λ left. IsSomeAnd not.cause (λ cause. (files : _) × IsFresh true files.log × IsFresh false files.db
+            × (IsCleanLeft left → IsCauseOf files left cause))))) }
         ensures left { IfErr result (λ not. IfFiles not.rest (λ rest. IfSome rest (λ left. (files : _) × IsFresh true files.log × IsFresh false files.db
             × (IsCleanLeft left → Leaves files left)))) }
         ensures nothing { IfErr result (λ not. IfFiles not.rest (λ rest. rest ≡ None → IsSomeAnd not.cause IsOfSystem)) }

@@ -59,6 +59,16 @@ returns-in-Ok-clause-refused g c =
     let same = ap₂ image (ap₂ (seen g.F.Start.log g.F.Start.db) log.0 log.1) (ap₂ (seen g.F.Start.log g.F.Start.db) db.0 db.1) in
     IfErr-weaker c.open_on.result _ _ (λ not. connection_weaker not.rest _ _ (λ conn refused clean. subst (λ i. IsRefusedFrom i not.fault conn) same (refused clean))) c.open_on.ensures.refused
 
+each_cause : {C : Type 0} (cause : Option C) (P Q : C → Type 0) → ((x : C) → P x → Q x) → IsSomeAnd cause P → IsSomeAnd cause Q
+each_cause None P Q f h = h
+each_cause (Some x) P Q f h = f x h
+
+pub returns-in-Ok-clause-cause : goal.returns-in-Ok-clause-cause
+returns-in-Ok-clause-cause g c =
+    let fresh = c.in-Ok.ensures.fresh in
+    IfErr-weaker c.open_on.result _ _ (λ not. files_weaker not.rest _ _ (λ left. is_left left _ _ (λ it. each_cause not.cause _ _ (λ cause why.
+    (c.in-Ok.found.0, fresh.0, fresh.1, why))))) c.open_on.ensures.cause
+
 pub returns-in-Ok-clause-left : goal.returns-in-Ok-clause-left
 returns-in-Ok-clause-left g c =
     let fresh = c.in-Ok.ensures.fresh in
