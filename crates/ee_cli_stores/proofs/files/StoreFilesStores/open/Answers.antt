@@ -1,4 +1,4 @@
-use Rattle.ee_cli_stores.proofs.Told.{is_told}
+use Rattle.ee_cli_stores.proofs.Told.{is_told, with_cause}
 use Rattle.ee_cli_stores.proofs.files.StoreFilesStores.open.Goals as goal
 
 pub returns-in-Ok-clause-opened : goal.returns-in-Ok-clause-opened
@@ -14,7 +14,7 @@ returns-in-Err-clause-told g c = is_told c.in-Err.not.cause c.in-Err.not.fault c
 pub returns-in-Err-clause-refused : goal.returns-in-Err-clause-refused
 returns-in-Err-clause-refused g c =
     let it = c.in-Err.ensures in
-    (c.in-Err.not.fault, c.fault_of.ensures, it.refused, it.fault, it.left, it.held)
+    (c.in-Err.not.fault, c.fault_of.ensures, it.refused, it.fault, with_cause c.in-Err.not.rest c.in-Err.not.cause c.in-Err.not.fault _ it.told it.cause, it.left, it.held)
 
 pub returns-in-Ok-clause-tested : goal.returns-in-Ok-clause-tested
 returns-in-Ok-clause-tested g c clean = (c.in-Ok.ensures.opened clean).shielded
