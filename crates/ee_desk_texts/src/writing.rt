@@ -6,9 +6,13 @@ ghost use Rattle.serde_json.specs.Data.{string};
 ghost use Rattle.ee_desk_texts.specs.Data.{number_data, list_data};
 ghost use Rattle.ee_desk_texts.specs.Writing.{AddsData, AddsMember};
 
+use arrayvec::ArrayString;
 use json::Writer;
 use std::alloc::{AllocError, Global};
-use std::fmt::Display;
+use std::fmt::{Display, Write};
+
+/// A text of more bytes takes memory.
+const SHORT: usize = 32;
 
 /// Writes a string: the value as it is displayed.
 pub fn write_string<D: Display>(
@@ -18,8 +22,14 @@ pub fn write_string<D: Display>(
 ) -> Result<(), AllocError>
     ensures { IfSome (D.output value.now) (λ text. AddsData result out.old out.new (string text)) }
 {
-    let text = value.to_string(alloc)?;
-    out.string(text.as_str())
+    let mut short = ArrayString::<SHORT>::new();
+    match short.write(value) {
+        Ok(()) => out.string(short.as_str()),
+        Err(_) => {
+            let text = value.to_string(alloc)?;
+            out.string(text.as_str())
+        }
+    }
 }
 
 /// Writes a member whose value is a string: the value as it is displayed.
