@@ -29,7 +29,6 @@ use Rattle.sqlite.specs.declared.error.Error.{Error}
 use Rattle.sqlite.specs.declared.error.Error.TheVariants.{SqliteFailure}
 use Rattle.sqlite.specs.declared.error.ErrorCode.TheVariants as code
 use Rattle.ee_store_files.specs.Damage.{BeginsAsLog}
-use Rattle.ee_store_files.specs.Files.{IsUncreated}
 use Rattle.ee_store_files.specs.Opening.{error_of_probe, Fails, FailsToRead, IsToOpen, Refuses, IsLongFor, IsLongLog, IsForeign}
 use Rattle.ee_store_files.proofs.Frames.{AreOpen}
 use Rattle.ee_store_files.proofs.Stops.{named_size}
@@ -116,15 +115,14 @@ refused_as image e none (inl other) = inr (inl (other, inr none))
 refused_as image e none (inr damaged) = inr (inr (damaged, inr (inr none)))
 
 -- why the database in files that have one isn't opened
-pub open_fails : (a b c : ℕ) (L : Type 0) (image : Image) (old new : Tally) (e : Error) → a ≤ b → ¬ IsUncreated image
+pub open_fails : (a b c : ℕ) (L : Type 0) (image : Image) (old new : Tally) (e : Error) → a ≤ b
     → FailsAs (named old new) b c L (((db : Trees) × HoldsDatabase image db) ⊎ IsNothing image) e → Fails a c L e ⊎ Refuses image e
-open_fails a b c L image old new e before created (inl memory) = inl (inl memory)
-open_fails a b c L image old new e before created (inr (inl refused)) =
-    inr (refused_as image e
-    (λ wanted. elim wanted [ inl uncreated ↦ created uncreated | inr there ↦ elim there [ inl nothing ↦ refused.1 (inr nothing) | inr held ↦ refused.1 (inl held) ] ]) refused.0)
-open_fails a b c L image old new e before created (inr (inr (inl fault))) =
+open_fails a b c L image old new e before (inl memory) = inl (inl memory)
+open_fails a b c L image old new e before (inr (inl refused)) =
+    inr (refused_as image e (λ wanted. elim wanted [ inl nothing ↦ refused.1 (inr nothing) | inr held ↦ refused.1 (inl held) ]) refused.0)
+open_fails a b c L image old new e before (inr (inr (inl fault))) =
     inl (inr (inl (ap is_disk_error fault.0 ∙ tells_fault (new.caught == old.caught) (new.refused == old.refused), omega (arith, fault.1))))
-open_fails a b c L image old new e before created (inr (inr (inr full))) = inl (inr (inr full))
+open_fails a b c L image old new e before (inr (inr (inr full))) = inl (inr (inr full))
 
 -- ---- the frames of a log
 

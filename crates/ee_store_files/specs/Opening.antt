@@ -6,7 +6,6 @@ use Rattle.sqlite_disk.specs.Disk.{MoreFaults}
 use Rattle.sqlite_wal.specs.declared.error.Error as log_error
 use Rattle.sqlite_wal.specs.declared.error.Error.TheVariants as log
 use Rattle.sqlite_wal.specs.PageSize.{IsPageSize}
-use Rattle.sqlite_wal.specs.Reads.{AreClean, OnlyReads}
 use Rattle.sqlite_wal.specs.Recovery.{Image, frame_at, IsLogFor, Replays}
 use Rattle.sqlite.specs.Tree.{Trees}
 use Rattle.sqlite.specs.State.{is_disk_error}
@@ -19,7 +18,7 @@ use Rattle.ee_store_files.specs.declared.causes.OpenCause.{OpenCause}
 use Rattle.ee_store_files.specs.Causes.{cause_of_error}
 use Rattle.ee_store_files.specs.Damage.{IsDamaged}
 use Rattle.ee_store_files.specs.Orphans.{IsOrphan}
-use Rattle.ee_store_files.specs.Files.{IsStray, IsUncreated}
+use Rattle.ee_store_files.specs.Files.{IsStray}
 
 -- ---- a call that fails
 
@@ -48,9 +47,9 @@ error_of_probe e = SqliteFailure code.DatabaseCorrupt
 abbrev pub IsForeign : List ℕ → Type 0
 IsForeign log = (page_size k : ℕ) → IsPageSize page_size → ¬ Replays page_size log k
 
--- the files hold a database, or none was created in them yet
+-- the files hold a database, or what `sqlite` takes for none yet, as an empty file is
 abbrev pub IsToOpen : Image → Type 0
-IsToOpen image = IsUncreated image ⊎ (IsNothing image ⊎ ((db : Trees) × HoldsDatabase image db))
+IsToOpen image = IsNothing image ⊎ ((db : Trees) × HoldsDatabase image db)
 
 -- the files are refused with this error for what they hold
 abbrev pub Refuses : Image → Error → Type 0
@@ -63,14 +62,10 @@ Refuses image e =
 abbrev pub FailsToRead : Image → ℕ → ℕ → Error → Type 0
 FailsToRead image old new e = Fails old new (IsTooLong image) e ⊎ Refuses image e
 
--- a read of the files gave a wrong answer, which was taken as true
-abbrev pub AreMisread : {D : Type 0} → Ghosts D → Files D → Type 0
-AreMisread {D} g files = (now : Files D) × OnlyReads g files.log now.log × OnlyReads g files.db now.db × (¬ AreClean g now.log now.db)
-
 -- an open fails, or refuses the files
 abbrev pub FailsToOpen : {D : Type 0} {g : Ghosts D} → Files D → Leftover D g → Error → Type 0
 FailsToOpen {g = g} files rest e = Fails (faults_of g files) (faults_left rest) (IsFullLeft rest) e ⊎ Refuses (image_of g files) e
 
--- this is why the files weren't opened, unless they were misread
+-- this is why the files weren't opened
 abbrev pub IsCauseOf : {D : Type 0} {g : Ghosts D} → Files D → Leftover D g → OpenCause → Type 0
-IsCauseOf {g = g} files rest cause = AreMisread g files ⊎ ((e : Error) × (cause ≡ cause_of_error e) × FailsToOpen files rest e)
+IsCauseOf files rest cause = (e : Error) × (cause ≡ cause_of_error e) × FailsToOpen files rest e

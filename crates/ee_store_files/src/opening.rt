@@ -1,6 +1,6 @@
 //! Opening a database in two files.
 
-ghost use Rattle.std.specs.Prelude.{◌≡◌, ◌⊎◌, true, IsTrue, IfOk, IfErr};
+ghost use Rattle.std.specs.Prelude.{◌≡◌, true, IsTrue, IfOk, IfErr};
 ghost use Rattle.sqlite.specs.Opening.{is_open_error};
 ghost use Rattle.sqlite.specs.State.{HasCleanDisk};
 ghost use Rattle.sqlite.specs.Held.{IsNew};
@@ -8,7 +8,7 @@ ghost use Rattle.sqlite.specs.Files.{file_state, image_of, IsOpened, IsCleanLeft
 ghost use Rattle.sqlite_store.specs.FileStore.{view};
 ghost use Rattle.ee_store_files.specs.Damage.{IsDamaged};
 ghost use Rattle.ee_store_files.specs.Files.{IsUncreated, Finds, Leaves};
-ghost use Rattle.ee_store_files.specs.Opening.{AreMisread, FailsToOpen};
+ghost use Rattle.ee_store_files.specs.Opening.{FailsToOpen};
 
 use crate::creating::{create, is_uncreated};
 use crate::damage::is_damaged;
@@ -34,7 +34,7 @@ fn open_intact<D: Disk + Drop>(
     ensures found { IfOk result (λ c. HasCleanDisk (file_state c) → FindsIn files c × (¬ IsDamaged (image_of D.Disk files))) }
     ensures fresh { IfOk result IsNew }
     ensures guarded { IfOk result (λ c. HasCleanDisk (file_state c) → (file_state c).IsShielded) }
-    ensures cause { IfErr result (λ e. IsCleanLeft e.1 → ¬ IsUncreated (image_of D.Disk files) → FailsToOpen files e.1 e.0) }
+    ensures cause { IfErr result (λ e. IsCleanLeft e.1 → FailsToOpen files e.1 e.0) }
     ensures unharmed { IfErr result (λ e. IsCleanLeft e.1 → LeavesFiles files e.1) }
 {
     match is_damaged(alloc, &mut files) {
@@ -54,7 +54,7 @@ fn open_intact<D: Disk + Drop>(
 /// program, and no file is changed then.
 ///
 /// - `cause`: memory was refused, a call on a file failed, the files are as long as `sqlite` takes them, or they
-///   are refused for what they hold. Nothing is said if a read gave a wrong answer that was taken as true.
+///   are refused for what they hold. That a file which a crash left half created isn't refused is no clause.
 pub fn open_files<D: Disk + Drop>(
     alloc: Global,
     mut files: Files<D>,
@@ -68,7 +68,7 @@ pub fn open_files<D: Disk + Drop>(
     ensures sums { IfOk result (λ c. HasCleanDisk (file_state c) → IsUncreated (image_of D.Disk files) → (view c.store).has_sums ≡ true) }
     ensures fresh { IfOk result IsNew }
     ensures guarded { IfOk result (λ c. HasCleanDisk (file_state c) → (file_state c).IsShielded) }
-    ensures cause { IfErr result (λ e. IsCleanLeft e.1 → AreMisread D.Disk files ⊎ FailsToOpen files e.1 e.0) }
+    ensures cause { IfErr result (λ e. IsCleanLeft e.1 → FailsToOpen files e.1 e.0) }
     ensures unharmed { IfErr result (λ e. IsCleanLeft e.1 → Leaves files e.1) }
 {
     match is_uncreated(alloc, &mut files) {

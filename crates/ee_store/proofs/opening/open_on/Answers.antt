@@ -1,4 +1,4 @@
-use Rattle.std.proofs.Common.{rules, arith, ◌*◌, ◌^◌, inl, inr}
+use Rattle.std.proofs.Common.{rules, arith, ◌*◌, ◌^◌}
 use Rattle.sqlite.specs.State.{HasCleanDisk}
 use Rattle.sqlite.specs.Files.{file_state}
 use Rattle.ee_store_tables.proofs.Lemmas.Causes.{room_less}
@@ -11,10 +11,7 @@ pub returns-in-Err-clause-left : goal.returns-in-Err-clause-left
 returns-in-Err-clause-left g c = c.in-Err.ensures.unharmed
 
 pub returns-in-Err-clause-cause : goal.returns-in-Err-clause-cause
-returns-in-Err-clause-cause g c clean = elim (c.in-Err.ensures.cause clean) [
-  | inl misread ↦ inl misread
-  | inr fails ↦ inr (c.in-Err.error, c.of_error-cause.ensures, fails)
-]
+returns-in-Err-clause-cause g c clean = (c.in-Err.error, c.of_error-cause.ensures, c.in-Err.ensures.cause clean)
 
 pub returns-in-Err-clause-held : goal.returns-in-Err-clause-held
 returns-in-Err-clause-held g c clean settled = c.holding_law.ensures.leaves c.args.files _ settled (c.in-Err.ensures.unharmed clean)

@@ -1,7 +1,5 @@
-use Rattle.std.proofs.Common.{inl, inr, sym, subst, le_refl, ◌∙◌}
-use Rattle.std.proofs.lemmas.Bool.{false≢true, cases_Bool}
+use Rattle.std.proofs.Common.{inl, inr, sym, subst, le_refl}
 use Rattle.std.proofs.lemmas.Result.{IfOk-weaker, IfErr-weaker}
-use Rattle.sqlite_wal.specs.Reads.{are_clean}
 use Rattle.sqlite.specs.Files.{image_of, HoldsDatabase, AreFoundIn, IsTooLong, file_state}
 use Rattle.sqlite.proofs.FileLemmas.{same_image}
 use Rattle.ee_store_files.specs.Damage.{IsDamaged}
@@ -63,27 +61,20 @@ returns-in-Ok-false-clause-unharmed g c =
 
 pub returns-in-Ok-true-clause-cause : goal.returns-in-Ok-true-clause-cause
 returns-in-Ok-true-clause-cause g c = IfErr-weaker c.create.result _ _
-    (λ e fails still. inr (inl (fails_wider _ _ _ _ _ _ e.0 c.is_uncreated.ensures.counts (le_refl _) (λ full. full) (fails still)))) c.create.ensures.cause
+    (λ e fails still. inl (fails_wider _ _ _ _ _ _ e.0 c.is_uncreated.ensures.counts (le_refl _) (λ full. full) (fails still))) c.create.ensures.cause
 
 pub returns-in-Ok-false-clause-cause : goal.returns-in-Ok-false-clause-cause
 returns-in-Ok-false-clause-cause g c = IfErr-weaker c.open_intact.result _ _ (λ e why still.
     let read = c.is_uncreated.ensures in
-    let now = c.is_uncreated.new.files in
-    let same = same_image read.log read.db in
-    elim (cases_Bool (are_clean g.D.Disk now.log now.db)) [
-      | inl clean ↦
-          let created : ¬ IsUncreated (image_of g.D.Disk now) = λ uncreated. false≢true (sym c.in-Ok-false.field-0-test ∙ (c.in-Ok-false.ensures.ok clean).1 (subst IsUncreated same uncreated)) in
-          inr (elim (why still created) [
-            | inl fails ↦ inl (fails_wider _ _ _ _ _ _ e.0 read.counts (le_refl _) (λ full. full) fails)
-            | inr refused ↦ inr (subst (λ i. Refuses i e.0) same refused)
-          ])
-      | inr lied ↦ inl (now, read.log, read.db, λ clean. false≢true (sym lied ∙ clean))
+    elim (why still) [
+      | inl fails ↦ inl (fails_wider _ _ _ _ _ _ e.0 read.counts (le_refl _) (λ full. full) fails)
+      | inr refused ↦ inr (subst (λ i. Refuses i e.0) (same_image read.log read.db) refused)
     ]) c.open_intact.ensures.cause
 
 pub returns-in-Err-clause-cause : goal.returns-in-Err-clause-cause
 returns-in-Err-clause-cause g c clean =
     let read = c.is_uncreated.ensures in
-    inr (elim (c.in-Err.ensures.cause clean) [
+    elim (c.in-Err.ensures.cause clean) [
       | inl fails ↦ inl (fails_wider _ _ _ _ _ _ _ (le_refl _) (le_refl _) (subst IsTooLong (sym (same_image read.log read.db))) fails)
       | inr refused ↦ inr refused
-    ])
+    ]

@@ -4,7 +4,6 @@ use Rattle.std.proofs.lemmas.Result.{IfOk-weaker, IfErr-weaker}
 use Rattle.sqlite_wal.specs.Reads.{tally_of_files}
 use Rattle.sqlite.specs.Files.{image_of, tally_left, HoldsDatabase, AreFoundIn, IsTooLong, file_state}
 use Rattle.sqlite.proofs.FileLemmas.{same_image}
-use Rattle.ee_store_files.specs.Files.{IsUncreated}
 use Rattle.ee_store_files.specs.Opening.{Refuses}
 use Rattle.ee_store_files.proofs.Failing.{fails_wider, open_fails}
 use Rattle.ee_store_files.proofs.Left.{files_after}
@@ -30,11 +29,11 @@ returns-in-Ok-false-clause-unharmed g c =
     IfErr-weaker c.open_files.result _ _ (λ e leaves still. files_after read.log read.db e.1 (leaves still)) c.open_files.ensures.unharmed
 
 pub returns-in-Ok-true-clause-cause : goal.returns-in-Ok-true-clause-cause
-returns-in-Ok-true-clause-cause g c clean created =
+returns-in-Ok-true-clause-cause g c clean =
     inr (inr (inr (refl, inl ((c.in-Ok-true.ensures.ok clean).0 c.in-Ok-true.field-0-test))))
 
 pub returns-in-Err-clause-cause : goal.returns-in-Err-clause-cause
-returns-in-Err-clause-cause g c clean created =
+returns-in-Err-clause-cause g c clean =
     let read = c.is_damaged.ensures in
     elim (c.in-Err.ensures.cause clean) [
       | inl fails ↦ inl (fails_wider _ _ _ _ _ _ _ (le_refl _) (le_refl _) (subst IsTooLong (sym (same_image read.log read.db))) fails)
@@ -42,11 +41,11 @@ returns-in-Err-clause-cause g c clean created =
     ]
 
 pub returns-in-Ok-false-clause-cause : goal.returns-in-Ok-false-clause-cause
-returns-in-Ok-false-clause-cause g c = IfErr-weaker c.open_files.result _ _ (λ e why still created.
+returns-in-Ok-false-clause-cause g c = IfErr-weaker c.open_files.result _ _ (λ e why still.
     let read = c.is_damaged.ensures in
     let now = c.is_damaged.new.files in
     let same = same_image read.log read.db in
-    elim (open_fails _ _ _ _ (image_of g.D.Disk now) (tally_of_files g.D.Disk (now.log, now.db)) (tally_left e.1) e.0 read.counts (λ uncreated. created (subst IsUncreated same uncreated)) (why still)) [
+    elim (open_fails _ _ _ _ (image_of g.D.Disk now) (tally_of_files g.D.Disk (now.log, now.db)) (tally_left e.1) e.0 read.counts (why still)) [
       | inl fails ↦ inl fails
       | inr refused ↦ inr (subst (λ i. Refuses i e.0) same refused)
     ]) c.open_files.ensures.cause
