@@ -52,7 +52,7 @@ pub counts_on : {T E : Type 0} (result : Result T E) (a b : ℕ) → CountsFault
 counts_on (Ok x) a b same = omega (arith, same)
 counts_on (Err e) a b more = more.1
 
--- a failed read is told as one of the system
+-- a failed read gives the error of a failed system call
 pub by_fault : (a b : ℕ) (L : Type 0) → MoreFaults a b → Fails a b L (SqliteFailure code.SystemIoFailure)
 by_fault a b L more = inr (inl (refl, more))
 
