@@ -1,6 +1,7 @@
 -- The text of an answer is settled by what it shows.
-use Rattle.std.proofs.Common.{◌≡◌, ℕ, ◌||◌, Bool, false, subst, List, [], ◌∷◌, ◌++◌, map, Option, Some, None, Result, Ok, Err, refl, sym, ap, ◌∙◌}
-use Rattle.std.specs.Prelude.{codes, ⊤}
+use Rattle.std.proofs.Common.{◌≡◌, ℕ, ◌||◌, Bool, false, String, Global, subst, List, [], ◌∷◌, ◌++◌, map, Option, Some, None, Result, Ok, Err, refl, sym, ap, ◌∙◌}
+use Rattle.std.specs.Prelude.{codes, string_bytes, ⊤}
+use Rattle.std.proofs.lemmas.Bool.{false≢true}
 use Rattle.std.specs.Fmt.{decimal}
 use Rattle.std.specs.List.{flat_map}
 use Rattle.std.specs.Option.{option_map}
@@ -19,6 +20,11 @@ use Rattle.ee_desk_model.specs.Repeats.{Content}
 use Rattle.ee_desk_model.specs.Answers as desk
 use Rattle.ee_desk_model.specs.Queries.{PlainRow, PlainSheet, shown_in_row, shown_in_sheet, ticket_numbered, batch_on, IsInventory, IsQuote}
 use Rattle.ee_desk_model.specs.declared.acts.Request.{Request}
+use Rattle.ee_desk_model.specs.declared.replies.Reply.{Reply}
+use Rattle.ee_desk_model.specs.declared.replies.Reply.TheVariants as reply
+use Rattle.ee_desk_texts.specs.Given.{is_refusal}
+use Rattle.ee_desk_texts.specs.Texts.{reply_text}
+use Rattle.ee_desk_texts.specs.declared.given.GivenReply.TheVariants as given
 use Rattle.ee_wire_calls.specs.declared.calls.Call.{Call}
 use Rattle.ee_wire_calls.specs.declared.calls.Call.TheVariants as call
 use Rattle.ee_desk_model.specs.declared.queries.Query.TheVariants as ask
@@ -127,14 +133,25 @@ row_texts (Some one) (Some other) closing same = ap (λ d. whole_text status.Ok 
 
 -- ---- what a right answer is
 
-reply_is : (c : Content) (q : Request) (a : Answer) → IsAnswer c (Ok (call.Request q)) a → a ≡ told.Reply (desk.answer c [] q)
-reply_is c q (told.Reply reply) is = ap (λ r. told.Reply r) is
-reply_is c q (told.Sheet sheet) is = absurd is
-reply_is c q (told.Row row) is = absurd is
-reply_is c q (told.Ticket ticket) is = absurd is
-reply_is c q (told.Batch batch) is = absurd is
-reply_is c q (told.Fault fault) is = absurd is
-reply_is c q (told.Unserved cause) is = absurd is
+-- a reply that is given by its text has the same response as the reply
+given_text : (text : String Global) (p : Reply) (closing : Bool) → string_bytes text ≡ reply_text p → is_refusal p ≡ false
+    → answer_text (told.Reply (given.Text text)) closing ≡ answer_text (told.Reply (given.Reply p)) closing
+given_text text (reply.Added new same) closing is none = ap (λ body. whole_text status.Ok kind.Json body (closing || false)) is
+given_text text (reply.Opened day) closing is none = ap (λ body. whole_text status.Ok kind.Json body (closing || false)) is
+given_text text (reply.Ticket ticket) closing is none = ap (λ body. whole_text status.Ok kind.Json body (closing || false)) is
+given_text text (reply.Batch batch) closing is none = ap (λ body. whole_text status.Ok kind.Json body (closing || false)) is
+given_text text (reply.Refused refusal) closing is none = absurd (false≢true (sym none))
+
+reply_text_is : (c : Content) (q : Request) (a : Answer) (closing : Bool) → IsAnswer c (Ok (call.Request q)) a
+    → answer_text a closing ≡ answer_text (told.Reply (given.Reply (desk.answer c [] q))) closing
+reply_text_is c q (told.Reply (given.Reply reply)) closing is = ap (λ r. answer_text (told.Reply (given.Reply r)) closing) is
+reply_text_is c q (told.Reply (given.Text text)) closing is = given_text text (desk.answer c [] q) closing is.0 is.1
+reply_text_is c q (told.Sheet sheet) closing is = absurd is
+reply_text_is c q (told.Row row) closing is = absurd is
+reply_text_is c q (told.Ticket ticket) closing is = absurd is
+reply_text_is c q (told.Batch batch) closing is = absurd is
+reply_text_is c q (told.Fault fault) closing is = absurd is
+reply_text_is c q (told.Unserved cause) closing is = absurd is
 
 fault_is : (c : Content) (f : WireFault) (a : Answer) → IsAnswer c (Err f) a → a ≡ told.Fault f
 fault_is c f (told.Reply reply) is = absurd is
@@ -194,7 +211,7 @@ no_route_is c customer (told.Unserved cause) is = absurd is
 
 pub one_text : (c : Content) (asked : Result Call WireFault) (one other : Answer) (closing : Bool)
     → IsAnswer c asked one → IsAnswer c asked other → answer_text one closing ≡ answer_text other closing
-one_text c (Ok (call.Request q)) one other closing x y = ap (λ a. answer_text a closing) (reply_is c q one x ∙ sym (reply_is c q other y))
+one_text c (Ok (call.Request q)) one other closing x y = reply_text_is c q one closing x ∙ sym (reply_text_is c q other closing y)
 one_text c (Ok (call.Query (ask.Inventory customer month))) one other closing x y =
     let s = sheet_is c customer month one x in
     let t = sheet_is c customer month other y in

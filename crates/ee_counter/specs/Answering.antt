@@ -9,6 +9,7 @@ use Rattle.ee_desk_model.specs.declared.queries.Shown.TheVariants as shown
 use Rattle.ee_desk_model.specs.declared.acts.Request.{Request}
 use Rattle.ee_desk_model.specs.declared.refusals.Unserved.{Unserved}
 use Rattle.ee_desk_laws.specs.Attempts.{Attempt}
+use Rattle.ee_desk_texts.specs.Given.{IsGiven}
 use Rattle.ee_wire_framing.specs.Framing.{Message}
 use Rattle.ee_wire_calls.specs.Calls.{decoded}
 use Rattle.ee_wire_calls.specs.declared.calls.Call.{Call}
@@ -35,7 +36,7 @@ AnswersQuery books _ _ = ⊥
 
 -- the answer to a request is the one reply to it, to a query what the books show, and to a fault that fault
 abbrev pub IsAnswer : Content → Result Call WireFault → Answer → Type 0
-IsAnswer c (Ok (call.Request request)) (told.Reply reply) = reply ≡ desk.answer c [] request
+IsAnswer c (Ok (call.Request request)) (told.Reply reply) = IsGiven reply (desk.answer c [] request)
 IsAnswer c (Ok (call.Query query)) answer = AnswersQuery c.books query answer
 IsAnswer c (Err fault) (told.Fault other) = other ≡ fault
 IsAnswer c _ _ = ⊥

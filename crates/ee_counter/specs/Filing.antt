@@ -34,7 +34,7 @@ Imports {A} rows_of act_of known number c (Ok reply) Has =
     × Delivers c (numbered number (act_of rows)) (Ok reply) (λ left. Has left (attempt_at (numbered number (act_of rows)) (Ok reply)))
 Imports rows_of act_of known number c (Err (import.File fault)) Has = Reads rows_of known (Err fault) × Has c []
 Imports {A} rows_of act_of known number c (Err (import.Unserved cause)) Has =
-    (rows : List A) × Reads rows_of known (Ok rows) × Has c (attempt_at (numbered number (act_of rows)) (Err cause))
+    (rows : List A) × Reads rows_of known (Ok rows) × Has c (attempt_at {R = Reply} (numbered number (act_of rows)) (Err cause))
 
 -- the file wasn't read, because a read failed
 abbrev pub IsFailedRead : ImportFault → Type 0

@@ -59,7 +59,7 @@ fn answer_request<K: Keeper>(keeper: &mut K, request: &Request) -> Result<Answer
     ensures cause { K.is_clean keeper.new → (c : Content) → K.has keeper.old c → (n : ℕ) → K.takes (n + 1) keeper.old → K.fits c request.now
         → FailsOnlyIf (FailedIn K.is_open K.faults keeper.old keeper.new) result }
 {
-    Ok(Answer::Reply(keeper.deliver(request)?))
+    Ok(Answer::Reply(keeper.respond(request)?))
 }
 
 fn answer_call<K: Keeper>(keeper: &mut K, call: &Call) -> Result<Answer, Unserved>

@@ -4,7 +4,6 @@ use Rattle.std.specs.Fmt.{decimal}
 use Rattle.std.proofs.lemmas.Fmt.{digits_value-decimal, digits_decimal, length-decimal-le, decimal_nonempty}
 use Rattle.ee_units.specs.Texts.{two_digits, decimal_text}
 use Rattle.ee_units.specs.Grammar.{WritesNumber}
-use Rattle.ee_units.specs.declared.denoms.Denom.TheVariants as denom
 use Rattle.ee_units.proofs.Lemmas.{digits_are_numerals, number_of-writes, parts_at-joined, digits_of-writes, in_range_back, two_digits-write}
 use Rattle.ee_desk_texts.specs.Reading.{cents_of}
 

@@ -5,3 +5,4 @@ mod Same
 pub mod Lemmas
 mod Counts
 mod Pieces
+mod Fronts

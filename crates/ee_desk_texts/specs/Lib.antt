@@ -3,3 +3,4 @@ pub mod Texts
 pub mod Ranges
 pub mod Reading
 pub mod Writing
+pub mod Given

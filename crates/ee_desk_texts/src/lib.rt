@@ -10,6 +10,7 @@
 mod act_reading;
 mod acts;
 mod fields;
+mod given;
 mod invariants;
 mod laws;
 mod money;
@@ -22,8 +23,9 @@ mod writing;
 
 pub use act_reading::read_act;
 pub use acts::canonical;
+pub use given::{GivenReply, give_again};
 pub use invariants::{batch_fits, bonds_fit, day_fits, rate_rows_fit, ticket_fits};
 pub use laws::texts_law;
 pub use replies::reply_text;
-pub use reply_reading::{read_known_reply, read_reply};
+pub use reply_reading::read_reply;
 pub use writing::{text_of, write_number_member, write_string_member, write_text_member};

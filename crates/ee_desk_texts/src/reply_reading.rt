@@ -116,7 +116,7 @@ fn reply_in(alloc: Global, value: &Value<'_>) -> Result<Option<Reply>, AllocErro
 
 /// Reads the text of a reply without a test that it is one: a caller that doesn't know it to be the text of a
 /// reply calls `read_reply`. `None` if the text has no reply's shape.
-pub fn read_known_reply(alloc: Global, text: &str) -> Result<Option<Reply>, AllocError>
+pub(crate) fn read_known_reply(alloc: Global, text: &str) -> Result<Option<Reply>, AllocError>
     ensures { IfOk result (λ o. (p : Reply) → ReplyFits p → text.now ≡ reply_text p → o ≡ Some p) }
 {
     match quick_reply_of(alloc, text)? {

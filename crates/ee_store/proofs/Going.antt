@@ -4,7 +4,6 @@ use Rattle.std.specs.Prelude.{MatchResult}
 use Rattle.std.proofs.Math.Logic.{∥∥₁_map}
 use Rattle.sqlite.specs.State.{State}
 use Rattle.ee_desk_model.specs.declared.acts.Request.{Request}
-use Rattle.ee_desk_model.specs.declared.replies.Reply.{Reply}
 use Rattle.ee_desk_model.specs.declared.refusals.Unserved.{Unserved}
 use Rattle.ee_desk_model.specs.Repeats.{Content}
 use Rattle.ee_desk_laws.specs.Attempts.{LeadOn}
@@ -19,7 +18,7 @@ use Rattle.ee_store.specs.History.{HasCome, Goes}
 abbrev pub Went : State → Type 0 → Content → List Event → Type 0
 Went now informed start events = HasCome start events now × informed
 
-pub goes_at : (old new : State) (was is : Type 0) (q : Request) (result : Result Reply Unserved)
+pub goes_at : {R : Type 0} (old new : State) (was is : Type 0) (q : Request) (result : Result R Unserved)
     → (was → MatchResult result (λ reply. Goes old (Deliver q ∷ []) new × Goes old (Lose q ∷ []) new) (λ cause. Goes old (NotServed q ∷ []) new))
     → (was → is) → LeadOn (Went old was) (attempt_at q result) (Went new is)
 goes_at old new was is q (Ok reply) goes stays = lead_by_reply (Went old was) (Went new is) q (λ start earlier went.

@@ -1,6 +1,6 @@
 //! A keeper over the tables.
 
-ghost use Rattle.std.specs.Prelude.{◌≡◌, true, false, List, [], ◌∷◌, IsTrue, OnOk, OnErr, IfErr, MatchResult};
+ghost use Rattle.std.specs.Prelude.{◌≡◌, true, false, List, [], ◌∷◌, IsTrue, IfOk, OnOk, OnErr, IfErr, MatchResult};
 ghost use Rattle.std.specs.FinMap as finite;
 ghost use Rattle.sqlite.specs.Held.{state};
 ghost use Rattle.sqlite.specs.Tree.{Trees};
@@ -10,7 +10,8 @@ ghost use Rattle.ee_desk_model.specs.Repeats.{Content};
 ghost use Rattle.ee_desk_model.specs.Contents.{content_after};
 ghost use Rattle.ee_desk_laws.specs.Events.{World, Told, decided, unserved};
 ghost use Rattle.ee_desk_laws.specs.Events.Event.{Deliver, Lose, Unserved as NotServed};
-ghost use Rattle.ee_keeper.specs.Keeping.{Delivers};
+ghost use Rattle.ee_desk_texts.specs.Given.{IsWhole};
+ghost use Rattle.ee_keeper.specs.Keeping.{Delivers, Responds};
 ghost use Rattle.ee_store_tables.specs.Statements.{HasCause};
 ghost use Rattle.ee_store_books.specs.Causes.{IsReady};
 ghost use Rattle.ee_store_delivery.specs.Causes.{TakesRequestRoom, CanDeliver};
@@ -22,6 +23,7 @@ ghost use Rattle.ee_store.specs.History.{Goes};
 use crate::failures::unserved;
 use ee_desk_laws::{StoreOfContents, ties_to_stores_law};
 use ee_desk_model::{Reply, Request, UnitTables, Unserved};
+use ee_desk_texts::GivenReply;
 use ee_store_delivery::{Known, deliver_on};
 use sqlite::{Alter, Connection};
 use std::alloc::Global;
@@ -87,6 +89,51 @@ impl<S: Alter> SqlKeeper<S> {
             × Goes (state S.Store self.old.conn) (Lose request.now ∷ []) (state S.Store self.new.conn))
             (λ cause. Goes (state S.Store self.old.conn) (NotServed request.now ∷ []) (state S.Store self.new.conn)) }
     {
+        match self.respond(request, false) {
+            Ok(GivenReply::Reply(reply)) => Ok(reply),
+            Ok(GivenReply::Text(_)) => unreachable!(),
+            Err(cause) => Err(cause),
+        }
+    }
+
+    /// Answers a request, as `deliver` does and with the same clauses. If `as_text`, the reply to a kept number is given
+    /// by its text, unless it is a refusal: it isn't read and written anew.
+    ///
+    /// - `responds`: what is given is the reply, or its text.
+    /// - `whole`: it is the reply itself, unless a text is asked for.
+    pub fn respond(&mut self, request: &Request, as_text: bool) -> Result<GivenReply, Unserved>
+        ensures clean { HasCleanDisk (state S.Store self.new.conn) → HasCleanDisk (state S.Store self.old.conn) }
+        ensures informed { IsInformed (state S.Store self.old.conn) self.old.known → IsInformed (state S.Store self.new.conn) self.new.known }
+        ensures responds { HasCleanDisk (state S.Store self.new.conn) → IsInformed (state S.Store self.old.conn) self.old.known
+            → (content : Content) → HasContent (state S.Store self.old.conn) content
+            → Responds content request.now result (HasContent (state S.Store self.new.conn)) }
+        ensures opened { HasCleanDisk (state S.Store self.new.conn) → OnOk result
+            ((content : Content) → HasContent (state S.Store self.old.conn) content → finite.contains_key content.kept (number_of request.now) ≡ false
+            → IsTrue (state S.Store self.new.conn).is_open) }
+        ensures crash { Survives (state S.Store self.old.conn) (state S.Store self.new.conn) (λ db. IsInformed (state S.Store self.old.conn) self.old.known
+            → (content : Content) → HasContent (state S.Store self.old.conn) content → StandsFor db (content_after content (request.now ∷ []))) }
+        ensures durable { HasCleanDisk (state S.Store self.new.conn) → IsInformed (state S.Store self.old.conn) self.old.known → OnOk result
+            ((content : Content) → HasContent (state S.Store self.old.conn) content → finite.contains_key content.kept (number_of request.now) ≡ false
+            → (db : Trees) → (state S.Store self.new.conn).may_leave db → StandsFor db (content_after content (request.now ∷ []))) }
+        ensures again { HasCleanDisk (state S.Store self.new.conn) → OnOk result
+            ((content : Content) → HasContent (state S.Store self.old.conn) content → finite.contains_key content.kept (number_of request.now) ≡ true
+            → (db : Trees) → (state S.Store self.new.conn).may_leave db → (state S.Store self.old.conn).may_leave db) }
+        ensures ready { IsReady (state S.Store self.old.conn) → IsReady (state S.Store self.new.conn) }
+        ensures room { TakesRequestRoom (state S.Store self.old.conn) (state S.Store self.new.conn) }
+        ensures cause { HasCleanDisk (state S.Store self.new.conn) → IsInformed (state S.Store self.old.conn) self.old.known
+            → (content : Content) → CanDeliver (state S.Store self.old.conn) content request.now
+            → IfErr result (λ e. e ≡ Unserved.StoreFailed → HasCause (state S.Store self.old.conn) (state S.Store self.new.conn)) }
+        ensures decided { HasCleanDisk (state S.Store self.new.conn) → IsInformed (state S.Store self.old.conn) self.old.known
+            → OnOk result ((w : World) (told : List Told) → FollowsWorld (state S.Store self.old.conn) w
+            → FollowsWorld (state S.Store self.new.conn) (decided w request.now told)) }
+        ensures unserved { HasCleanDisk (state S.Store self.new.conn) → IsInformed (state S.Store self.old.conn) self.old.known
+            → OnErr result ((w : World) → FollowsWorld (state S.Store self.old.conn) w → FollowsWorld (state S.Store self.new.conn) (unserved w request.now)) }
+        ensures goes { HasCleanDisk (state S.Store self.new.conn) → IsInformed (state S.Store self.old.conn) self.old.known → MatchResult result
+            (λ reply. Goes (state S.Store self.old.conn) (Deliver request.now ∷ []) (state S.Store self.new.conn)
+            × Goes (state S.Store self.old.conn) (Lose request.now ∷ []) (state S.Store self.new.conn))
+            (λ cause. Goes (state S.Store self.old.conn) (NotServed request.now ∷ []) (state S.Store self.new.conn)) }
+        ensures whole { as_text ≡ false → IfOk result IsWhole }
+    {
         ties_to_stores_law::<SqlKeeper<S>>();
         match deliver_on(
             &mut self.conn,
@@ -94,6 +141,7 @@ impl<S: Alter> SqlKeeper<S> {
             &mut self.tables,
             &mut self.known,
             request,
+            as_text,
         ) {
             Ok(reply) => {
                 // For the proof alone: a connection that has a schema sees a database, which `goes` needs.

@@ -17,6 +17,7 @@ ghost use Rattle.ee_store.specs.Served.{FollowsWorld};
 use crate::failures::unserved;
 use crate::keeper::SqlKeeper;
 use ee_desk_model::{Query, Reply, Request, Shown, Unserved};
+use ee_desk_texts::GivenReply;
 use ee_keeper::Keeper;
 use ee_store_queries::ask;
 use sqlite::Alter;
@@ -112,6 +113,10 @@ impl<S: Alter> Keeper for SqlKeeper<S> {
 
     fn deliver(&mut self, request: &Request) -> Result<Reply, Unserved> {
         SqlKeeper::deliver(self, request)
+    }
+
+    fn respond(&mut self, request: &Request) -> Result<GivenReply, Unserved> {
+        SqlKeeper::respond(self, request, true)
     }
 
     fn ask(&mut self, query: &Query) -> Result<Shown, Unserved> {

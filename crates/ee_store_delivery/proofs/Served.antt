@@ -20,6 +20,9 @@ use Rattle.ee_store_tables.proofs.Lemmas.Transactions.{unchanged_sees}
 use Rattle.ee_store_books.proofs.Lemmas.Contents.{get_reply_row}
 use Rattle.ee_desk_texts.specs.Ranges.{ActFits, ReplyFits}
 use Rattle.ee_desk_texts.specs.Texts.{act_text, reply_text}
+use Rattle.ee_desk_texts.specs.Given.{IsGiven}
+use Rattle.ee_desk_texts.specs.declared.given.GivenReply.{GivenReply}
+use Rattle.ee_desk_texts.specs.declared.given.GivenReply.TheVariants as given
 use Rattle.ee_store_tables.specs.Rows.{Rows, ReplyRow, Sees, with_answer}
 use Rattle.ee_store_books.specs.Standing.{rows_of, reply_row, IsRight, IsKept}
 use Rattle.ee_store_delivery.specs.Written.{applied_rows}
@@ -61,7 +64,7 @@ kept_by row None is = absurd (cc)
 kept_by row (Some kept) is = (kept, refl, ap (λ o. unwrap_or o row) is)
 
 -- a number that is kept: nothing changes
-pub is_again : (old new : State) (known : Known) (q : Request) (S : Content) (row : ReplyRow) (reply : Reply) → IsUnchanged old new → SeesContent old S
+pub is_again : (old new : State) (known : Known) (q : Request) (S : Content) (row : ReplyRow) (reply : GivenReply) → IsUnchanged old new → SeesContent old S
     → Some row ≡ finite.get (rows_of S).answers (number_of q) → ActFits q.act → IsAgain row.act row.reply (act_text q.act) reply → IsToldIn new known q S false reply
 is_again old new known q S row reply same sees is fits again =
     let found = kept_by row (finite.get S.kept (number_of q)) (is ∙ get_reply_row S.kept (number_of q)) in
@@ -72,7 +75,7 @@ is_again old new known q S row reply same sees is fits again =
     record {
       first = sym (ap (λ o. not (is_some o)) kept_is);
       served = λ _. record {
-        told = again (number_of q) kept q.act right fits (ap (λ r. r.act) found.2) (ap (λ r. r.reply) found.2) refl ∙ answer_again S q kept kept_is;
+        told = subst (IsGiven reply) (answer_again S q kept kept_is) (again (number_of q) kept q.act right fits (ap (λ r. r.act) found.2) (ap (λ r. r.reply) found.2) refl);
         seen = subst (SeesContent new) stays (record { right = sees.right; rows = unchanged_sees old new (rows_of S) same sees.rows });
       };
     }
@@ -92,7 +95,7 @@ pub is_new : (S : Content) (n : RequestKey) → None ≡ finite.get (rows_of S).
 is_new S n is = not_kept (finite.get S.kept n) (is ∙ get_reply_row S.kept n)
 
 pub is_first : (new : State) (known : Known) (q : Request) (S : Content) (reply : Reply) → finite.get S.kept (number_of q) ≡ None
-    → (AreKnown known S.books → IsDecided new q S reply) → IsToldIn new known q S true reply
+    → (AreKnown known S.books → IsDecided new q S reply) → IsToldIn new known q S true (given.Reply reply)
 is_first new known q S reply none is = record {
   first = sym (ap (λ o. not (is_some o)) none);
   served = λ are. record { told = (is are).told ∙ answer_new S q none; seen = (is are).seen };

@@ -13,6 +13,8 @@ use Rattle.ee_desk_model.specs.Outcomes.{act}
 use Rattle.ee_desk_model.specs.Repeats.{Content}
 use Rattle.ee_desk_model.specs.Contents.{content_after}
 use Rattle.ee_desk_model.specs.Answers.{answer}
+use Rattle.ee_desk_texts.specs.Given.{IsGiven}
+use Rattle.ee_desk_texts.specs.declared.given.GivenReply.{GivenReply}
 use Rattle.ee_store_tables.specs.Rows.{IsInside}
 use Rattle.ee_store_books.specs.Seen.{SeesContent}
 use Rattle.ee_store_delivery.specs.declared.known.Known.{Known}
@@ -33,16 +35,16 @@ Decides old new known request result = HasCleanDisk new → IsInside old → IfO
     → AreKnown known content.books → finite.get content.kept (number_of request) ≡ None → IsDecided new request content reply)
 
 -- the answer to a request in a transaction, and what is then seen
-pub record IsServed (new : State) (request : Request) (content : Content) (reply : Reply) : Type 0 where
-  pub told : reply ≡ answer content [] request
+pub record IsServed (new : State) (request : Request) (content : Content) (reply : GivenReply) : Type 0 where
+  pub told : IsGiven reply (answer content [] request)
   pub seen : SeesContent new (content_after content (request ∷ []))
 
 -- The number is new if it isn't kept. If what is known is correct, the request is answered, and its effects are seen.
-pub record IsToldIn (new : State) (known : Known) (request : Request) (content : Content) (is_new : Bool) (reply : Reply) : Type 0 where
+pub record IsToldIn (new : State) (known : Known) (request : Request) (content : Content) (is_new : Bool) (reply : GivenReply) : Type 0 where
   pub first : is_new ≡ not (finite.contains_key content.kept (number_of request))
   pub served : AreKnown known content.books → IsServed new request content reply
 
-abbrev pub Serves : {E : Type 0} → State → State → Known → Request → Result (Bool × Reply) E → Type 0
+abbrev pub Serves : {E : Type 0} → State → State → Known → Request → Result (Bool × GivenReply) E → Type 0
 Serves old new known request result = HasCleanDisk new → IsInside old → IfOk result (λ r. (content : Content) → SeesContent old content → IsToldIn new known request content r.0 r.1)
 
 -- what is known stays correct

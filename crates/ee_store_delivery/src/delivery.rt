@@ -5,6 +5,7 @@ ghost use Rattle.ee_desk_model.specs.declared.acts.Act.{Act};
 ghost use Rattle.ee_desk_model.specs.declared.changes.Kept.{Kept};
 ghost use Rattle.ee_desk_model.specs.Numbers.{RequestKey, number_of};
 ghost use Rattle.ee_desk_model.specs.Answers.{reply_again, answer};
+ghost use Rattle.ee_desk_texts.specs.Given.{IsGiven, IsWhole};
 ghost use Rattle.ee_desk_texts.specs.Ranges.{ActFits};
 ghost use Rattle.ee_desk_texts.specs.Texts.{act_text, reply_text};
 ghost use Rattle.ee_store_books.specs.Standing.{IsKept};
@@ -28,25 +29,33 @@ use crate::known::Known;
 use crate::view::effects_in;
 use crate::writing::write_changes;
 use ee_desk_model::{Effects, Refusal, Reply, Request, UnitTables};
-use ee_desk_texts::{canonical, read_known_reply, reply_text};
+use ee_desk_texts::{GivenReply, canonical, give_again, reply_text};
 use ee_store_tables::{Failure, ReplyRow, add_answer, find_answer};
 use sqlite::{Alter, Connection, Transaction};
 use std::alloc::Global;
 use std::mem;
 
 /// The reply to a repeated number, from the kept texts of its act and reply, and the text of the act that is
-/// asked for now: the kept reply if the acts are the same, and `NumberReused` otherwise.
-pub fn reply_again(alloc: Global, act: &str, reply: &str, asked: &str) -> Result<Reply, Failure>
-    ensures read { (number : RequestKey) (kept : Kept) → IsKept number kept → reply.now ≡ reply_text kept.reply → IfErr result (λ e. e ≡ Failure.NoMemory) }
+/// asked for now: the kept reply if the acts are the same, and `NumberReused` otherwise. If `as_text`, a kept reply
+/// that is no refusal is given by its text.
+pub fn reply_again(
+    alloc: Global,
+    act: &str,
+    reply: String,
+    asked: &str,
+    as_text: bool,
+) -> Result<GivenReply, Failure>
+    ensures read { (number : RequestKey) (kept : Kept) → IsKept number kept → string_bytes reply ≡ reply_text kept.reply → IfErr result (λ e. e ≡ Failure.NoMemory) }
     ensures told { IfOk result (λ told. (number : RequestKey) (kept : Kept) (again : Act) → IsKept number kept → ActFits again
-        → act.now ≡ act_text kept.act → reply.now ≡ reply_text kept.reply → asked.now ≡ act_text again
-        → told ≡ reply_again kept.act kept.reply again) }
+        → act.now ≡ act_text kept.act → string_bytes reply ≡ reply_text kept.reply → asked.now ≡ act_text again
+        → IsGiven told (reply_again kept.act kept.reply again)) }
+    ensures whole { as_text ≡ false → IfOk result IsWhole }
 {
     if act != asked {
-        return Ok(Reply::Refused(Refusal::NumberReused));
+        return Ok(GivenReply::Reply(Reply::Refused(Refusal::NumberReused)));
     }
-    match read_known_reply(alloc, reply)? {
-        Some(reply) => Ok(reply),
+    match give_again(alloc, reply, as_text)? {
+        Some(given) => Ok(given),
         None => Err(Failure::StoreFailed),
     }
 }
@@ -84,17 +93,20 @@ fn decide_in<S: Alter>(
     Ok(reply)
 }
 
-/// The reply to a request, and whether its number is new. Writes the effects of a new number.
+/// The reply to a request, and whether its number is new. Writes the effects of a new number. A kept reply may be
+/// given by its text, if `as_text`.
 pub fn serve_in<S: Alter>(
     tx: &mut Transaction<'_, S>,
     alloc: Global,
     tables: &mut UnitTables,
     known: &mut Known,
     request: &Request,
-) -> Result<(bool, Reply), Failure>
+    as_text: bool,
+) -> Result<(bool, GivenReply), Failure>
     ensures same_reference { tx.new.conn.ghost_name ≡ tx.old.conn.ghost_name }
     ensures writes_inside { WritesInside (state S.Store tx.old.conn.now) (state S.Store tx.new.conn.now) result }
     ensures serves { Serves (state S.Store tx.old.conn.now) (state S.Store tx.new.conn.now) known.old request.now result }
+    ensures whole { as_text ≡ false → IfOk result (λ r. IsWhole r.1) }
     ensures learns { Follows (state S.Store tx.old.conn.now) (state S.Store tx.new.conn.now) known.old known.new request.now result }
     ensures sound { HasCleanDisk (state S.Store tx.new.conn.now) → IsInside (state S.Store tx.old.conn.now)
         → IfOk result (λ r. IsTrue r.0 → IsTrue (state S.Store tx.new.conn.now).is_open → IsDatabase (state S.Store tx.new.conn.now).now) }
@@ -105,17 +117,21 @@ pub fn serve_in<S: Alter>(
     let act = canonical(alloc, &request.act)?;
     let desk = request.desk.number() as u64;
     if let Some(entry) = find_answer(tx, desk, request.number.value())? {
-        let kept_act = entry.act.as_str();
-        let kept_reply = entry.reply.as_str();
+        let ReplyRow {
+            act: kept_act,
+            reply: kept_reply,
+        } = entry;
+        let kept = kept_act.as_str();
         let asked = act.as_str();
-        let reply = reply_again(alloc, kept_act, kept_reply, asked)?;
+        let reply = reply_again(alloc, kept, kept_reply, asked, as_text)?;
         return Ok((false, reply));
     }
     let reply = decide_in(tx, alloc, tables, known, request, act)?;
-    Ok((true, reply))
+    Ok((true, GivenReply::Reply(reply)))
 }
 
-/// Answers a request, which acts once: all its effects and its reply are committed together.
+/// Answers a request, which acts once: all its effects and its reply are committed together. A kept reply may be
+/// given by its text, if `as_text`.
 ///
 /// Each clause about the effects of a request assumes that what is known of the store is correct
 /// (`IsInformed`). The call keeps it correct (`informed`); if the call fails, nothing stays known.
@@ -125,9 +141,11 @@ pub fn deliver_on<S: Alter>(
     tables: &mut UnitTables,
     known: &mut Known,
     request: &Request,
-) -> Result<Reply, Failure>
+    as_text: bool,
+) -> Result<GivenReply, Failure>
     ensures told { HasCleanDisk (state S.Store conn.new) → IsInformed (state S.Store conn.old) known.old
-        → IfOk result (λ reply. (content : Content) → HasContent (state S.Store conn.old) content → reply ≡ answer content [] request.now) }
+        → IfOk result (λ reply. (content : Content) → HasContent (state S.Store conn.old) content → IsGiven reply (answer content [] request.now)) }
+    ensures whole { as_text ≡ false → IfOk result IsWhole }
     ensures kept { HasCleanDisk (state S.Store conn.new) → IsInformed (state S.Store conn.old) known.old → OnOk result
         ((content : Content) → HasContent (state S.Store conn.old) content → HasContent (state S.Store conn.new) (content_after content (request.now ∷ []))) }
     ensures failed { HasCleanDisk (state S.Store conn.new)
@@ -153,7 +171,7 @@ pub fn deliver_on<S: Alter>(
     }
     let mut own = mem::replace(known, Known::nothing(alloc));
     let mut tx = conn.transaction();
-    let (is_new, reply) = serve_in(&mut tx, alloc, tables, &mut own, request)?;
+    let (is_new, reply) = serve_in(&mut tx, alloc, tables, &mut own, request, as_text)?;
     if !is_new {
         *known = own;
         return Ok(reply);

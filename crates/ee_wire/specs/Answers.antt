@@ -1,5 +1,5 @@
 -- The bytes of a response (this project's rule): its status, its body and its head.
-use Rattle.std.specs.Prelude.{ℕ, Bool, true, false, ◌||◌, List, [], ◌++◌, length, codes, Option, Some, None, Result, Ok, Err}
+use Rattle.std.specs.Prelude.{ℕ, Bool, true, false, ◌||◌, List, [], ◌++◌, length, codes, string_bytes, Option, Some, None, Result, Ok, Err}
 use Rattle.std.specs.Io.KnownBytes.{Appends}
 use Rattle.serde_json.specs.Data.{Data, number, unsigned, string, object, Members, no_members, member}
 use Rattle.serde_json.specs.Written.{compact_text}
@@ -14,6 +14,7 @@ use Rattle.ee_desk_model.specs.declared.replies.Reply.TheVariants as reply
 use Rattle.ee_desk_model.specs.declared.refusals.Unserved.{Unserved}
 use Rattle.ee_desk_model.specs.declared.refusals.Unserved.TheVariants as unserved
 use Rattle.ee_desk_texts.specs.Texts.{reply_text}
+use Rattle.ee_desk_texts.specs.declared.given.GivenReply.TheVariants as given
 use Rattle.ee_wire_calls.specs.Faults.{code_of, name_of, field_name}
 use Rattle.ee_wire_calls.specs.declared.faults.Field.{Field}
 use Rattle.ee_wire_calls.specs.declared.faults.WireFault.{WireFault}
@@ -43,11 +44,12 @@ status_of_fault fault.BadMethod = status.MethodNotAllowed
 status_of_fault fault.NoMemory = status.ServiceUnavailable
 
 abbrev pub status_of : Answer → Status
-status_of (answer.Reply (reply.Added new same)) = status.Ok
-status_of (answer.Reply (reply.Opened day)) = status.Ok
-status_of (answer.Reply (reply.Ticket ticket)) = status.Ok
-status_of (answer.Reply (reply.Batch batch)) = status.Ok
-status_of (answer.Reply (reply.Refused refusal)) = status.Conflict
+status_of (answer.Reply (given.Reply (reply.Added new same))) = status.Ok
+status_of (answer.Reply (given.Reply (reply.Opened day))) = status.Ok
+status_of (answer.Reply (given.Reply (reply.Ticket ticket))) = status.Ok
+status_of (answer.Reply (given.Reply (reply.Batch batch))) = status.Ok
+status_of (answer.Reply (given.Reply (reply.Refused refusal))) = status.Conflict
+status_of (answer.Reply (given.Text text)) = status.Ok
 status_of (answer.Sheet sheet) = status.Ok
 status_of (answer.Row (Some row)) = status.Ok
 status_of (answer.Row None) = status.Conflict
@@ -124,7 +126,8 @@ fault_text fault.NoMemory = unserved_text unserved.NoMemory
 
 -- a ticket or a batch has the text of the reply that made it
 abbrev pub body_of : Answer → List ℕ
-body_of (answer.Reply reply) = reply_text reply
+body_of (answer.Reply (given.Reply reply)) = reply_text reply
+body_of (answer.Reply (given.Text text)) = string_bytes text
 body_of (answer.Sheet sheet) = sheet_text sheet
 body_of (answer.Row (Some row)) = compact_text (row_data row)
 body_of (answer.Row None) = no_rate

@@ -5,6 +5,7 @@ ghost use Rattle.ee_wire.specs.Answers.{status_of, status_of_fault, kind_of, end
 
 use ee_calculator::{Row, Sheet};
 use ee_desk_model::{Batch, Reply, Ticket, Unserved};
+use ee_desk_texts::GivenReply;
 use ee_wire_calls::WireFault;
 use ee_wire_framing::FramingFault;
 use thiserror::Error;
@@ -12,8 +13,8 @@ use thiserror::Error;
 /// The answer to a message.
 #[derive(Drop)]
 pub enum Answer {
-    /// The reply to a request.
-    Reply(Reply),
+    /// The reply to a request, itself or by its text.
+    Reply(GivenReply),
     /// The sheet of an owner's bonds.
     Sheet(Sheet),
     /// The row of a bond, or `None` if its issue period has no rates.
@@ -82,7 +83,9 @@ impl Answer {
         ensures { result ≡ status_of self.now }
     {
         match self {
-            Answer::Reply(Reply::Refused(_)) | Answer::Row(None) => Status::Conflict,
+            Answer::Reply(GivenReply::Reply(Reply::Refused(_))) | Answer::Row(None) => {
+                Status::Conflict
+            }
             Answer::Ticket(None) | Answer::Batch(None) => Status::NotFound,
             Answer::Reply(_)
             | Answer::Sheet(_)

@@ -10,7 +10,7 @@ use crate::answers::Answer;
 use crate::rows::write_row;
 use ee_calculator::{Row, Sheet, write_sheet};
 use ee_desk_model::{Reply, Unserved};
-use ee_desk_texts::{reply_text, text_of, write_number_member, write_text_member};
+use ee_desk_texts::{GivenReply, reply_text, text_of, write_number_member, write_text_member};
 use ee_wire_calls::{Field, WireFault};
 use json::Writer;
 use std::alloc::{AllocError, Global};
@@ -91,7 +91,8 @@ pub fn body_bytes(alloc: Global, answer: &Answer) -> Result<Vec<u8>, AllocError>
     ensures { IfOk result (λ v. v.items ≡ body_of answer.now) }
 {
     match answer {
-        Answer::Reply(reply) => reply_bytes(alloc, reply),
+        Answer::Reply(GivenReply::Reply(reply)) => reply_bytes(alloc, reply),
+        Answer::Reply(GivenReply::Text(text)) => Vec::from_slice(alloc, text.as_bytes()),
         Answer::Sheet(sheet) => sheet_bytes(alloc, sheet),
         Answer::Row(Some(row)) => Ok(row_text(alloc, row)?.into_bytes()),
         Answer::Row(None) => Vec::from_slice(alloc, b"{\"code\":30,\"refused\":\"NoRate\"}"),

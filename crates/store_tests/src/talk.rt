@@ -16,7 +16,7 @@ use crate::devices::Narrow;
 use ee_cli_actions::{Outcome, RunFault, StoreFault, apply_to};
 use ee_counter::{export_inventory, import_inventory, import_rates, serve};
 use ee_desk_model::{Desk, Number, Unserved, read_desk};
-use ee_desk_texts::reply_text;
+use ee_desk_texts::{GivenReply, reply_text};
 use ee_keeper::Keeper;
 use ee_wire::{Answer, Call, Query, WireFault, decode, write_reply};
 use std::alloc::Global;
@@ -195,7 +195,10 @@ fn found<K: Keeper>(keeper: &mut K, query: Query) -> Result<Answer, Unserved> {
 /// What the keeper's own call answers.
 fn called<K: Keeper>(keeper: &mut K, call: &Call) -> Result<Answer, Unserved> {
     match call {
-        Call::Request(request) => Ok(Answer::Reply(keeper.deliver(request)?)),
+        Call::Request(request) => {
+            let reply = keeper.deliver(request)?;
+            Ok(Answer::Reply(GivenReply::Reply(reply)))
+        }
         Call::Query(query) => found(keeper, *query),
     }
 }

@@ -8,7 +8,7 @@ use ee_desk::{Books, ListKeeper, Parts};
 use ee_desk_decide::{View, ViewParts, decide};
 use ee_desk_model::{Act, UnitTables};
 use ee_desk_soundness::{checked, copy_tickets};
-use ee_desk_texts::{read_act, reply_text};
+use ee_desk_texts::{GivenReply, read_act, reply_text};
 use ee_units::{Cents, Rate};
 use ee_value::Rates;
 use ee_wire::Answer;
@@ -225,7 +225,7 @@ fn parts_again(alloc: Global, books: &Books) -> Option<String> {
 fn post_text(alloc: Global, keeper: &mut ListKeeper, message: &str) -> Option<String> {
     let (path, body) = message.split_once(' ')?;
     match answer_message(alloc, keeper, path.as_bytes(), b"POST", body.as_bytes()) {
-        Answer::Reply(reply) => reply_text(alloc, &reply).ok(),
+        Answer::Reply(GivenReply::Reply(reply)) => reply_text(alloc, &reply).ok(),
         _ => None,
     }
 }

@@ -1,9 +1,10 @@
-use Rattle.std.proofs.Common.{◌≡◌, subst, ap, sym, ◌∙◌, OnErr, [], ◌∷◌, ◌+◌}
+use Rattle.std.proofs.Common.{subst, ap, sym, ◌∙◌, OnErr, [], ◌∷◌, ◌+◌}
 use Rattle.sqlite.specs.Held.{state}
 use Rattle.sqlite.specs.State.{HasCleanDisk, Survives, State}
 use Rattle.ee_desk_model.specs.Repeats.{Content}
 use Rattle.ee_desk_model.specs.Contents.{content_after}
 use Rattle.ee_desk_model.specs.Answers.{answer}
+use Rattle.ee_desk_texts.specs.Given.{IsGiven}
 use Rattle.ee_store_tables.proofs.Lemmas.Transactions.{clean_before, on_err_from, rolled_keeps, failed_keeps, commit_survives}
 use Rattle.ee_store_books.specs.Seen.{StandsFor, HasContent}
 use Rattle.ee_store_delivery.specs.Known.{AreKnown, IsInformed}
@@ -42,7 +43,7 @@ returns-then-not-is_new-clause-told g c =
     let q = c.args.request.now in
     let new = state g.S.Store c.drop-tx-then-not-is_new.new.self.0 in
     let same = c.conn-then-not-is_new-1.given.1 (sym (c.in_ok-is_new.ensures.same_reference ∙ c.transaction-tx.ensures.same_reference)) in
-    subst (λ h. HasCleanDisk (state g.S.Store h) → IsInformed old c.args.known.now → (S : Content) → HasContent old S → c.in_ok-is_new.reply ≡ answer S [] q) (sym same) (λ clean informed S has.
+    subst (λ h. HasCleanDisk (state g.S.Store h) → IsInformed old c.args.known.now → (S : Content) → HasContent old S → IsGiven c.in_ok-is_new.reply (answer S [] q)) (sym same) (λ clean informed S has.
     let before = clean_before middle new c.drop-tx-then-not-is_new.ensures.survives clean in
     ((c.in_ok-is_new.ensures.serves before (inside_content old start is settled S has) S (sees_content old start is settled S has)).served (known_in old start is settled middle c.args.known.now c.replace-own.result c.replace-own.ensures.value c.serve_in.ensures.writes_inside.crash before (c.in_ok-is_new.ensures.writes_inside.commit before) (c.in_ok-is_new.ensures.writes_inside.still_open before) informed S has)).told)
 
@@ -268,7 +269,7 @@ returns-clause-told g c =
     let q = c.args.request.now in
     let new = state g.S.Store c.commit.new.self.0 in
     let same = c.conn-2-1.given.1 (sym (c.in_ok-is_new.ensures.same_reference ∙ c.transaction-tx.ensures.same_reference)) in
-    subst (λ h. HasCleanDisk (state g.S.Store h) → IsInformed old c.args.known.now → (S : Content) → HasContent old S → c.in_ok-is_new.reply ≡ answer S [] q) (sym same) (λ clean informed S has.
+    subst (λ h. HasCleanDisk (state g.S.Store h) → IsInformed old c.args.known.now → (S : Content) → HasContent old S → IsGiven c.in_ok-is_new.reply (answer S [] q)) (sym same) (λ clean informed S has.
     let before = clean_before middle new c.in_ok-commit.ensures.survives clean in
     ((c.in_ok-is_new.ensures.serves before (inside_content old start is settled S has) S (sees_content old start is settled S has)).served (known_in old start is settled middle c.args.known.now c.replace-own.result c.replace-own.ensures.value c.serve_in.ensures.writes_inside.crash before (c.in_ok-is_new.ensures.writes_inside.commit before) (c.in_ok-is_new.ensures.writes_inside.still_open before) informed S has)).told)
 

@@ -21,13 +21,12 @@ returns-in-Some-clause-serves g c clean inside S sees =
     let old = state g.S.Store c.args.tx.now.conn.now in
     let new = state g.S.Store c.find_answer.new.tx.conn.now in
     let found = c.in_ok-entry.ensures.found clean (rows_of S) sees.rows in
-    let act : c.as_str-kept_act.result.now ≡ string_bytes c.in-Some.entry.act = search rules in
-    let reply : c.as_str-kept_reply.result.now ≡ string_bytes c.in-Some.entry.reply = search rules in
+    let act : c.as_str-kept.result.now ≡ string_bytes c.in-Some.entry.act = search rules in
     let asked : c.as_str-asked.result.now ≡ act_text q.act = search rules in
     is_again old new c.args.known.now q S (row_of_reply c.in-Some.entry) c.in_ok-reply.reply (c.in_ok-entry.ensures.only_queries.same clean inside) sees
     (sym (ap (option_map row_of_reply) c.in-Some.is) ∙ found ∙ ap (finite.get (rows_of S).answers) (λ i. (c.number-desk.ensures.value i, c.value.ensures.value i)))
     c.canonical.ensures.fits
-    (λ number kept again is fits one two three. c.in_ok-reply.ensures.told number kept again is fits (act ∙ one) (reply ∙ two) (asked ∙ three))
+    (λ number kept again is fits one two three. c.in_ok-reply.ensures.told number kept again is fits (act ∙ one) two (asked ∙ three))
 
 pub returns-clause-serves : goal.returns-clause-serves
 returns-clause-serves g c clean inside S sees =
@@ -51,12 +50,11 @@ returns-in_err-entry-clause-cause g c clean inside unlimited S sees any =
 pub returns-in_err-reply-clause-cause : goal.returns-in_err-reply-clause-cause
 returns-in_err-reply-clause-cause g c clean inside unlimited S sees any =
     let n = number_of c.args.request.now in
-    let reply : c.as_str-kept_reply.result.now ≡ string_bytes c.in-Some.entry.reply = search rules in
     let found = kept_by (row_of_reply c.in-Some.entry) (finite.get S.kept n)
     (sym (ap (option_map row_of_reply) c.in-Some.is) ∙ c.in_ok-entry.ensures.found clean (rows_of S) sees.rows ∙ ap (finite.get (rows_of S).answers) (λ i. (c.number-desk.ensures.value i, c.value.ensures.value i)) ∙ get_reply_row S.kept n) in
     let right = subst (λ o. IfSome o (IsKept n)) found.1 (sees.right.kept n) in
     memory_handed_on (state g.S.Store c.args.tx.now.conn.now) (state g.S.Store c.find_answer.new.tx.conn.now) c.from_residual-in_err-reply.result c.in_err-reply.field-0.0 c.from_residual-in_err-reply.ensures.1
-    (c.in_err-reply.ensures.read n found.0 right (reply ∙ ap (λ r. r.reply) found.2))
+    (c.in_err-reply.ensures.read n found.0 right (ap (λ r. r.reply) found.2))
 
 pub returns-in_err-reply-2-clause-cause : goal.returns-in_err-reply-2-clause-cause
 returns-in_err-reply-2-clause-cause g c clean inside unlimited S sees any =

@@ -9,7 +9,7 @@ use Rattle.ee_store_books.proofs.Lemmas.Lookups.{stands_committed}
 use Rattle.ee_store.specs.Served.{unserved_as}
 use Rattle.ee_store.proofs.Following.{follows_decided}
 use Rattle.ee_store.proofs.History.{goes_decided, goes_lost, goes_unserved}
-use Rattle.ee_store.proofs.keeper.SqlKeeper.deliver.Goals as goal
+use Rattle.ee_store.proofs.keeper.SqlKeeper.respond.Goals as goal
 
 was_failed : (failure : Failure) → unserved_as failure ≡ unserved.StoreFailed → failure ≡ StoreFailed
 was_failed NoMemory told = absurd (cc)
