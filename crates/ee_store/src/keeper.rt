@@ -97,7 +97,7 @@ impl<S: Alter> SqlKeeper<S> {
     }
 
     /// Answers a request, as `deliver` does and with the same clauses. If `as_text`, the reply to a kept number is given
-    /// by its text, unless it is a refusal: it isn't read and written anew.
+    /// by its text, which isn't read, unless it is a refusal.
     ///
     /// - `responds`: what is given is the reply, or its text.
     /// - `whole`: it is the reply itself, unless a text is asked for.
