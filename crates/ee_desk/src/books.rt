@@ -66,7 +66,7 @@ impl Books {
         ensures unsound { IfErr result (λ fault. fault ≡ PartsFault.Unsound → AreUnsound parts) }
     {
         let indexes = checked(alloc, &parts)?;
-        let ledger = Ledger::of_parts(parts, indexes);
+        let ledger = Ledger::of_parts(alloc, parts, indexes)?;
         Ok(Books { alloc, ledger })
     }
 

@@ -233,18 +233,19 @@ impl Ledger {
 }
 
 impl Ledger {
-    /// The ledger with these parts and their indexes.
-    pub fn of_parts(parts: Parts, indexes: Indexes) -> Ledger
-        requires marked { AreMarked indexes.bonds.entries parts.tickets }
+    /// The ledger with these parts and their indexes. Fails only if memory is refused.
+    pub fn of_parts(alloc: Global, parts: Parts, indexes: Indexes) -> Result<Ledger, AllocError>
+        requires marked { AreMarked indexes.bonds parts.tickets }
         requires counted { AreCounts (batch_so_far parts.day parts.tickets) indexes.counts }
-        ensures { result ≡ books_of indexes.terms.entries indexes.bonds.entries parts.day parts.last_day parts.tickets parts.batches }
+        ensures { IfOk result (λ ledger. ledger ≡ books_of indexes.terms.entries indexes.bonds parts.day parts.last_day parts.tickets parts.batches) }
     {
         let Indexes {
             tables,
             terms,
-            bonds,
+            bonds: sorted,
             counts,
         } = indexes;
+        let bonds = sorted.to_map(alloc)?;
         let Parts {
             day,
             last_day,
@@ -252,7 +253,7 @@ impl Ledger {
             batches,
             ..
         } = parts;
-        Ledger {
+        Ok(Ledger {
             tables,
             rates: terms,
             bonds,
@@ -261,7 +262,7 @@ impl Ledger {
             tickets: tickets.into_vec(),
             batches: batches.into_vec(),
             counts,
-        }
+        })
     }
 
     /// A copy of the ledger as lists.

@@ -8,15 +8,9 @@ use Rattle.std.specs.declared.cmp.Ordering.{Ordering}
 use Rattle.std.specs.declared.cmp.Ordering.TheVariants.{Less, Equal, Greater}
 use Rattle.std.proofs.lemmas.List.{map-append}
 use borrow.Author.Tests.{lt-ltb}
-use Rattle.ee_units.specs.Spelling.{SerialNumber}
 use Rattle.ee_value.specs.declared.rates.Rates.{Rates}
 use Rattle.ee_value.specs.declared.rates.RateRow.{RateRow}
-use Rattle.ee_calculator.specs.declared.bonds.Bond.{Bond}
-use Rattle.ee_desk_model.specs.declared.changes.Held.{Held}
-use Rattle.ee_desk_model.specs.Serials.{serial_cmp}
-use Rattle.ee_desk_model.proofs.Lemmas.Maps.{serials_total}
-use Rattle.ee_desk_soundness.specs.Checks.{InOrder, HaveRisingMonths, HaveRisingSerials, entry_of_row}
-use Rattle.ee_desk_soundness.specs.Marks.{unpaid}
+use Rattle.ee_desk_soundness.specs.Checks.{InOrder, HaveRisingMonths, entry_of_row}
 use Rattle.ee_desk_soundness.proofs.Walks.{taken_is}
 use Rattle.ee_desk_soundness.proofs.InOrder.{in_order_map}
 
@@ -57,8 +51,3 @@ pub rates_more : (rows : List RateRow) (i : ℕ) (row : RateRow) (es : List (ℕ
     → es ≡ map entry_of_row (take i rows) → insert_entry nat_cmp es row.from row.rates ≡ map entry_of_row (take (i + 1) rows)
 rates_more rows i row es ordered h is e =
     entries_more nat_cmp nat_cmp_total (λ r. r.from) (λ r. r.rates) rows i row es (in_order_map _ _ less_is (map (λ r. r.from) rows) ordered) h is e
-
-pub held_more : (bonds : List Bond) (i : ℕ) (bond : Bond) (es : List (SerialNumber × Held)) → HaveRisingSerials bonds → i < length bonds → bond ≡ get_or bonds i bond
-    → es ≡ map unpaid (take i bonds) → insert_entry serial_cmp es bond.serial (unpaid bond).1 ≡ map unpaid (take (i + 1) bonds)
-held_more bonds i bond es ordered h is e =
-    entries_more serial_cmp serials_total (λ b. b.serial) (λ b. (unpaid b).1) bonds i bond es ordered h is e

@@ -2,6 +2,7 @@ mod Walks
 mod InOrder
 mod Entries
 mod PaidMarks
+mod BondPlaces
 mod Payable
 mod Counts
 mod SortedRows

@@ -29,8 +29,8 @@ module _ (parts : Parts) (terms : List (ℕ × Rates)) (held : List (SerialNumbe
   pub small : IsRegister parts.rates parts.bonds → CanBePaid (finite.from_entries terms) held parts.tickets → AllByRecursion IsSmall parts.tickets
   small register paid = let own = paid_here paid in all_small (rates_in parts.rates) (bonds_held (map unpaid parts.bonds)) (rates_right parts.rates register.right) parts.tickets own.right
 
-  pub made_is : (made : Indexes) → made.terms.entries ≡ terms → IsRegister parts.rates parts.bonds → CanBePaid (finite.from_entries terms) held parts.tickets → AreMarked made.bonds.entries parts.tickets
-      → bonds_held made.bonds.entries ≡ bonds_held held → AreClosed parts.tickets parts.batches parts.day parts.last_day → AllByRecursion IsDay (days_of parts.batches parts.day)
+  pub made_is : (made : Indexes) → made.terms.entries ≡ terms → IsRegister parts.rates parts.bonds → CanBePaid (finite.from_entries terms) held parts.tickets → AreMarked made.bonds parts.tickets
+      → bonds_held made.bonds ≡ bonds_held held → AreClosed parts.tickets parts.batches parts.day parts.last_day → AllByRecursion IsDay (days_of parts.batches parts.day)
       → made.counts ≡ counts_in (batch_so_far parts.day parts.tickets) → IsMadeOf parts made
   made_is made same register paid marked kept closed range counted = record {
     sound = passed parts register (paid_here paid) closed range;

@@ -35,7 +35,7 @@ pub same_bonds : (es fs : List (SerialNumber × Held)) (pays : SerialNumber → 
 same_bonds es fs pays n is = same_map serials_total serials_exact _ _ (λ q.
     get_bond fs q ∙ ap (option_map (λ h. h.bond)) (is q) ∙ bond_stays (pays q) n (held_at es q) ∙ sym (get_bond es q))
 
-unmarked : (n : ℕ) (o : Option Held) → option_map (marked false n) o ≡ o
+pub unmarked : (n : ℕ) (o : Option Held) → option_map (marked false n) o ≡ o
 unmarked n None = refl
 unmarked n (Some h) = refl
 

@@ -58,6 +58,10 @@ HaveRisingMonths rows = InOrder ◌<◌ (map (λ row. row.from) rows)
 abbrev pub HaveRisingSerials : List Bond → Type 0
 HaveRisingSerials bonds = InOrder IsBefore (map (λ bond. bond.serial) bonds)
 
+-- the same, for bonds by their serial numbers
+abbrev pub RiseBySerial : List (SerialNumber × Held) → Type 0
+RiseBySerial bonds = InOrder IsBefore (map (λ e. e.0) bonds)
+
 -- the books that parts represent
 abbrev pub books_of : Parts → PlainBooks
 books_of parts = record {

@@ -1,4 +1,4 @@
--- What books in memory keep besides their parts.
+-- What is made of parts while they are checked.
 use Rattle.std.specs.Prelude.{◌≡◌, map}
 use Rattle.ee_desk_model.specs.PlainBooks.{batch_so_far}
 use Rattle.ee_desk_soundness.specs.declared.parts.Parts.{Parts}
@@ -11,6 +11,6 @@ use Rattle.ee_desk_soundness.specs.Days.{counts_in}
 pub record IsMadeOf (parts : Parts) (made : Indexes) : Type 0 where
   pub sound : AreSound parts
   pub rates : made.terms.entries ≡ map entry_of_row parts.rates
-  pub bonds : bonds_held made.bonds.entries ≡ bonds_in parts.bonds
-  pub marked : AreMarked made.bonds.entries parts.tickets
+  pub bonds : bonds_held made.bonds ≡ bonds_in parts.bonds
+  pub marked : AreMarked made.bonds parts.tickets
   pub counted : made.counts ≡ counts_in (batch_so_far parts.day parts.tickets)

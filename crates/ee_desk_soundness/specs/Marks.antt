@@ -17,6 +17,10 @@ use Rattle.ee_desk_model.specs.Paid.{NoneTwice}
 abbrev pub bonds_held : List (SerialNumber × Held) → FinMap serial_cmp Bond
 bonds_held bonds = finite.from_entries (map (λ e. (e.0, e.1.bond)) bonds)
 
+-- bonds by their serial numbers
+abbrev pub by_serial : List Held → List (SerialNumber × Held)
+by_serial bonds = map (λ held. (held.bond.serial, held)) bonds
+
 -- the entry of a serial number
 abbrev pub held_at : List (SerialNumber × Held) → SerialNumber → Option Held
 held_at bonds serial = lookup (is_at (serial_cmp serial)) bonds

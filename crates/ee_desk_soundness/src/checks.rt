@@ -12,40 +12,40 @@ ghost use Rattle.ee_desk_soundness.specs.Days.{counts_in, days_of, AreCounted, F
 
 use crate::days::{are_counted, counts_of, days_rise, in_range, last_day, open_counts};
 use crate::lines::{are_numbered, are_right_tickets};
-use crate::marks::{held_by_serial, mark_paid};
+use crate::marks::mark_paid;
 use crate::order::{days_never_fall, months_rise, serials_rise};
 use crate::parts::{Parts, PartsFault};
 use crate::register::{are_right_bonds, terms_by_month};
+use crate::sorted::SortedBonds;
 use ee_calculator::Bond;
 use ee_desk_decide::DayCounts;
-use ee_desk_model::{Batch, Held, RateRow, Terms, Ticket, UnitTables};
-use ee_units::{Day, IssueMonth, Serial};
+use ee_desk_model::{Batch, RateRow, Terms, Ticket, UnitTables};
+use ee_units::{Day, IssueMonth};
 use std::alloc::Global;
 use std::collections::BTreeMap;
 
-/// What books in memory keep besides the lists of their parts: the tables of their rates, terms by
-/// month, bonds by serial number, each marked with the ticket that pays it, and the counts of the open
-/// day.
+/// What is made of the parts of books while they are checked: the tables of their rates, terms by month,
+/// bonds by serial number, each marked with the ticket that pays it, and the counts of the open day.
 #[derive(Drop)]
 pub struct Indexes {
     pub tables: UnitTables,
     pub terms: BTreeMap<IssueMonth, Terms>,
-    pub bonds: BTreeMap<Serial, Held>,
+    pub bonds: SortedBonds,
     pub counts: DayCounts,
 }
 
-/// Rates and bonds as maps.
+/// Rates and bonds by their keys.
 #[derive(Drop)]
 struct RegisterMaps {
     tables: UnitTables,
     terms: BTreeMap<IssueMonth, Terms>,
-    bonds: BTreeMap<Serial, Held>,
+    bonds: SortedBonds,
 }
 
-/// Makes maps of rates and bonds, if sound books may have them.
+/// Rates and bonds by their keys, if sound books may have them.
 fn registered(alloc: Global, rates: &[RateRow], bonds: &[Bond]) -> Result<RegisterMaps, PartsFault>
     ensures terms { IfOk result (λ maps. maps.terms.entries ≡ map entry_of_row rates.now) }
-    ensures bonds { IfOk result (λ maps. maps.bonds.entries ≡ map unpaid bonds.now) }
+    ensures bonds { IfOk result (λ maps. maps.bonds ≡ map unpaid bonds.now) }
     ensures right { IfOk result (λ _. IsRegister rates.now bonds.now) }
     ensures unsound { IfErr result (λ fault. fault ≡ PartsFault.Unsound → IsRegister rates.now bonds.now → ⊥) }
 {
@@ -60,7 +60,7 @@ fn registered(alloc: Global, rates: &[RateRow], bonds: &[Bond]) -> Result<Regist
     if !are_right_bonds(&terms, bonds) {
         return Err(PartsFault::Unsound);
     }
-    let bonds = held_by_serial(alloc, bonds)?;
+    let bonds = SortedBonds::all_unpaid(alloc, bonds)?;
     Ok(RegisterMaps {
         tables,
         terms,
@@ -69,15 +69,11 @@ fn registered(alloc: Global, rates: &[RateRow], bonds: &[Bond]) -> Result<Regist
 }
 
 /// Marks the bonds that tickets pay, if sound books may have these tickets.
-fn pay(
-    terms: &BTreeMap<IssueMonth, Terms>,
-    bonds: &mut BTreeMap<Serial, Held>,
-    tickets: &[Ticket],
-) -> bool
-    requires { AreMarked bonds.old.entries [] }
-    ensures paid { (result ≡ true) ↔ CanBePaid (finite.from_entries terms.now.entries) bonds.old.entries tickets.now }
-    ensures marked { result ≡ true → AreMarked bonds.new.entries tickets.now }
-    ensures bonds { result ≡ true → bonds_held bonds.new.entries ≡ bonds_held bonds.old.entries }
+fn pay(terms: &BTreeMap<IssueMonth, Terms>, bonds: &mut SortedBonds, tickets: &[Ticket]) -> bool
+    requires { AreMarked bonds.old [] }
+    ensures paid { (result ≡ true) ↔ CanBePaid (finite.from_entries terms.now.entries) bonds.old tickets.now }
+    ensures marked { result ≡ true → AreMarked bonds.new tickets.now }
+    ensures bonds { result ≡ true → bonds_held bonds.new ≡ bonds_held bonds.old }
 {
     if !are_numbered(tickets) {
         return false;
@@ -185,7 +181,7 @@ fn checked_lists(
     })
 }
 
-/// What books in memory keep besides these parts. Fails if no sound books have these parts, or if memory
+/// What is made of these parts while they are checked. Fails if no sound books have these parts, or if memory
 /// is refused.
 pub fn checked(alloc: Global, parts: &Parts) -> Result<Indexes, PartsFault>
     ensures ok { IfOk result (IsMadeOf parts.now) }

@@ -15,9 +15,11 @@ mod marks;
 mod order;
 mod parts;
 mod register;
+mod sorted;
 
 pub use checks::{Indexes, checked};
 pub use laws::parts_law;
 pub use lists::{copy_tickets, held_bonds, rate_rows};
 pub use marks::mark_all;
 pub use parts::{Parts, PartsFault};
+pub use sorted::SortedBonds;

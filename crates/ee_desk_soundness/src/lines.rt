@@ -9,10 +9,11 @@ ghost use Rattle.ee_desk_model.specs.Sound.{IsRightLine, IsRightTicket, Numbered
 ghost use Rattle.ee_desk_soundness.specs.Checks.{PaysBond};
 ghost use Rattle.ee_desk_soundness.specs.Marks.{bonds_held};
 
+use crate::sorted::SortedBonds;
 use ee_calculator::Bond;
-use ee_desk_model::{Held, Line, MOST_SERIALS, Terms, Ticket};
+use ee_desk_model::{Line, MOST_SERIALS, Terms, Ticket};
 use ee_units::calendar::{month_of, period_of};
-use ee_units::{Age, Cents, IssueMonth, Month, Serial};
+use ee_units::{Age, Cents, IssueMonth, Month};
 use ee_value::{Quote, bond_value};
 use std::collections::BTreeMap;
 
@@ -48,13 +49,13 @@ fn pays_bond(rates: &BTreeMap<IssueMonth, Terms>, bond: &Bond, ticket: &Ticket, 
 /// Whether a ticket's line pays a registered bond correctly.
 fn is_right_line(
     rates: &BTreeMap<IssueMonth, Terms>,
-    bonds: &BTreeMap<Serial, Held>,
+    bonds: &SortedBonds,
     ticket: &Ticket,
     line: &Line,
 ) -> bool
-    ensures { (result ≡ true) ↔ IsRightLine (finite.from_entries rates.now.entries) (bonds_held bonds.now.entries) ticket.now line.now }
+    ensures { (result ≡ true) ↔ IsRightLine (finite.from_entries rates.now.entries) (bonds_held bonds.now) ticket.now line.now }
 {
-    match bonds.get(&line.serial) {
+    match bonds.get(line.serial) {
         Some(held) => pays_bond(rates, &held.bond, ticket, line),
         None => false,
     }
@@ -62,11 +63,11 @@ fn is_right_line(
 
 fn are_right_lines(
     rates: &BTreeMap<IssueMonth, Terms>,
-    bonds: &BTreeMap<Serial, Held>,
+    bonds: &SortedBonds,
     ticket: &Ticket,
     lines: &[Line],
 ) -> bool
-    ensures { (result ≡ true) ↔ AllByRecursion (IsRightLine (finite.from_entries rates.now.entries) (bonds_held bonds.now.entries) ticket.now) lines.now }
+    ensures { (result ≡ true) ↔ AllByRecursion (IsRightLine (finite.from_entries rates.now.entries) (bonds_held bonds.now) ticket.now) lines.now }
 {
     for line in lines {
         if !is_right_line(rates, bonds, ticket, line) {
@@ -93,10 +94,10 @@ fn sums_to(lines: &[Line], total: Cents) -> bool
 /// Whether a ticket has 1 to 100 lines, all of them correct, and their sum.
 fn is_right_ticket(
     rates: &BTreeMap<IssueMonth, Terms>,
-    bonds: &BTreeMap<Serial, Held>,
+    bonds: &SortedBonds,
     ticket: &Ticket,
 ) -> bool
-    ensures { (result ≡ true) ↔ IsRightTicket (finite.from_entries rates.now.entries) (bonds_held bonds.now.entries) ticket.now }
+    ensures { (result ≡ true) ↔ IsRightTicket (finite.from_entries rates.now.entries) (bonds_held bonds.now) ticket.now }
 {
     let lines = ticket.lines.as_slice();
     !lines.is_empty()
@@ -108,10 +109,10 @@ fn is_right_ticket(
 /// Whether books with these rates and bonds may have each of the tickets.
 pub fn are_right_tickets(
     rates: &BTreeMap<IssueMonth, Terms>,
-    bonds: &BTreeMap<Serial, Held>,
+    bonds: &SortedBonds,
     tickets: &[Ticket],
 ) -> bool
-    ensures { (result ≡ true) ↔ AllByRecursion (IsRightTicket (finite.from_entries rates.now.entries) (bonds_held bonds.now.entries)) tickets.now }
+    ensures { (result ≡ true) ↔ AllByRecursion (IsRightTicket (finite.from_entries rates.now.entries) (bonds_held bonds.now)) tickets.now }
 {
     for ticket in tickets {
         if !is_right_ticket(rates, bonds, ticket) {

@@ -114,7 +114,7 @@ pub fn bonds_in(
 ) -> Result<Option<Vec<Bond>>, AllocError>
     ensures { IfOk result (λ o. option_map (λ v. v.items) o ≡ each (bond_in (mark_at marks.now.entries)) rows.now) }
 {
-    let mut bonds = Vec::new(alloc);
+    let mut bonds = Vec::with_capacity(alloc, rows.len())?;
     for row in rows {
         let Some(coowner) = optional_customer(row.coowner) else {
             return Ok(None);

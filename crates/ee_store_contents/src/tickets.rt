@@ -27,7 +27,7 @@ fn lines_in(
 ) -> Result<Option<Vec<Line>>, AllocError>
     ensures { IfOk result (λ o. option_map (λ v. v.items) o ≡ lines_at ticket 1 rows.now) }
 {
-    let mut lines = Vec::new(alloc);
+    let mut lines = Vec::with_capacity(alloc, rows.len())?;
     for (i, row) in rows.iter().enumerate() {
         let Some(line) = line_in(ticket, i as u64 + 1, row) else {
             return Ok(None);
@@ -74,7 +74,7 @@ pub fn tickets_in(
 ) -> Result<Option<Vec<Ticket>>, AllocError>
     ensures { IfOk result (λ o. option_map (λ v. v.items) o ≡ tickets_in rows.now lines.now) }
 {
-    let mut tickets = Vec::new(alloc);
+    let mut tickets = Vec::with_capacity(alloc, rows.len())?;
     let mut rest = lines;
     for row in rows {
         if row.bonds > rest.len() as u64 {

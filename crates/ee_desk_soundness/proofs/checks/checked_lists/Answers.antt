@@ -13,16 +13,16 @@ returns-in_err-maps-clause-unsound c =
 
 pub pay-requires : goal.pay-requires
 pay-requires c =
-    unmarked (parts_in c.args.rates.now c.args.bonds.now c.args.day c.args.last c.args.tickets.now c.args.batches.now) c.in_ok-maps.maps.terms.entries c.in_ok-maps.maps.bonds.entries c.in_ok-maps.ensures.terms c.in_ok-maps.ensures.bonds
+    unmarked (parts_in c.args.rates.now c.args.bonds.now c.args.day c.args.last c.args.tickets.now c.args.batches.now) c.in_ok-maps.maps.terms.entries c.in_ok-maps.maps.bonds c.in_ok-maps.ensures.terms c.in_ok-maps.ensures.bonds
 
 pub returns-then-not-pay-clause-unsound : goal.returns-then-not-pay-clause-unsound
 returns-then-not-pay-clause-unsound c =
-    λ e. not_paid (parts_in c.args.rates.now c.args.bonds.now c.args.day c.args.last c.args.tickets.now c.args.batches.now) c.in_ok-maps.maps.terms.entries c.in_ok-maps.maps.bonds.entries c.in_ok-maps.ensures.terms c.in_ok-maps.ensures.bonds (λ paid. let full = c.pay.ensures.paid.1 paid in absurd (search rules))
+    λ e. not_paid (parts_in c.args.rates.now c.args.bonds.now c.args.day c.args.last c.args.tickets.now c.args.batches.now) c.in_ok-maps.maps.terms.entries c.in_ok-maps.maps.bonds c.in_ok-maps.ensures.terms c.in_ok-maps.ensures.bonds (λ paid. let full = c.pay.ensures.paid.1 paid in absurd (search rules))
 
 pub closed-requires : goal.closed-requires
 closed-requires c =
     let holds : c.pay.result ≡ true = search rules in
-    small (parts_in c.args.rates.now c.args.bonds.now c.args.day c.args.last c.args.tickets.now c.args.batches.now) c.in_ok-maps.maps.terms.entries c.in_ok-maps.maps.bonds.entries c.in_ok-maps.ensures.terms c.in_ok-maps.ensures.bonds c.in_ok-maps.ensures.right (c.pay.ensures.paid.0 holds)
+    small (parts_in c.args.rates.now c.args.bonds.now c.args.day c.args.last c.args.tickets.now c.args.batches.now) c.in_ok-maps.maps.terms.entries c.in_ok-maps.maps.bonds c.in_ok-maps.ensures.terms c.in_ok-maps.ensures.bonds c.in_ok-maps.ensures.right (c.pay.ensures.paid.0 holds)
 
 pub returns-in_err-counts-clause-unsound : goal.returns-in_err-counts-clause-unsound
 returns-in_err-counts-clause-unsound c =
@@ -32,5 +32,5 @@ returns-in_err-counts-clause-unsound c =
 pub returns-clause-ok : goal.returns-clause-ok
 returns-clause-ok c =
     let holds : c.pay.result ≡ true = search rules in
-    made_is (parts_in c.args.rates.now c.args.bonds.now c.args.day c.args.last c.args.tickets.now c.args.batches.now) c.in_ok-maps.maps.terms.entries c.in_ok-maps.maps.bonds.entries c.in_ok-maps.ensures.terms c.in_ok-maps.ensures.bonds _ refl c.in_ok-maps.ensures.right (c.pay.ensures.paid.0 holds) (c.pay.ensures.marked holds) (c.pay.ensures.bonds holds)
+    made_is (parts_in c.args.rates.now c.args.bonds.now c.args.day c.args.last c.args.tickets.now c.args.batches.now) c.in_ok-maps.maps.terms.entries c.in_ok-maps.maps.bonds c.in_ok-maps.ensures.terms c.in_ok-maps.ensures.bonds _ refl c.in_ok-maps.ensures.right (c.pay.ensures.paid.0 holds) (c.pay.ensures.marked holds) (c.pay.ensures.bonds holds)
     c.in_ok-counts.ensures.right c.in_range.ensures c.in_ok-counts.ensures.counts

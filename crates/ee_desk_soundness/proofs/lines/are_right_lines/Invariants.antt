@@ -6,4 +6,4 @@ use Rattle.ee_desk_soundness.specs.Marks.{bonds_held}
 use Rattle.ee_desk_soundness.proofs.lines.are_right_lines.Given as goal
 
 abbrev pub invariant-loop-line : goal.invariant-loop-line
-invariant-loop-line l = AllByRecursion (IsRightLine (finite.from_entries l.rates.entries) (bonds_held l.bonds.entries) l.ticket) (drop l.line-index l.lines) ↔ AllByRecursion (IsRightLine (finite.from_entries l.rates.entries) (bonds_held l.bonds.entries) l.ticket) l.lines
+invariant-loop-line l = AllByRecursion (IsRightLine (finite.from_entries l.rates.entries) (bonds_held l.bonds) l.ticket) (drop l.line-index l.lines) ↔ AllByRecursion (IsRightLine (finite.from_entries l.rates.entries) (bonds_held l.bonds) l.ticket) l.lines

@@ -9,6 +9,6 @@ use Rattle.ee_desk_soundness.proofs.marks.mark_free.Given as goal
 
 abbrev pub invariant-loop-line : goal.invariant-loop-line
 invariant-loop-line l = record {
-  free : (more : List Line) → ArePayable l.fn.bonds.entries (l.lines ++ more) ↔ ArePayable l.bonds.entries (drop l.line-index l.lines ++ more);
-  marks : (q : SerialNumber) → held_at l.bonds.entries q ≡ option_map (marked (list_any (λ line. same_serial q line.serial) (take l.line-index l.lines)) l.ticket) (held_at l.fn.bonds.entries q);
+  free : (more : List Line) → ArePayable l.fn.bonds (l.lines ++ more) ↔ ArePayable l.bonds (drop l.line-index l.lines ++ more);
+  marks : (q : SerialNumber) → held_at l.bonds q ≡ option_map (marked (list_any (λ line. same_serial q line.serial) (take l.line-index l.lines)) l.ticket) (held_at l.fn.bonds q);
 }

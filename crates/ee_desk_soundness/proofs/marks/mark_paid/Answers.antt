@@ -13,9 +13,9 @@ loop-ticket-preserved c =
     let free = c.mark_free.ensures.free holds in
     let marks = c.mark_free.ensures.marked holds in
     record {
-      payable = tickets_on c.loop-ticket.bonds.entries c.mark_free.new.bonds.entries c.args.tickets.now c.loop-ticket.ticket-index c.ticket-item.result c.as_slice.result.now c.loop-ticket-test.true c.ticket-item.is
-          c.as_slice.ensures free (ArePayable c.args.bonds.now.entries (paid_lines c.args.tickets.now)) c.loop-ticket.invariant.payable;
-      marks = marks_on c.loop-ticket.bonds.entries c.mark_free.new.bonds.entries c.args.tickets.now c.loop-ticket.ticket-index c.ticket-item.result c.as_slice.result.now c.loop-ticket-test.true c.ticket-item.is
+      payable = tickets_on c.loop-ticket.bonds c.mark_free.new.bonds c.args.tickets.now c.loop-ticket.ticket-index c.ticket-item.result c.as_slice.result.now c.loop-ticket-test.true c.ticket-item.is
+          c.as_slice.ensures free (ArePayable c.args.bonds.now (paid_lines c.args.tickets.now)) c.loop-ticket.invariant.payable;
+      marks = marks_on c.loop-ticket.bonds c.mark_free.new.bonds c.args.tickets.now c.loop-ticket.ticket-index c.ticket-item.result c.as_slice.result.now c.loop-ticket-test.true c.ticket-item.is
           c.as_slice.ensures free marks c.loop-ticket.invariant.marks;
-      bonds = same_bonds c.loop-ticket.bonds.entries c.mark_free.new.bonds.entries (λ q. list_any (λ line. same_serial q line.serial) c.as_slice.result.now) c.ticket-item.result.ticket marks ∙ c.loop-ticket.invariant.bonds;
+      bonds = same_bonds c.loop-ticket.bonds c.mark_free.new.bonds (λ q. list_any (λ line. same_serial q line.serial) c.as_slice.result.now) c.ticket-item.result.ticket marks ∙ c.loop-ticket.invariant.bonds;
     }

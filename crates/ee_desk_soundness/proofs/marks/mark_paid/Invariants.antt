@@ -5,7 +5,7 @@ use Rattle.ee_desk_soundness.proofs.marks.mark_paid.Given as goal
 
 abbrev pub invariant-loop-ticket : goal.invariant-loop-ticket
 invariant-loop-ticket l = record {
-  payable : ArePayable l.fn.bonds.entries (paid_lines l.tickets) ↔ ArePayable l.bonds.entries (paid_lines (drop l.ticket-index l.tickets));
-  marks : AreMarked l.bonds.entries (take l.ticket-index l.tickets);
-  bonds : bonds_held l.bonds.entries ≡ bonds_held l.fn.bonds.entries;
+  payable : ArePayable l.fn.bonds (paid_lines l.tickets) ↔ ArePayable l.bonds (paid_lines (drop l.ticket-index l.tickets));
+  marks : AreMarked l.bonds (take l.ticket-index l.tickets);
+  bonds : bonds_held l.bonds ≡ bonds_held l.fn.bonds;
 }
