@@ -16,7 +16,7 @@ use Rattle.ee_desk_model.specs.declared.changes.Held.{Held}
 use Rattle.ee_desk_model.specs.Serials.{serial_cmp, same_serial}
 use Rattle.ee_desk_model.proofs.Lemmas.Maps.{serials_total, serials_exact, serials_tied, same_serial-swap, same_serial-is, same_serial-self}
 use Rattle.ee_desk_soundness.specs.Checks.{InOrder, IsBefore, HaveRisingSerials, RiseBySerial}
-use Rattle.ee_desk_soundness.specs.Marks.{by_serial, held_at, marked, unpaid}
+use Rattle.ee_desk_soundness.specs.Marks.{bond_of, bonds_listed, by_serial, held_at, marked, unpaid}
 use Rattle.ee_desk_soundness.proofs.PaidMarks.{unmarked}
 use Rattle.ee_desk_soundness.proofs.Entries.{entries_more}
 
@@ -150,3 +150,33 @@ pub held_more : (bonds : List Held) (i : ℕ) (held : Held) (es : List (SerialNu
     → es ≡ by_serial (take i bonds) → insert_entry serial_cmp es held.bond.serial held ≡ by_serial (take (i + 1) bonds)
 held_more bonds i held es r h is e =
     entries_more serial_cmp serials_total (λ (h : Held). h.bond.serial) (λ (h : Held). h) bonds i held es (subst (InOrder IsBefore) (keys_by_serial bonds) r) h is e
+
+pub listed_unpaid : (bonds : List Bond) → bonds_listed (map unpaid bonds) ≡ bonds
+listed_unpaid [] = refl
+listed_unpaid (b ∷ bonds) = ap (λ bs. b ∷ bs) (listed_unpaid bonds)
+
+-- ---- the bonds of a list
+pub bonds_by_serial : (bonds : List Held) → map bond_of bonds ≡ bonds_listed (by_serial bonds)
+bonds_by_serial [] = refl
+bonds_by_serial (x ∷ bonds) = ap (λ bs. x.bond ∷ bs) (bonds_by_serial bonds)
+
+pub listed_rise : (bonds : List Held) → Rises bonds → HaveRisingSerials (bonds_listed (by_serial bonds))
+listed_rise bonds r = subst (InOrder IsBefore) (keys bonds) r
+  where
+    keys : (bonds : List Held) → map (λ (e : SerialNumber × Held). e.0) (by_serial bonds) ≡ map (λ (b : Bond). b.serial) (bonds_listed (by_serial bonds))
+    keys [] = refl
+    keys (x ∷ bonds) = ap (λ ks. x.bond.serial ∷ ks) (keys bonds)
+
+abbrev pub without_ticket : Held → Held
+without_ticket held = record { bond = held.bond; ticket = None }
+
+pub unmarked_are : (bonds : List Held) → by_serial (map without_ticket bonds) ≡ map unpaid (map bond_of bonds)
+unmarked_are [] = refl
+unmarked_are (x ∷ bonds) = ap (λ es. unpaid x.bond ∷ es) (unmarked_are bonds)
+
+pub unmarked_rise : (bonds : List Held) → Rises bonds → Rises (map without_ticket bonds)
+unmarked_rise bonds r = subst (InOrder IsBefore) (sym (keys bonds)) r
+  where
+    keys : (bonds : List Held) → map (λ (e : SerialNumber × Held). e.0) (by_serial (map without_ticket bonds)) ≡ map (λ (e : SerialNumber × Held). e.0) (by_serial bonds)
+    keys [] = refl
+    keys (x ∷ bonds) = ap (λ ks. x.bond.serial ∷ ks) (keys bonds)

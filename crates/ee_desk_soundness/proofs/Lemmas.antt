@@ -1,23 +1,27 @@
 -- Lemmas that the proofs of crates above use.
 use Rattle.std.proofs.Common.{List, None, [], map, ℕ, ◌++◌, ◌∷◌, ◌≡◌}
 use Rattle.std.specs.Cmp.{IsTotalOrder}
+use Rattle.std.specs.Prelude.{T}
 use Rattle.std.specs.FinMap.{FinMap}
+use Rattle.std.specs.FinMap.Entries.{is_sorted}
 use Rattle.std.specs.List.{AllByRecursion, list_any}
 use Rattle.std.specs.Option.{IfSome, option_map}
 use Rattle.std.specs.declared.cmp.Ordering.{Ordering}
 use Rattle.std.specs.declared.cmp.Ordering.TheVariants.{Less}
 use Rattle.std.proofs.lemmas.Map.Lookups.{CmpEqualImpliesEq}
+use Rattle.ee_calculator.specs.declared.bonds.Bond.{Bond}
 use Rattle.ee_desk_model.specs.PlainBooks.{PlainBooks, ticket_of}
 use Rattle.ee_desk_model.specs.Serials.{same_serial}
 use Rattle.ee_desk_model.specs.declared.changes.Held.{Held}
 use Rattle.ee_desk_model.specs.declared.replies.Ticket.{Ticket}
 use Rattle.ee_desk_soundness.specs.Checks.{HaveRisingMonths, HaveRisingSerials, InOrder, bonds_in, books_of, entry_of_row}
-use Rattle.ee_desk_soundness.specs.Marks.{AreMarked, bonds_held, held_at, marked}
+use Rattle.ee_desk_soundness.specs.Marks.{AreMarked, bonds_held, bonds_listed, held_at, marked, unpaid}
 use Rattle.ee_desk_soundness.specs.Parts.{parts_of}
 use Rattle.ee_desk_soundness.specs.declared.parts.Parts.{Parts}
 use Rattle.ee_units.specs.Spelling.{SerialNumber}
 use Rattle.ee_value.specs.declared.rates.Rates.{Rates}
 use Rattle.std.specs.FinMap as finite
+use Rattle.ee_desk_soundness.proofs.BondPlaces
 use Rattle.ee_desk_soundness.proofs.PaidMarks
 use Rattle.ee_desk_soundness.proofs.SortedRows
 use Rattle.ee_desk_soundness.proofs.SoundParts
@@ -61,3 +65,11 @@ map_of_entries = SortedRows.map_of_entries
 pub entries_of_rising : {K V : Type 0} (R : K → K → Ordering) → IsTotalOrder R → CmpEqualImpliesEq R → (es : List (K × V))
     → InOrder (λ a b. R a b ≡ Less) (map (λ e. e.0) es) → finite.entries (finite.from_entries {R = R} es) ≡ es
 entries_of_rising = SortedRows.entries_are
+
+-- the keys of sorted entries rise
+pub rising_of_sorted : {K V : Type 0} (R : K → K → Ordering) → (es : List (K × V)) → T (is_sorted R es) → InOrder (λ a b. R a b ≡ Less) (map (λ e. e.0) es)
+rising_of_sorted = SortedRows.ordered_is
+
+-- bonds that are listed unpaid are these bonds
+pub listed_unpaid : (bonds : List Bond) → bonds_listed (map unpaid bonds) ≡ bonds
+listed_unpaid = BondPlaces.listed_unpaid

@@ -38,7 +38,7 @@ module _ {K V : Type 0} (R : K → K → Ordering) where
   above k [] h = tt
   above k (e ∷ es) h = (lt_is (R k e.0) (and_yes _ _ h).0, above k es (and_yes _ _ h).1)
 
-  ordered_is : (es : List (K × V)) → T (is_sorted R es) → Sorted es
+  pub ordered_is : (es : List (K × V)) → T (is_sorted R es) → InOrder (λ a b. R a b ≡ Less) (map (λ e. e.0) es)
   ordered_is [] h = tt
   ordered_is (e ∷ es) h = (above e.0 es (and_yes _ _ h).0, ordered_is es (and_yes _ _ h).1)
 

@@ -21,6 +21,13 @@ bonds_held bonds = finite.from_entries (map (λ e. (e.0, e.1.bond)) bonds)
 abbrev pub by_serial : List Held → List (SerialNumber × Held)
 by_serial bonds = map (λ held. (held.bond.serial, held)) bonds
 
+abbrev pub bond_of : Held → Bond
+bond_of held = held.bond
+
+-- the bonds of these entries, in order
+abbrev pub bonds_listed : List (SerialNumber × Held) → List Bond
+bonds_listed bonds = map (λ e. e.1.bond) bonds
+
 -- the entry of a serial number
 abbrev pub held_at : List (SerialNumber × Held) → SerialNumber → Option Held
 held_at bonds serial = lookup (is_at (serial_cmp serial)) bonds

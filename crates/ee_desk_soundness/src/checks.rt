@@ -7,7 +7,7 @@ ghost use Rattle.ee_desk_model.specs.PlainBooks.{batch_so_far};
 ghost use Rattle.ee_desk_soundness.specs.Parts.{AreUnsound};
 ghost use Rattle.ee_desk_soundness.specs.Checks.{entry_of_row, parts_in, IsRegister, AreClosed, CanBePaid, AreRightBatches};
 ghost use Rattle.ee_desk_soundness.specs.Made.{IsMadeOf};
-ghost use Rattle.ee_desk_soundness.specs.Marks.{bonds_held, unpaid, AreMarked};
+ghost use Rattle.ee_desk_soundness.specs.Marks.{bonds_held, bonds_listed, unpaid, AreMarked};
 ghost use Rattle.ee_desk_soundness.specs.Days.{counts_in, days_of, AreCounted, FitDays, IsSmall};
 
 use crate::days::{are_counted, counts_of, days_rise, in_range, last_day, open_counts};
@@ -34,38 +34,32 @@ pub struct Indexes {
     pub counts: DayCounts,
 }
 
-/// Rates and bonds by their keys.
+/// Rates by month, and the tables of their unit values.
 #[derive(Drop)]
-struct RegisterMaps {
+struct RegisterTerms {
     tables: UnitTables,
     terms: BTreeMap<IssueMonth, Terms>,
-    bonds: SortedBonds,
 }
 
-/// Rates and bonds by their keys, if sound books may have them.
-fn registered(alloc: Global, rates: &[RateRow], bonds: &[Bond]) -> Result<RegisterMaps, PartsFault>
-    ensures terms { IfOk result (λ maps. maps.terms.entries ≡ map entry_of_row rates.now) }
-    ensures bonds { IfOk result (λ maps. maps.bonds ≡ map unpaid bonds.now) }
-    ensures right { IfOk result (λ _. IsRegister rates.now bonds.now) }
-    ensures unsound { IfErr result (λ fault. fault ≡ PartsFault.Unsound → IsRegister rates.now bonds.now → ⊥) }
+/// The terms of rates, if sound books may have these rates and bonds.
+fn registered(
+    alloc: Global,
+    rates: &[RateRow],
+    bonds: &SortedBonds,
+) -> Result<RegisterTerms, PartsFault>
+    ensures terms { IfOk result (λ own. own.terms.entries ≡ map entry_of_row rates.now) }
+    ensures right { IfOk result (λ _. IsRegister rates.now (bonds_listed bonds.now)) }
+    ensures unsound { IfErr result (λ fault. fault ≡ PartsFault.Unsound → IsRegister rates.now (bonds_listed bonds.now) → ⊥) }
 {
     if !months_rise(rates) {
         return Err(PartsFault::Unsound);
     }
-    if !serials_rise(bonds) {
-        return Err(PartsFault::Unsound);
-    }
     let mut tables = UnitTables::new(alloc);
     let terms = terms_by_month(alloc, &mut tables, rates)?;
-    if !are_right_bonds(&terms, bonds) {
+    if !are_right_bonds(&terms, bonds.held()) {
         return Err(PartsFault::Unsound);
     }
-    let bonds = SortedBonds::all_unpaid(alloc, bonds)?;
-    Ok(RegisterMaps {
-        tables,
-        terms,
-        bonds,
-    })
+    Ok(RegisterTerms { tables, terms })
 }
 
 /// Marks the bonds that tickets pay, if sound books may have these tickets.
@@ -148,7 +142,39 @@ fn closed(
     counted(alloc, tickets, batches, day)
 }
 
-/// The same, for lists.
+/// What is made of parts with these bonds, which are unpaid, while they are checked. Fails if no sound books have
+/// these parts, or if memory is refused.
+pub fn checked_bonds(
+    alloc: Global,
+    rates: &[RateRow],
+    bonds: SortedBonds,
+    day: Option<Day>,
+    last: Option<Day>,
+    tickets: &[Ticket],
+    batches: &[Batch],
+) -> Result<Indexes, PartsFault>
+    requires { bonds ≡ map unpaid (bonds_listed bonds) }
+    ensures ok { IfOk result (IsMadeOf (parts_in rates.now (bonds_listed bonds) day last tickets.now batches.now)) }
+    ensures unsound { IfErr result (λ fault. fault ≡ PartsFault.Unsound → AreUnsound (parts_in rates.now (bonds_listed bonds) day last tickets.now batches.now)) }
+{
+    let own = registered(alloc, rates, &bonds)?;
+    let RegisterTerms { tables, terms } = own;
+    let mut held = bonds;
+    if !pay(&terms, &mut held, tickets) {
+        return Err(PartsFault::Unsound);
+    }
+    let open = day;
+    in_range(batches, open);
+    let counts = closed(alloc, tickets, batches, day, last)?;
+    Ok(Indexes {
+        tables,
+        terms,
+        bonds: held,
+        counts,
+    })
+}
+
+/// The same, for bonds in a list.
 fn checked_lists(
     alloc: Global,
     rates: &[RateRow],
@@ -161,24 +187,11 @@ fn checked_lists(
     ensures ok { IfOk result (IsMadeOf (parts_in rates.now bonds.now day last tickets.now batches.now)) }
     ensures unsound { IfErr result (λ fault. fault ≡ PartsFault.Unsound → AreUnsound (parts_in rates.now bonds.now day last tickets.now batches.now)) }
 {
-    let maps = registered(alloc, rates, bonds)?;
-    let RegisterMaps {
-        tables,
-        terms,
-        bonds: mut held,
-    } = maps;
-    if !pay(&terms, &mut held, tickets) {
+    if !serials_rise(bonds) {
         return Err(PartsFault::Unsound);
     }
-    let own = day;
-    in_range(batches, own);
-    let counts = closed(alloc, tickets, batches, day, last)?;
-    Ok(Indexes {
-        tables,
-        terms,
-        bonds: held,
-        counts,
-    })
+    let held = SortedBonds::all_unpaid(alloc, bonds)?;
+    checked_bonds(alloc, rates, held, day, last, tickets, batches)
 }
 
 /// What is made of these parts while they are checked. Fails if no sound books have these parts, or if memory

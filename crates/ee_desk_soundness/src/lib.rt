@@ -17,7 +17,7 @@ mod parts;
 mod register;
 mod sorted;
 
-pub use checks::{Indexes, checked};
+pub use checks::{Indexes, checked, checked_bonds};
 pub use laws::parts_law;
 pub use lists::{copy_tickets, held_bonds, rate_rows};
 pub use marks::mark_all;

@@ -5,11 +5,12 @@ ghost use Rattle.std.specs.List.{AllByRecursion};
 ghost use Rattle.std.specs.FinMap as finite;
 ghost use Rattle.std.specs.Ordering.{nat_cmp};
 ghost use Rattle.ee_units.specs.Calendar.{period_start};
+ghost use Rattle.ee_desk_soundness.specs.Marks.{bond_of};
 ghost use Rattle.ee_desk_soundness.specs.Checks.{HaveRisingMonths, IsRightRow, IsRightOwn, entry_of_row};
 
 use crate::parts::PartsFault;
 use ee_calculator::Bond;
-use ee_desk_model::{RateRow, Terms, UnitTables};
+use ee_desk_model::{Held, RateRow, Terms, UnitTables};
 use ee_units::IssueMonth;
 use ee_units::calendar::{is_announcement, period_of};
 use std::alloc::Global;
@@ -66,11 +67,11 @@ fn is_right_bond(rates: &BTreeMap<IssueMonth, Terms>, bond: &Bond) -> bool
 }
 
 /// Whether books with these rates may have these bonds.
-pub fn are_right_bonds(rates: &BTreeMap<IssueMonth, Terms>, bonds: &[Bond]) -> bool
-    ensures { (result ≡ true) ↔ AllByRecursion (IsRightOwn (finite.from_entries rates.now.entries)) bonds.now }
+pub fn are_right_bonds(rates: &BTreeMap<IssueMonth, Terms>, bonds: &[Held]) -> bool
+    ensures { (result ≡ true) ↔ AllByRecursion (IsRightOwn (finite.from_entries rates.now.entries)) (map bond_of bonds.now) }
 {
-    for bond in bonds {
-        if !is_right_bond(rates, bond) {
+    for held in bonds {
+        if !is_right_bond(rates, &held.bond) {
             return false;
         }
     }

@@ -5,8 +5,8 @@ ghost use Rattle.std.specs.List.{HoldsAt};
 ghost use Rattle.std.specs.Option.{option_copied, option_map};
 ghost use Rattle.ee_units.specs.Spelling.{SerialNumber};
 ghost use Rattle.ee_desk_model.specs.Serials.{same_serial};
-ghost use Rattle.ee_desk_soundness.specs.Checks.{HaveRisingSerials};
-ghost use Rattle.ee_desk_soundness.specs.Marks.{held_at, marked, unpaid, IsFree};
+ghost use Rattle.ee_desk_soundness.specs.Checks.{HaveRisingSerials, RiseBySerial};
+ghost use Rattle.ee_desk_soundness.specs.Marks.{bond_of, bonds_listed, by_serial, held_at, marked, unpaid, IsFree};
 
 use ee_calculator::Bond;
 use ee_desk_model::Held;
@@ -51,6 +51,26 @@ impl SortedBonds {
             all.push(one)?;
         }
         Ok(SortedBonds { all })
+    }
+
+    /// The bonds of a list in order of serial number, all unpaid. Takes no memory.
+    pub fn unmarked(held: Vec<Held>) -> SortedBonds
+        requires { RiseBySerial (by_serial held.items) }
+        ensures { result ≡ map unpaid (map bond_of held.items) }
+    {
+        let mut all = held;
+        for place in 0..all.len() {
+            all[place].ticket = None;
+        }
+        SortedBonds { all }
+    }
+
+    /// The bonds in order of serial number, each with the ticket that pays it.
+    pub fn held(&self) -> &[Held]
+        ensures bonds { map bond_of result.now ≡ bonds_listed self.now }
+        ensures rises { HaveRisingSerials (bonds_listed self.now) }
+    {
+        self.all.as_slice()
     }
 
     /// The place of a serial number, if it is registered.

@@ -20,7 +20,7 @@ use Rattle.ee_store_load.specs.Whole.{AreInOrder, AreRead, rows_with}
 use Rattle.ee_store_contents.specs.Contents.{PartsFit, KeepsAnswer, tables_for}
 use Rattle.ee_store_contents.specs.Reading.{parts_in}
 use Rattle.ee_store_contents.proofs.KeptTables.{own, tables_made}
-use Rattle.ee_store_contents.proofs.ReadBack.{some_is}
+use Rattle.ee_store_load.proofs.Lemmas.{some_is}
 use Rattle.ee_store_contents.proofs.RowsOfBooks.{rows_of_parts, parts_in_range, parts_read, parts_are, answers_kept, content_stands}
 
 -- the kept replies are no part of the books

@@ -20,7 +20,8 @@ use Rattle.ee_store_load.specs.Shown.{rate_entry}
 use Rattle.ee_store_contents.specs.Contents.{stored_rate, extension_row, stored_extension}
 use Rattle.ee_store_contents.specs.Reading.{optional_in, issue_in, rate_of, other_rate, rate_in, extension_of, after_extension, rates_in}
 use Rattle.ee_store_books.proofs.Lemmas.Contents.{some_from_bind}
-use Rattle.ee_store_contents.proofs.ReadBack.{some_is, bind_some, optional_read, map_is, issue_is}
+use Rattle.ee_store_load.proofs.Lemmas.{some_is, bind_some}
+use Rattle.ee_store_contents.proofs.ReadBack.{optional_read, map_is, issue_is}
 
 -- ---- one row
 cond_else : {A : Type 0} (b : Bool) (o : Option A) (y : A) → cond b None o ≡ Some y → (b ≡ false) × (o ≡ Some y)

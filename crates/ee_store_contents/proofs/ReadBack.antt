@@ -1,41 +1,33 @@
 -- Rows are read as the values that they were made of, and as no others.
 use Rattle.std.proofs.Common.{◌≡◌, ◌==◌, ℕ, suc, ◌+◌, ◌≤◌, Bool, true, false, cond, ◌&&◌, List, [], ◌∷◌, ◌++◌, map, length, take, drop, arith, refl, sym, ap, ◌∙◌, subst}
 use Rattle.std.specs.Prelude.{if◌then◌else◌, nat_le, nat_eq, flat_map, Option, Some, None, IfSome, option_map}
-use Rattle.std.specs.Option.{unwrap_or, option_eq}
+use Rattle.std.specs.Option.{option_eq}
 use Rattle.std.specs.List.{AllByRecursion}
 use Rattle.std.proofs.lemmas.Bool.{eqb-true, eq-eqb, leb-true, le-leb, and_parts}
 use Rattle.std.proofs.lemmas.List.{take-append-drop, length-take-le}
-use Rattle.ee_units.specs.Spelling.{SerialNumber, in_range, serial_at, ◌>>=◌}
-use Rattle.ee_units.specs.declared.denoms.Denom.{Denom}
-use Rattle.ee_units.specs.declared.denoms.Denom.TheVariants as denom
-use Rattle.ee_units.proofs.Lemmas.{in_range-is, in_range_back, denom_with-dollars}
+use Rattle.ee_units.specs.Spelling.{serial_at, ◌>>=◌}
+use Rattle.ee_units.proofs.Lemmas.{in_range-is, in_range_back}
 use Rattle.ee_calculator.specs.declared.bonds.Bond.{Bond}
+use Rattle.ee_desk_model.specs.declared.changes.Held.{Held}
 use Rattle.ee_desk_model.specs.declared.replies.Line.{Line}
 use Rattle.ee_desk_model.specs.declared.replies.Ticket.{Ticket}
 use Rattle.ee_desk_model.specs.declared.replies.Batch.{Batch}
 use Rattle.ee_desk_model.specs.Sound.{IsDay}
 use Rattle.ee_desk_model.specs.PlainBooks.{ticket_of}
 use Rattle.ee_desk_model.proofs.Lemmas.Books.{option_eq-is}
-use Rattle.ee_units.specs.Denoms.{denom_with, dollars}
 use Rattle.ee_desk_texts.specs.Ranges.{IsSerial, IsCustomer, BondFits, LineFits, TicketFits, BatchFits}
 use Rattle.ee_store_contents.specs.declared.reading.Days.{Days}
 use Rattle.ee_store_load.specs.declared.entries.StoredDesk.{StoredDesk}
-use Rattle.ee_store_load.specs.declared.entries.StoredBond.{StoredBond}
 use Rattle.ee_store_load.specs.declared.entries.StoredTicket.{StoredTicket}
 use Rattle.ee_store_load.specs.declared.entries.StoredLine.{StoredLine}
 use Rattle.ee_store_load.specs.declared.entries.StoredBatch.{StoredBatch}
 use Rattle.ee_store_books.proofs.Lemmas.Contents.{some_from_bind}
-use Rattle.ee_store_contents.specs.Contents.{stored_desk, stored_held, stored_bond, stored_ticket, stored_line, placed_lines, stored_lines, stored_batch}
-use Rattle.ee_store_contents.specs.Reading.{each, optional_in, issue_in, day_in, customer_in, days_of, days_in, plain_bond_in, marked_right, bond_in, line_at, lines_at, ticket_with, ticket_in, tickets_in, batch_in}
+use Rattle.ee_store_load.proofs.Lemmas.{some_is, bind_some, serial_read, serial_is}
+use Rattle.ee_store_contents.specs.Contents.{stored_desk, held_bond, stored_ticket, stored_line, placed_lines, stored_lines, stored_batch}
+use Rattle.ee_store_contents.specs.Reading.{each, optional_in, issue_in, day_in, customer_in, days_of, days_in, bond_in, line_at, lines_at, ticket_with, ticket_in, tickets_in, batch_in}
 use Rattle.ee_store_books.specs.Lines.{line_with}
 
 -- ---- what may be absent
-pub some_is : {A : Type 0} (x y : A) → Some x ≡ Some y → x ≡ y
-some_is x y e = ap (λ o. unwrap_or o x) e
-
-pub bind_some : {A B : Type 0} (o : Option A) (x : A) (f : A → Option B) (r : Option B) → o ≡ Some x → f x ≡ r → (o >>= f) ≡ r
-bind_some o x f r e k = ap (λ o. o >>= f) e ∙ k
-
 cond_is : {A : Type 0} (b : Bool) (x : A) (o : Option A) (y : A) → cond b o None ≡ Some y → (b ≡ true) × (o ≡ Some y)
 cond_is true x o y e = (refl, e)
 cond_is false x o y e = absurd (cc)
@@ -87,31 +79,6 @@ customer_is n m e = (in_range-is 1 999999999 n m e).0
 pub issue_is : (n m : ℕ) → issue_in n ≡ Some m → n ≡ m
 issue_is n m e = (in_range-is 0 1135 n m e).0
 
-choice_is : (n k : ℕ) (d : Denom) (o : Option Denom) (found : Denom) → k ≡ dollars d → (o ≡ Some found → n ≡ dollars found) → (b : Bool) → (n == k) ≡ b
-    → cond b (Some d) o ≡ Some found → n ≡ dollars found
-choice_is n k d o found is more true same e = eqb-true n k same ∙ is ∙ ap dollars (some_is d found e)
-choice_is n k d o found is more false apart e = more e
-
-denom_is : (n : ℕ) (d : Denom) → denom_with n ≡ Some d → n ≡ dollars d
-denom_is n d e =
-    choice_is n 50 denom.Fifty _ d refl (λ e. choice_is n 75 denom.SeventyFive _ d refl (λ e. choice_is n 100 denom.Hundred _ d refl (λ e. choice_is n 200 denom.TwoHundred _ d refl
-    (λ e. choice_is n 500 denom.FiveHundred _ d refl (λ e. choice_is n 1000 denom.Thousand _ d refl (λ e. choice_is n 5000 denom.FiveThousand _ d refl
-    (λ e. choice_is n 10000 denom.TenThousand None d refl (λ e. absurd (cc)) _ refl e) _ refl e) _ refl e) _ refl e) _ refl e) _ refl e) _ refl e) _ refl e
-
-serial_read : (s : SerialNumber) → IsSerial s → serial_at s.letter s.number ≡ Some s
-unfolding serial_at
-serial_read s h =
-    bind_some (in_range 1 26 s.letter) s.letter _ _ (in_range_back 1 26 s.letter h.0 h.1)
-    (bind_some (in_range 1 9999999999 s.number) s.number _ _ (in_range_back 1 9999999999 s.number h.2 h.3) refl)
-
-serial_is : (letter number : ℕ) (s : SerialNumber) → serial_at letter number ≡ Some s → (letter ≡ s.letter) × (number ≡ s.number)
-unfolding serial_at
-serial_is letter number s e =
-    let l = some_from_bind (in_range 1 26 letter) _ s e in
-    let n = some_from_bind (in_range 1 9999999999 number) _ s l.2 in
-    let is = some_is _ s n.2 in
-    ((in_range-is 1 26 letter l.0 l.1).0 ∙ ap (λ (s : SerialNumber). s.letter) is, (in_range-is 1 9999999999 number n.0 n.1).0 ∙ ap (λ (s : SerialNumber). s.number) is)
-
 -- ---- the desk's row
 days_of_read : (version : ℕ) (days : Days) → IfSome days.day IsDay → IfSome days.last_day IsDay → days_of (stored_desk version days.day days.last_day) ≡ Some days
 unfolding days_of
@@ -140,50 +107,14 @@ days_is version (row ∷ []) days e =
     λ i. record { id = eqb-true row.id 1 first.0 i; version = eqb-true row.version version first.1 i; day = both.0 i; last_day = both.1 i } ∷ []
 
 -- ---- bonds
-plain_bond_read : (ticket : Option ℕ) (bond : Bond) → BondFits bond → plain_bond_in bond.coowner (stored_held (record { bond = bond; ticket = ticket })) ≡ Some bond
-unfolding plain_bond_in
-plain_bond_read ticket bond h =
-    bind_some (serial_at bond.serial.letter bond.serial.number) bond.serial _ _ (serial_read bond.serial h.serial)
-    (bind_some (denom_with (dollars bond.denom)) bond.denom _ _ (denom_with-dollars bond.denom)
-    (bind_some (issue_in bond.issued) bond.issued _ _ (in_range_back 0 1135 bond.issued (omega arith) h.issued)
-    (bind_some (customer_in bond.owner) bond.owner _ _ (customer_read bond.owner h.owner) refl)))
+pub bond_read : (tickets : List Ticket) (bond : Bond) → BondFits bond → bond_in (ticket_of tickets) (held_bond tickets bond) ≡ Some bond
+bond_read tickets bond h = ap (λ b. cond b (Some bond) None) (option_eq_same (ticket_of tickets bond.serial))
 
-pub bond_read : (tickets : List Ticket) (bond : Bond) → BondFits bond → bond_in (ticket_of tickets) (stored_bond tickets bond) ≡ Some bond
-bond_read tickets bond h =
-    let paid = ticket_of tickets in
-    bind_some (optional_in customer_in bond.coowner) bond.coowner (λ coowner. plain_bond_in coowner (stored_bond tickets bond) >>= marked_right paid (paid bond.serial)) (Some bond)
-    (optional_read customer_in IsCustomer customer_read bond.coowner h.coowner)
-    (bind_some (plain_bond_in bond.coowner (stored_bond tickets bond)) bond (marked_right paid (paid bond.serial)) (Some bond)
-    (plain_bond_read (paid bond.serial) bond h) (ap (λ b. cond b (Some bond) None) (option_eq_same (paid bond.serial))))
-
-plain_bond_is : (row : StoredBond) (coowner : Option ℕ) (bond : Bond) → row.coowner ≡ coowner → plain_bond_in coowner row ≡ Some bond → row ≡ stored_held (record { bond = bond; ticket = row.ticket })
-unfolding plain_bond_in
-plain_bond_is row coowner bond same e =
-    let serial = some_from_bind (serial_at row.letter row.number) _ bond e in
-    let denom = some_from_bind (denom_with row.denom) _ bond serial.2 in
-    let issued = some_from_bind (issue_in row.issued) _ bond denom.2 in
-    let owner = some_from_bind (customer_in row.owner) _ bond issued.2 in
-    let is = some_is _ bond owner.2 in
-    let s = serial_is row.letter row.number serial.0 serial.1 in
-    (λ i. record {
-      letter = s.0 i;
-      number = s.1 i;
-      denom = denom_is row.denom denom.0 denom.1 i;
-      issued = issue_is row.issued issued.0 issued.1 i;
-      owner = customer_is row.owner owner.0 owner.1 i;
-      coowner = same i;
-      ticket = row.ticket;
-    }) ∙ ap (λ bond. stored_held (record { bond = bond; ticket = row.ticket })) is
-
-pub bond_is : (tickets : List Ticket) (row : StoredBond) (bond : Bond) → bond_in (ticket_of tickets) row ≡ Some bond → row ≡ stored_bond tickets bond
-bond_is tickets row bond e =
-    let paid = ticket_of tickets in
-    let coowner = some_from_bind (optional_in customer_in row.coowner) (λ coowner. plain_bond_in coowner row >>= marked_right paid row.ticket) bond e in
-    let plain = some_from_bind (plain_bond_in coowner.0 row) (marked_right paid row.ticket) bond coowner.2 in
-    let right = cond_is (option_eq nat_eq row.ticket (paid plain.0.serial)) bond (Some plain.0) bond plain.2 in
-    plain_bond_is row coowner.0 plain.0 (optional_is customer_in customer_is row.coowner coowner.0 coowner.1) plain.1
-    ∙ (λ i. stored_held (record { bond = plain.0; ticket = option_eq-is row.ticket (paid plain.0.serial) right.0 i }))
-    ∙ ap (stored_bond tickets) (some_is plain.0 bond right.1)
+pub bond_is : (tickets : List Ticket) (held : Held) (bond : Bond) → bond_in (ticket_of tickets) held ≡ Some bond → held ≡ held_bond tickets bond
+bond_is tickets held bond e =
+    let right = cond_is (option_eq nat_eq held.ticket (ticket_of tickets held.bond.serial)) bond (Some held.bond) bond e in
+    (λ i. record { bond = held.bond; ticket = option_eq-is held.ticket (ticket_of tickets held.bond.serial) right.0 i })
+    ∙ ap (held_bond tickets) (some_is held.bond bond right.1)
 
 -- ---- lines
 line_read : (ticket place : ℕ) (line : Line) → IsSerial line.serial → line_at ticket place (stored_line ticket place line) ≡ Some line

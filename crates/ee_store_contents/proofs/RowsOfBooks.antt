@@ -9,10 +9,15 @@ use Rattle.std.specs.FinMap as finite
 use Rattle.std.specs.FinMap.{FinMap, IsAntisymmetric, nat_cmp-IsAntisymmetric, entries, is_sorted, entries_sorted, from_entries, from_sorted, entries-from_sorted, same_entries_map}
 use Rattle.std.specs.FinMap.Entries.{below_all}
 use Rattle.std.proofs.lemmas.List.{map-append}
+use Rattle.std.specs.Option.{unwrap_or}
 use Rattle.ee_units.specs.Spelling.{SerialNumber}
+use Rattle.ee_units.specs.Denoms.{denom_with}
+use Rattle.ee_units.specs.declared.denoms.Denom.TheVariants as denom
+use Rattle.ee_units.proofs.Lemmas.{denom_with-dollars}
 use Rattle.ee_value.specs.declared.rates.Rates.{Rates}
 use Rattle.ee_value.specs.Chain.{named_extension}
 use Rattle.ee_calculator.specs.declared.bonds.Bond.{Bond}
+use Rattle.ee_desk_model.specs.declared.changes.Held.{Held}
 use Rattle.ee_desk_model.specs.declared.changes.Kept.{Kept}
 use Rattle.ee_desk_model.specs.declared.replies.Line.{Line}
 use Rattle.ee_desk_model.specs.declared.replies.Ticket.{Ticket}
@@ -25,7 +30,9 @@ use Rattle.ee_desk_model.specs.Sound.{IsSound, IsRightRate, day_of_batch, open_d
 use Rattle.ee_desk_model.specs.Repeats.{Content}
 use Rattle.ee_desk_model.proofs.Lemmas.Maps.{serials_total, serials_exact, all_weaker, numbers_total, all_mapped, all_unmapped}
 use Rattle.ee_desk_decide.proofs.Lemmas.{all_entries}
-use Rattle.ee_desk_soundness.proofs.Lemmas.{get_all, map_of_entries}
+use Rattle.ee_desk_soundness.specs.Checks.{RiseBySerial}
+use Rattle.ee_desk_soundness.specs.Marks.{by_serial}
+use Rattle.ee_desk_soundness.proofs.Lemmas.{get_all, map_of_entries, rising_of_sorted}
 use Rattle.ee_desk_soundness.specs.declared.parts.Parts.{Parts}
 use Rattle.ee_desk_soundness.specs.Parts.{parts_of, row_of_entry}
 use Rattle.ee_desk_texts.specs.Ranges.{RateRowFits, BondFits, BatchFits}
@@ -33,7 +40,6 @@ use Rattle.ee_store_tables.specs.Keyed.{pair_cmp}
 use Rattle.ee_store_tables.specs.Rows.{Rows, DeskRow, BondRow, TicketRow, PaidRow, BatchRow, ReplyRow}
 use Rattle.ee_store_load.specs.declared.entries.StoredDesk.{StoredDesk}
 use Rattle.ee_store_load.specs.declared.entries.StoredRate.{StoredRate}
-use Rattle.ee_store_load.specs.declared.entries.StoredBond.{StoredBond}
 use Rattle.ee_store_load.specs.declared.entries.StoredTicket.{StoredTicket}
 use Rattle.ee_store_load.specs.declared.entries.StoredLine.{StoredLine}
 use Rattle.ee_store_load.specs.declared.entries.StoredBatch.{StoredBatch}
@@ -44,13 +50,14 @@ use Rattle.ee_store_load.specs.declared.whole.AllRows.{AllRows}
 use Rattle.ee_store_books.specs.Standing.{rate_rows, extension_entry, extension_rows, bond_rows, bond_row, key_of, ticket_rows, paid_rows, paid_row, placed, batch_rows, reply_rows, reply_row, desk_rows, IsKept, IsRight, StandAt}
 use Rattle.ee_store_load.specs.Shown.{answer_map, desk_entry, rate_entry, bond_entry, ticket_entry, line_entry, batch_entry}
 use Rattle.ee_store_load.specs.Whole.{AreInOrder, rows_with}
-use Rattle.ee_store_contents.specs.Contents.{stored_desk, stored_rate, extension_row, stored_extension, stored_bond, stored_ticket, placed_lines, stored_lines, stored_batch, AreRowsOf, PartsFit, KeepsAnswer}
+use Rattle.ee_store_contents.specs.Contents.{stored_desk, stored_rate, extension_row, stored_extension, held_bond, stored_ticket, placed_lines, stored_lines, stored_batch, AreRowsOf, PartsFit, KeepsAnswer}
 use Rattle.ee_store_contents.specs.Reading.{each, days_in, rates_in, bond_in, tickets_in, batch_in, parts_in}
 use Rattle.ee_store_tables.proofs.Lemmas.Rows.{pair_total, pair_same}
 use Rattle.ee_store_books.proofs.Lemmas.Contents as contents
 use Rattle.ee_store_books.proofs.Lemmas.Contents.{sorted_entries, extension_entries, ticket_entries, ticket_lines, paid_entries, batch_entries, rising_front, days_in_range, right_bond_is_keyed, head_of, tail_of, some_from_bind}
 use Rattle.ee_store_contents.proofs.RatesBack.{rates_read, rates_is}
-use Rattle.ee_store_contents.proofs.ReadBack.{some_is, bind_some, each_read, each_is, days_read, days_is, bond_read, bond_is, tickets_read, tickets_is, batch_read, batch_is}
+use Rattle.ee_store_load.proofs.Lemmas.{some_is, bind_some}
+use Rattle.ee_store_contents.proofs.ReadBack.{each_read, each_is, days_read, days_is, bond_read, bond_is, tickets_read, tickets_is, batch_read, batch_is}
 
 -- ---- lists
 pub fuse : {A B C : Type 0} (f : B → C) (g : A → B) (h : A → C) → ((x : A) → f (g x) ≡ h x) → (xs : List A) → map f (map g xs) ≡ map h xs
@@ -81,6 +88,13 @@ module _ {K L X Y : Type 0} (R : K → K → Ordering) (S : L → L → Ordering
   image_entries : IsTotalOrder S → IsAntisymmetric S → (m : FinMap R X)
       → entries (from_entries {R = S} (map (λ e. (key e.0, value e.0 e.1)) (entries m))) ≡ map (λ e. (key e.0, value e.0 e.1)) (entries m)
   image_entries o exact m = sorted_entries o exact _ (subst T (sym (same_sorted (entries m))) (entries_sorted m))
+
+-- the serial numbers of bonds rise if their entries are sorted
+pub rows_rise : (rows : List Held) → T (is_sorted pair_cmp (map bond_entry rows)) → RiseBySerial (by_serial rows)
+rows_rise rows sorted =
+    rising_of_sorted serial_cmp (by_serial rows)
+    (subst T (sym (ap (is_sorted pair_cmp) (fuse (λ (e : SerialNumber × Held). (key_of e.0, bond_row e.1)) (λ held. (held.bond.serial, held)) bond_entry (λ held. refl) rows))
+    ∙ same_sorted serial_cmp pair_cmp key_of (λ k (held : Held). bond_row held) (λ q k. refl) (by_serial rows)) sorted)
 
 rate_entries : (rates : FinMap nat_cmp Rates) → entries (rate_rows rates) ≡ map (λ e. (e.0, e.1.fixed)) (entries rates)
 rate_entries rates = image_entries nat_cmp nat_cmp (λ k. k) (λ k (rates : Rates). rates.fixed) (λ q k. refl) nat_cmp_total nat_cmp-IsAntisymmetric rates
@@ -115,10 +129,10 @@ extensions_as rates = extensions_as_entries (entries rates) ∙ sym (extension_e
 all_keyed : (books : PlainBooks) → IsSound books → AllByRecursion (λ e. e.1.serial ≡ e.0) (entries books.bonds)
 all_keyed books sound = all_entries serials_total serials_exact (λ s (bond : Bond). bond.serial ≡ s) books.bonds (λ s. right_bond_is_keyed books.rates s _ (sound.bonds s))
 
-bonds_as : (books : PlainBooks) → IsSound books → map bond_entry (map (stored_bond books.tickets) (finite.values books.bonds)) ≡ entries (bond_rows books.bonds books.tickets)
+bonds_as : (books : PlainBooks) → IsSound books → map bond_entry (map (held_bond books.tickets) (finite.values books.bonds)) ≡ entries (bond_rows books.bonds books.tickets)
 bonds_as books sound =
-    ap (map bond_entry) (fuse (stored_bond books.tickets) (λ (e : SerialNumber × Bond). e.1) _ (λ e. refl) (entries books.bonds))
-    ∙ fuse bond_entry (λ (e : SerialNumber × Bond). stored_bond books.tickets e.1) _ (λ e. refl) (entries books.bonds)
+    ap (map bond_entry) (fuse (held_bond books.tickets) (λ (e : SerialNumber × Bond). e.1) _ (λ e. refl) (entries books.bonds))
+    ∙ fuse bond_entry (λ (e : SerialNumber × Bond). held_bond books.tickets e.1) _ (λ e. refl) (entries books.bonds)
     ∙ fuse_all (λ (e : SerialNumber × Bond). e.1.serial ≡ e.0) _ (λ e. (key_of e.0, bond_row (held_as books.tickets e.0 e.1)))
     (λ e is i. (key_of (is i), bond_row (held_as books.tickets (is i) e.1))) (entries books.bonds) (all_keyed books sound)
     ∙ sym (bond_entries books.bonds books.tickets)
@@ -144,8 +158,20 @@ desk_back e = record { id = e.0; version = e.1.version; day = e.1.day; last_day 
 abbrev rate_back : ℕ × ℕ → StoredRate
 rate_back e = record { period = e.0; rate = e.1 }
 
-abbrev bond_back : (ℕ × ℕ) × BondRow → StoredBond
-bond_back e = record { letter = e.0.0; number = e.0.1; denom = e.1.denom; issued = e.1.issued; owner = e.1.owner; coowner = e.1.coowner; ticket = e.1.ticket }
+abbrev bond_back : (ℕ × ℕ) × BondRow → Held
+bond_back e = record {
+  bond = record {
+    serial = record { letter = e.0.0; number = e.0.1 };
+    denom = unwrap_or (denom_with e.1.denom) denom.Fifty;
+    issued = e.1.issued;
+    owner = e.1.owner;
+    coowner = e.1.coowner;
+  };
+  ticket = e.1.ticket;
+}
+
+bond_is_back : (held : Held) → bond_back (bond_entry held) ≡ held
+bond_is_back held = λ i. record { bond = record held.bond { denom = unwrap_or (denom_with-dollars held.bond.denom i) denom.Fifty }; ticket = held.ticket }
 
 abbrev ticket_back : ℕ × TicketRow → StoredTicket
 ticket_back e = record { ticket = e.0; day = e.1.day; payee = e.1.payee; bonds = e.1.bonds; total = e.1.total }
@@ -173,7 +199,7 @@ rows_of_parts stored kept content order stands =
       desk = same_lists desk_entry desk_back (λ x. refl) _ _ (entries_of _ _ order.desk (ap (λ (r : Rows). r.desk) stands.are) ∙ desk_entries (version_of stored.form) books.day books.last_day);
       rates = same_lists rate_entry rate_back (λ x. refl) _ _ (entries_of _ _ order.rates (ap (λ (r : Rows). r.rates) stands.are) ∙ sym (rates_as books.rates));
       extensions = same_lists rate_entry rate_back (λ x. refl) _ _ (entries_of _ _ order.extensions (ap (λ (r : Rows). r.extensions) stands.are) ∙ sym (extensions_as books.rates));
-      bonds = same_lists bond_entry bond_back (λ x. refl) _ _ (entries_of _ _ order.bonds (ap (λ (r : Rows). r.bonds) stands.are) ∙ sym (bonds_as books sound));
+      bonds = same_lists bond_entry bond_back bond_is_back _ _ (entries_of _ _ order.bonds (ap (λ (r : Rows). r.bonds) stands.are) ∙ sym (bonds_as books sound));
       tickets = same_lists ticket_entry ticket_back (λ x. refl) _ _ (entries_of _ _ order.tickets (ap (λ (r : Rows). r.tickets) stands.are) ∙ ticket_entries books.tickets sound.numbered ∙ sym (tickets_as books.tickets));
       lines = same_lists line_entry line_back (λ x. refl) _ _ (entries_of _ _ order.lines (ap (λ (r : Rows). r.paid) stands.are) ∙ paid_entries books.tickets sound.numbered ∙ sym (lines_as books.tickets));
       batches = same_lists batch_entry batch_back (λ x. refl) _ _ (entries_of _ _ order.batches (ap (λ (r : Rows). r.batches) stands.are) ∙ closed_entries books sound ∙ sym (batches_as books.batches));
@@ -204,7 +230,7 @@ parts_read parts stored are fit rising =
     ((λ i. rates_in (are.rates i) (are.extensions i)) ∙ rates_read parts.rates fit.rates (subst (λ rows. T (is_sorted nat_cmp (map rate_entry rows))) are.rates rising))
     (bind_some (tickets_in stored.tickets.items stored.lines.items) parts.tickets _ _ ((λ i. tickets_in (are.tickets i) (are.lines i)) ∙ tickets_read parts.tickets fit.tickets)
     (bind_some (each (bond_in (ticket_of parts.tickets)) stored.bonds.items) parts.bonds _ _
-    (ap (each (bond_in (ticket_of parts.tickets))) are.bonds ∙ each_read (bond_in (ticket_of parts.tickets)) (stored_bond parts.tickets) BondFits (bond_read parts.tickets) parts.bonds fit.bonds)
+    (ap (each (bond_in (ticket_of parts.tickets))) are.bonds ∙ each_read (bond_in (ticket_of parts.tickets)) (held_bond parts.tickets) BondFits (bond_read parts.tickets) parts.bonds fit.bonds)
     (bind_some (each batch_in stored.batches.items) parts.batches _ _ (ap (each batch_in) are.batches ∙ each_read batch_in stored_batch BatchFits batch_read parts.batches fit.batches) refl))))
 
 pub parts_are : (parts : Parts) (stored : AllRows) → parts_in stored ≡ Some parts → AreRowsOf parts stored
@@ -221,7 +247,7 @@ parts_are parts stored e =
       desk = days_is (version_of stored.form) stored.desk.items days.0 days.1;
       rates = terms.0;
       extensions = terms.1;
-      bonds = each_is (bond_in (ticket_of tickets.0)) (stored_bond tickets.0) (bond_is tickets.0) stored.bonds.items bonds.0 bonds.1;
+      bonds = each_is (bond_in (ticket_of tickets.0)) (held_bond tickets.0) (bond_is tickets.0) stored.bonds.items bonds.0 bonds.1;
       tickets = paid.0;
       lines = paid.1;
       batches = each_is batch_in stored_batch batch_is stored.batches.items batches.0 batches.1;

@@ -3,7 +3,6 @@ use Rattle.std.specs.Prelude.{◌≡◌, ℕ, ◌+◌, List, [], ◌∷◌, map,
 use Rattle.std.specs.List.{AllByRecursion}
 use Rattle.std.specs.Ordering.{nat_cmp}
 use Rattle.std.specs.FinMap.{FinMap, entries, from_entries}
-use Rattle.ee_units.specs.Denoms.{dollars}
 use Rattle.ee_value.specs.declared.rates.Rates.{Rates}
 use Rattle.ee_value.specs.declared.rates.RateRow.{RateRow}
 use Rattle.ee_value.specs.Chain.{named_extension}
@@ -17,12 +16,13 @@ use Rattle.ee_desk_model.specs.Seen.{held_as}
 use Rattle.ee_desk_model.specs.Sound.{IsDay}
 use Rattle.ee_desk_model.specs.UnitTables.{rates_cmp}
 use Rattle.ee_desk_soundness.specs.declared.parts.Parts.{Parts}
+use Rattle.ee_desk_soundness.specs.Marks.{bonds_listed}
+use Rattle.ee_store_contents.specs.declared.parts.ReadParts.{ReadParts}
 use Rattle.ee_desk_texts.specs.Texts.{act_text, reply_text}
 use Rattle.ee_desk_texts.specs.Ranges.{RateRowFits, BondFits, TicketFits, BatchFits}
 use Rattle.ee_store_books.specs.Standing.{IsKept}
 use Rattle.ee_store_load.specs.declared.entries.StoredDesk.{StoredDesk}
 use Rattle.ee_store_load.specs.declared.entries.StoredRate.{StoredRate}
-use Rattle.ee_store_load.specs.declared.entries.StoredBond.{StoredBond}
 use Rattle.ee_store_load.specs.declared.entries.StoredTicket.{StoredTicket}
 use Rattle.ee_store_load.specs.declared.entries.StoredLine.{StoredLine}
 use Rattle.ee_store_load.specs.declared.entries.StoredBatch.{StoredBatch}
@@ -44,20 +44,9 @@ extension_row period extension = record { period = period; rate = extension }
 abbrev pub stored_extension : RateRow → Option StoredRate
 stored_extension row = option_map (extension_row row.from) (named_extension row.rates)
 
-abbrev pub stored_held : Held → StoredBond
-stored_held held = record {
-  letter = held.bond.serial.letter;
-  number = held.bond.serial.number;
-  denom = dollars held.bond.denom;
-  issued = held.bond.issued;
-  owner = held.bond.owner;
-  coowner = held.bond.coowner;
-  ticket = held.ticket;
-}
-
 -- a bond, with the ticket that pays it
-abbrev pub stored_bond : List Ticket → Bond → StoredBond
-stored_bond tickets bond = stored_held (held_as tickets bond.serial bond)
+abbrev pub held_bond : List Ticket → Bond → Held
+held_bond tickets bond = held_as tickets bond.serial bond
 
 abbrev pub stored_ticket : Ticket → StoredTicket
 stored_ticket ticket = record { ticket = ticket.ticket; day = ticket.day; payee = ticket.payee; bonds = length ticket.lines; total = ticket.total.0 }
@@ -81,10 +70,21 @@ pub record AreRowsOf (parts : Parts) (stored : AllRows) : Type 0 where
   pub desk : stored.desk.items ≡ stored_desk (version_of stored.form) parts.day parts.last_day ∷ []
   pub rates : stored.rates.items ≡ map stored_rate parts.rates
   pub extensions : stored.extensions.items ≡ filter_map stored_extension parts.rates
-  pub bonds : stored.bonds.items ≡ map (stored_bond parts.tickets) parts.bonds
+  pub bonds : stored.bonds.items ≡ map (held_bond parts.tickets) parts.bonds
   pub tickets : stored.tickets.items ≡ map stored_ticket parts.tickets
   pub lines : stored.lines.items ≡ flat_map stored_lines parts.tickets
   pub batches : stored.batches.items ≡ map stored_batch parts.batches
+
+-- the parts that were made of rows
+abbrev pub parts_of_read : ReadParts → Parts
+parts_of_read read = record {
+  rates = read.rates.items;
+  bonds = bonds_listed read.bonds;
+  day = read.day;
+  last_day = read.last_day;
+  tickets = read.tickets.items;
+  batches = read.batches.items;
+}
 
 -- the plain numbers of parts are in range
 pub record PartsFit (parts : Parts) : Type 0 where

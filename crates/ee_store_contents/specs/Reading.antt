@@ -3,22 +3,21 @@ use Rattle.std.specs.Prelude.{ℕ, ◌+◌, nat_le, ◌&&◌, ◌==◌, nat_eq, 
 use Rattle.std.specs.Option.{option_map, option_eq}
 use Rattle.std.specs.Map.{lookup}
 use Rattle.std.specs.BTreeMap.{is_at}
-use Rattle.ee_units.specs.Spelling.{SerialNumber, in_range, serial_at, ◌>>=◌}
+use Rattle.ee_units.specs.Spelling.{SerialNumber, in_range, ◌>>=◌}
 use Rattle.ee_value.specs.declared.rates.RateRow.{RateRow}
 use Rattle.ee_value.specs.Chain.{rates_with}
 use Rattle.ee_calculator.specs.declared.bonds.Bond.{Bond}
+use Rattle.ee_desk_model.specs.declared.changes.Held.{Held}
 use Rattle.ee_desk_model.specs.declared.replies.Line.{Line}
 use Rattle.ee_desk_model.specs.declared.replies.Ticket.{Ticket}
 use Rattle.ee_desk_model.specs.declared.replies.Batch.{Batch}
 use Rattle.ee_desk_model.specs.PlainBooks.{ticket_of}
 use Rattle.ee_desk_model.specs.Serials.{serial_cmp}
 use Rattle.ee_desk_soundness.specs.declared.parts.Parts.{Parts}
-use Rattle.ee_units.specs.Denoms.{denom_with}
 use Rattle.ee_store_contents.specs.declared.reading.Days.{Days}
 use Rattle.ee_store_books.specs.Lines.{line_with}
 use Rattle.ee_store_load.specs.declared.entries.StoredDesk.{StoredDesk}
 use Rattle.ee_store_load.specs.declared.entries.StoredRate.{StoredRate}
-use Rattle.ee_store_load.specs.declared.entries.StoredBond.{StoredBond}
 use Rattle.ee_store_load.specs.declared.entries.StoredTicket.{StoredTicket}
 use Rattle.ee_store_load.specs.declared.entries.StoredLine.{StoredLine}
 use Rattle.ee_store_load.specs.declared.entries.StoredBatch.{StoredBatch}
@@ -89,24 +88,9 @@ rates_in [] (extension ∷ extensions) = None
 rates_in (row ∷ rows) extensions =
     rate_in (extension_of row.period extensions) row >>= λ rate. rates_in rows (after_extension row.period extensions) >>= λ rates. Some (rate ∷ rates)
 
-unfoldable pub plain_bond_in : Option ℕ → StoredBond → Option Bond
-plain_bond_in coowner row = do
-  serial ← serial_at row.letter row.number
-  denom ← denom_with row.denom
-  issued ← issue_in row.issued
-  owner ← customer_in row.owner
-  Some (record { serial = serial; denom = denom; issued = issued; owner = owner; coowner = coowner })
-
 -- a bond whose row names the ticket that pays it
-abbrev pub marked_right : (SerialNumber → Option ℕ) → Option ℕ → Bond → Option Bond
-marked_right paid ticket bond = if option_eq nat_eq ticket (paid bond.serial) then Some bond else None
-
--- a bond with this coowner, whose row names the ticket that pays it
-abbrev pub bond_with : (SerialNumber → Option ℕ) → Option ℕ → StoredBond → Option Bond
-bond_with paid coowner row = plain_bond_in coowner row >>= marked_right paid row.ticket
-
-abbrev pub bond_in : (SerialNumber → Option ℕ) → StoredBond → Option Bond
-bond_in paid row = optional_in customer_in row.coowner >>= λ coowner. bond_with paid coowner row
+abbrev pub bond_in : (SerialNumber → Option ℕ) → Held → Option Bond
+bond_in paid held = if option_eq nat_eq held.ticket (paid held.bond.serial) then Some held.bond else None
 
 -- the line at this place of a ticket
 abbrev pub line_at : ℕ → ℕ → StoredLine → Option Line

@@ -1,30 +1,31 @@
 //! The books that the rows of a store represent.
 
-ghost use Rattle.std.specs.Prelude.{◌≡◌, ◌↔◌, Some, None, IfOk, IfErr, IfSome, option_map};
+ghost use Rattle.std.specs.Prelude.{◌≡◌, ◌↔◌, Some, None, IfOk, IfErr, IfSome, map, option_map};
+ghost use Rattle.ee_desk_model.specs.PlainBooks.{ticket_of};
 ghost use Rattle.ee_desk_model.specs.Repeats.{Content};
 ghost use Rattle.ee_desk_soundness.specs.Parts.{AreUnsound};
+ghost use Rattle.ee_desk_soundness.specs.Checks.{RiseBySerial};
+ghost use Rattle.ee_desk_soundness.specs.Marks.{bonds_listed, by_serial, unpaid};
 ghost use Rattle.ee_desk_soundness.specs.Made.{IsMadeOf};
-ghost use Rattle.ee_store_contents.specs.Reading.{each, bond_in, mark_at, tickets_in, parts_in};
+ghost use Rattle.ee_store_contents.specs.Reading.{each, bond_in, tickets_in, parts_in};
 ghost use Rattle.ee_store_tables.specs.Rows.{Rows as TableRows};
 ghost use Rattle.ee_store_load.specs.Whole.{AreInOrder, AreRead};
 ghost use Rattle.ee_store_books.specs.Standing.{StandAt};
 ghost use Rattle.ee_store_schema.specs.Forms.{version_of};
-ghost use Rattle.ee_store_contents.specs.Contents.{PartsFit, KeepsAnswer, tables_for};
+ghost use Rattle.ee_store_contents.specs.Contents.{PartsFit, parts_of_read, KeepsAnswer, tables_for};
 
 use crate::invariants::parts_fit;
 use crate::marks::marks_of;
+use crate::parts::ReadParts;
 use crate::rates::rates_in;
 use crate::reading::{batches_in, bonds_in, days_in};
 use crate::tickets::tickets_in;
 use crate::unit_tables::kept_tables;
-use ee_calculator::Bond;
-use ee_desk_model::{Rows, Ticket, UnitTables};
-use ee_desk_soundness::{Indexes, Parts, PartsFault, checked};
-use ee_store_load::{AllRows, StoredBond, StoredLine, StoredTicket};
+use ee_desk_model::{Held, Ticket, UnitTables};
+use ee_desk_soundness::{Indexes, PartsFault, SortedBonds, checked_bonds};
+use ee_store_load::{AllRows, StoredLine, StoredTicket};
 use ee_store_schema::StoredAnswer;
-use ee_units::Serial;
 use std::alloc::{AllocError, Global};
-use std::collections::BTreeMap;
 use std::mem;
 use thiserror::Error;
 
@@ -61,22 +62,27 @@ fn own_tickets(
     tickets_in(alloc, &rows, &lines)
 }
 
-/// The bonds of rows, as `bonds_in`. Drops the rows and the marks.
+/// The bonds of rows that these tickets pay, as `bonds_in`.
 fn own_bonds(
     alloc: Global,
-    marks: BTreeMap<Serial, u64>,
-    rows: Vec<StoredBond>,
-) -> Result<Option<Vec<Bond>>, AllocError>
-    ensures { IfOk result (λ o. option_map (λ v. v.items) o ≡ each (bond_in (mark_at marks.entries)) rows.items) }
+    tickets: &[Ticket],
+    rows: Vec<Held>,
+) -> Result<Option<SortedBonds>, AllocError>
+    requires { RiseBySerial (by_serial rows.items) }
+    ensures value { IfOk result (λ o. option_map bonds_listed o ≡ each (bond_in (ticket_of tickets.now)) rows.items) }
+    ensures unpaid { IfOk result (λ o. IfSome o (λ bonds. bonds ≡ map unpaid (bonds_listed bonds))) }
 {
-    bonds_in(alloc, &marks, &rows)
+    let marks = marks_of(alloc, tickets)?;
+    Ok(bonds_in(&marks, rows))
 }
 
 /// The parts of the books with these rows. Drops the rows of each table as soon as their parts are made.
 #[tactic(auto, unfolding(crate::specs::Reading::parts_in))]
-fn parts_in(alloc: Global, stored: AllRows) -> Result<Option<Parts>, AllocError>
-    ensures value { IfOk result (λ o. o ≡ parts_in stored) }
-    ensures fits { IfOk result (λ o. IfSome o PartsFit) }
+fn parts_in(alloc: Global, stored: AllRows) -> Result<Option<ReadParts>, AllocError>
+    requires { RiseBySerial (by_serial stored.bonds.items) }
+    ensures value { IfOk result (λ o. option_map parts_of_read o ≡ parts_in stored) }
+    ensures fits { IfOk result (λ o. IfSome o (λ found. PartsFit (parts_of_read found))) }
+    ensures unpaid { IfOk result (λ o. IfSome o (λ found. found.bonds ≡ map unpaid (bonds_listed found.bonds))) }
 {
     let AllRows {
         form,
@@ -99,29 +105,30 @@ fn parts_in(alloc: Global, stored: AllRows) -> Result<Option<Parts>, AllocError>
     let Some(tickets) = own_tickets(alloc, tickets, lines)? else {
         return Ok(None);
     };
-    let marks = marks_of(alloc, &tickets)?;
-    let Some(bonds) = own_bonds(alloc, marks, bonds)? else {
+    let Some(bonds) = own_bonds(alloc, &tickets, bonds)? else {
         return Ok(None);
     };
     let Some(batches) = batches_in(alloc, &batches)? else {
         return Ok(None);
     };
-    let parts = Parts {
-        rates: Rows::new(rates),
-        bonds: Rows::new(bonds),
+    let parts = ReadParts {
+        rates,
+        bonds,
         day: days.day,
         last_day: days.last_day,
-        tickets: Rows::new(tickets),
-        batches: Rows::new(batches),
+        tickets,
+        batches,
     };
     parts_fit(&parts);
     Ok(Some(parts))
 }
 
 /// The parts of the books with these rows. Drops the rows.
-fn right_parts(alloc: Global, stored: AllRows) -> Result<Parts, ContentFault>
-    ensures found { IfOk result (λ parts. Some parts ≡ parts_in stored) }
-    ensures fits { IfOk result PartsFit }
+fn right_parts(alloc: Global, stored: AllRows) -> Result<ReadParts, ContentFault>
+    requires { RiseBySerial (by_serial stored.bonds.items) }
+    ensures found { IfOk result (λ parts. Some (parts_of_read parts) ≡ parts_in stored) }
+    ensures fits { IfOk result (λ parts. PartsFit (parts_of_read parts)) }
+    ensures unpaid { IfOk result (λ parts. parts.bonds ≡ map unpaid (bonds_listed parts.bonds)) }
     ensures none { IfErr result (λ fault. fault ≡ ContentFault.Unusable → None ≡ parts_in stored) }
 {
     match parts_in(alloc, stored)? {
@@ -148,12 +155,21 @@ fn fault_of(fault: PartsFault) -> ContentFault
     }
 }
 
-/// What books in memory keep besides these parts; `Unusable` if no sound books have them.
-fn indexes_of(alloc: Global, parts: &Parts) -> Result<Indexes, ContentFault>
-    ensures ok { IfOk result (IsMadeOf parts.now) }
-    ensures unusable { IfErr result (λ fault. fault ≡ ContentFault.Unusable → AreUnsound parts.now) }
+/// What is made of these parts while they are checked; `Unusable` if no sound books have them. Drops the parts.
+fn indexes_of(alloc: Global, parts: ReadParts) -> Result<Indexes, ContentFault>
+    requires { parts.bonds ≡ map unpaid (bonds_listed parts.bonds) }
+    ensures ok { IfOk result (IsMadeOf (parts_of_read parts)) }
+    ensures unusable { IfErr result (λ fault. fault ≡ ContentFault.Unusable → AreUnsound (parts_of_read parts)) }
 {
-    match checked(alloc, parts) {
+    let ReadParts {
+        rates,
+        bonds,
+        day,
+        last_day,
+        tickets,
+        batches,
+    } = parts;
+    match checked_bonds(alloc, &rates, bonds, day, last_day, &tickets, &batches) {
         Ok(indexes) => Ok(indexes),
         Err(fault) => Err(fault_of(fault)),
     }
@@ -186,7 +202,7 @@ pub fn tables_of(alloc: Global, stored: AllRows) -> Result<TestedContent, Conten
     let mut rest = stored;
     let answers = take_earlier(alloc, &mut rest);
     let parts = right_parts(alloc, rest)?;
-    let indexes = indexes_of(alloc, &parts)?;
+    let indexes = indexes_of(alloc, parts)?;
     let tables = kept_tables(alloc, &indexes.terms)?;
     Ok(TestedContent { tables, answers })
 }

@@ -10,6 +10,7 @@ mod answers;
 mod contents;
 mod invariants;
 mod marks;
+mod parts;
 mod rates;
 mod reading;
 mod tickets;

@@ -1,12 +1,15 @@
 //! The values that the rows of one table represent.
 
-ghost use Rattle.std.specs.Prelude.{◌≡◌, IfOk, option_map};
-ghost use Rattle.ee_store_contents.specs.Reading.{each, optional_in, day_in, customer_in, days_of, days_in, plain_bond_in, bond_with, bond_in, batch_in, mark_at};
+ghost use Rattle.std.specs.Prelude.{◌≡◌, Some, None, IfOk, IfSome, map, option_map, if◌then◌else◌};
+ghost use Rattle.ee_desk_soundness.specs.Checks.{RiseBySerial};
+ghost use Rattle.ee_desk_soundness.specs.Marks.{bond_of, bonds_listed, by_serial, unpaid};
+ghost use Rattle.ee_store_contents.specs.Reading.{each, optional_in, day_in, days_of, days_in, bond_in, batch_in, mark_at};
 
 use ee_calculator::Bond;
-use ee_desk_model::Batch;
-use ee_store_load::{StoredBatch, StoredBond, StoredDesk};
-use ee_units::{Cents, Customer, Day, Denom, IssueMonth, Serial};
+use ee_desk_model::{Batch, Held};
+use ee_desk_soundness::SortedBonds;
+use ee_store_load::{StoredBatch, StoredDesk};
+use ee_units::{Cents, Day, Serial};
 use std::alloc::{AllocError, Global};
 use std::collections::BTreeMap;
 
@@ -27,18 +30,6 @@ fn optional_day(count: Option<u64>) -> Option<Option<Day>>
         Some(count) => {
             let day = Day::new(count)?;
             Some(Some(day))
-        }
-    }
-}
-
-fn optional_customer(number: Option<u64>) -> Option<Option<Customer>>
-    ensures { result ≡ optional_in customer_in number }
-{
-    match number {
-        None => Some(None),
-        Some(number) => {
-            let customer = Customer::new(number)?;
-            Some(Some(customer))
         }
     }
 }
@@ -67,23 +58,6 @@ pub fn days_in(version: u64, rows: &[StoredDesk]) -> Option<Days>
     }
 }
 
-#[tactic(auto, unfolding(crate::specs::Reading::plain_bond_in))]
-fn plain_bond_in(coowner: Option<Customer>, row: &StoredBond) -> Option<Bond>
-    ensures { result ≡ plain_bond_in coowner row.now }
-{
-    let serial = Serial::new(row.letter, row.number)?;
-    let denom = Denom::with_dollars(row.denom)?;
-    let issued = IssueMonth::new(row.issued)?;
-    let owner = Customer::new(row.owner)?;
-    Some(Bond {
-        serial,
-        denom,
-        issued,
-        owner,
-        coowner,
-    })
-}
-
 /// The ticket that pays a bond.
 fn mark_of(marks: &BTreeMap<Serial, u64>, bond: &Bond) -> Option<u64>
     ensures { result ≡ mark_at marks.now.entries bond.now.serial }
@@ -91,40 +65,30 @@ fn mark_of(marks: &BTreeMap<Serial, u64>, bond: &Bond) -> Option<u64>
     marks.get(&bond.serial).copied()
 }
 
-fn bond_with(
-    marks: &BTreeMap<Serial, u64>,
-    coowner: Option<Customer>,
-    row: &StoredBond,
-) -> Option<Bond>
-    ensures { result ≡ bond_with (mark_at marks.now.entries) coowner row.now }
+/// Whether each row names the ticket that pays its bond.
+fn are_marked(marks: &BTreeMap<Serial, u64>, rows: &[Held]) -> bool
+    ensures { (if result then Some (map bond_of rows.now) else None) ≡ each (bond_in (mark_at marks.now.entries)) rows.now }
 {
-    let bond = plain_bond_in(coowner, row)?;
-    if row.ticket == mark_of(marks, &bond) {
-        Some(bond)
+    for held in rows {
+        if held.ticket != mark_of(marks, &held.bond) {
+            return false;
+        }
+    }
+    true
+}
+
+/// The bonds of rows, all unpaid, if each row names the ticket that pays its bond. The rows are sorted by serial
+/// number. Takes no memory.
+pub fn bonds_in(marks: &BTreeMap<Serial, u64>, rows: Vec<Held>) -> Option<SortedBonds>
+    requires { RiseBySerial (by_serial rows.items) }
+    ensures value { option_map bonds_listed result ≡ each (bond_in (mark_at marks.now.entries)) rows.items }
+    ensures unpaid { IfSome result (λ bonds. bonds ≡ map unpaid (bonds_listed bonds)) }
+{
+    if are_marked(marks, &rows) {
+        Some(SortedBonds::unmarked(rows))
     } else {
         None
     }
-}
-
-/// The bonds of rows, if each row names the ticket that pays its bond.
-pub fn bonds_in(
-    alloc: Global,
-    marks: &BTreeMap<Serial, u64>,
-    rows: &[StoredBond],
-) -> Result<Option<Vec<Bond>>, AllocError>
-    ensures { IfOk result (λ o. option_map (λ v. v.items) o ≡ each (bond_in (mark_at marks.now.entries)) rows.now) }
-{
-    let mut bonds = Vec::with_capacity(alloc, rows.len())?;
-    for row in rows {
-        let Some(coowner) = optional_customer(row.coowner) else {
-            return Ok(None);
-        };
-        let Some(bond) = bond_with(marks, coowner, row) else {
-            return Ok(None);
-        };
-        bonds.push(bond)?;
-    }
-    Ok(Some(bonds))
 }
 
 #[tactic(auto, unfolding(crate::specs::Reading::batch_in))]

@@ -11,7 +11,8 @@ use Rattle.ee_store_tables.specs.Keyed.{pair_cmp, row_of, stored, ReadAlike, Hol
 use Rattle.ee_store_tables.specs.Rows.{DeskRow, BondRow, TicketRow, PaidRow, BatchRow, ReplyRow, desk_columns, rate_columns, bond_columns, ticket_columns, paid_columns, batch_columns, reply_columns}
 use Rattle.ee_store_load.specs.declared.entries.StoredDesk.{StoredDesk}
 use Rattle.ee_store_load.specs.declared.entries.StoredRate.{StoredRate}
-use Rattle.ee_store_load.specs.declared.entries.StoredBond.{StoredBond}
+use Rattle.ee_desk_model.specs.declared.changes.Held.{Held}
+use Rattle.ee_store_books.specs.Standing.{key_of}
 use Rattle.ee_store_load.specs.declared.entries.StoredTicket.{StoredTicket}
 use Rattle.ee_store_load.specs.declared.entries.StoredLine.{StoredLine}
 use Rattle.ee_store_load.specs.declared.entries.StoredBatch.{StoredBatch}
@@ -19,13 +20,13 @@ use Rattle.ee_store_load.specs.declared.entries.StoredReply.{StoredReply}
 use Rattle.ee_store_load.specs.declared.entries.Rowid.{Rowid}
 use Rattle.ee_store_load.specs.Reading.{whole_table, CanBeRead}
 use Rattle.ee_store_load.specs.Shown as spec
-use Rattle.ee_store_load.specs.Shown.{pair_lt, keyed_shown, pair_shown, IsKeyed, IsPaired, IsReply, IsAnswerRow, IsRowid, AreWritten}
+use Rattle.ee_store_load.specs.Shown.{pair_lt, keyed_shown, pair_shown, IsKeyed, IsPaired, IsReply, IsAnswerRow, IsRowid, IsBondRow, AreBonds, AreWritten}
 use Rattle.ee_store_schema.specs.declared.answers.StoredAnswer.{StoredAnswer}
 use Rattle.ee_store_schema.specs.Forms.{at_first_desk}
 use Rattle.ee_store_schema.specs.Migrating.{answer_entry}
 use Rattle.ee_store_load.proofs.QuestionLemmas.{by_key, by_pair, desk_terms, rate_terms, bond_terms, ticket_terms, line_terms, batch_terms, reply_terms, answer_terms, rowid_terms}
 use Rattle.ee_store_tables.proofs.Lemmas.OneRows.{un_desk, back_desk, un_rates, back_rates, un_bonds, back_bonds, un_tickets, back_tickets, un_lines, back_lines, un_batches, back_batches, un_replies, back_replies}
-use Rattle.ee_store_load.proofs.UsableLemmas.{can_read_keyed, all_keyed, all_paired, all_replies, all_answers, can_read_pairs, can_read_rowids}
+use Rattle.ee_store_load.proofs.UsableLemmas.{can_read_keyed, all_keyed, all_paired, all_replies, all_answers, all_bonds, can_read_pairs, can_read_rowids}
 
 desk_shows : (r : Row) (p : ℤ × (ℕ × DeskRow)) → ReadAlike r (row_of desk_columns (pos p.1.0, p.1)) → output (whole_table 0 desk_terms by_key) ([] ∷ r ∷ []) ≡ (Int (pos p.1.0) ∷ [], keyed_shown desk_columns p.1)
 desk_shows r p one = rw (one 0, one 2, one 3, one 4) refl
@@ -67,9 +68,9 @@ can_read_replies db m written holds = can_read_keyed reply_columns un_replies ba
 bond_shows : (r : Row) (p : ℤ × ((ℕ × ℕ) × BondRow)) → ReadAlike r (stored bond_columns p) → output (whole_table 2 bond_terms by_pair) ([] ∷ r ∷ []) ≡ (Int (pos p.1.0.0) ∷ Int (pos p.1.0.1) ∷ [], pair_shown bond_columns p.1)
 bond_shows r p one = rw (one 1, one 2, one 3, one 4, one 5, one 6, one 7) refl
 
-pub can_read_bonds : (db : Trees) (m : FinMap pair_cmp BondRow) → HoldsPairs bond_columns (db 2) m
-    → CanBeRead (IsPaired bond_columns) spec.bond_shown (λ (a b : StoredBond). pair_lt (a.letter, a.number) (b.letter, b.number)) db (whole_table 2 bond_terms by_pair)
-can_read_bonds db m holds = can_read_pairs bond_columns un_bonds back_bonds 2 bond_terms bond_shows db m refl holds spec.bond_entry (IsPaired bond_columns) (all_paired bond_columns (entries m))
+pub can_read_bonds : (db : Trees) (m : FinMap pair_cmp BondRow) → AreBonds m → HoldsPairs bond_columns (db 2) m
+    → CanBeRead IsBondRow spec.bond_shown (λ (a b : Held). pair_lt (key_of a.bond.serial) (key_of b.bond.serial)) db (whole_table 2 bond_terms by_pair)
+can_read_bonds db m are holds = can_read_pairs bond_columns un_bonds back_bonds 2 bond_terms bond_shows db m refl holds spec.bond_entry IsBondRow (all_bonds m are)
 
 pub can_read_bond_rowids : (db : Trees) (m : FinMap pair_cmp BondRow) → HoldsPairs bond_columns (db 2) m → CanBeRead IsRowid (λ (it : Rowid). Int it.rowid ∷ []) (λ (a b : Rowid). int_lt a.rowid b.rowid) db (whole_table 2 rowid_terms by_key)
 can_read_bond_rowids db m holds = can_read_rowids 2 bond_columns db m refl holds

@@ -21,7 +21,8 @@ use Rattle.ee_store_tables.proofs.Lemmas.Rows.{pair_total}
 use Rattle.ee_store_tables.proofs.Lemmas.OneRows.{un_desk, back_desk, un_rates, back_rates, un_tickets, back_tickets, un_batches, back_batches, un_replies, back_replies, un_bonds, back_bonds, un_lines, back_lines}
 use Rattle.ee_store_load.specs.declared.entries.StoredDesk.{StoredDesk}
 use Rattle.ee_store_load.specs.declared.entries.StoredRate.{StoredRate}
-use Rattle.ee_store_load.specs.declared.entries.StoredBond.{StoredBond}
+use Rattle.ee_desk_model.specs.declared.changes.Held.{Held}
+use Rattle.ee_store_books.specs.Standing.{key_of}
 use Rattle.ee_store_load.specs.declared.entries.StoredTicket.{StoredTicket}
 use Rattle.ee_store_load.specs.declared.entries.StoredLine.{StoredLine}
 use Rattle.ee_store_load.specs.declared.entries.StoredBatch.{StoredBatch}
@@ -199,13 +200,13 @@ alike_bonds : (r : Row) → are_typed bonds.key 0 bonds.columns (drop 1 r) ≡ t
     → ReadAlike r (stored bond_columns (i, e))
 alike_bonds r typed i e first is = reads_alike r (stored bond_columns (i, e)) (first, (ap (λ xs. column xs 0) is, (ap (λ xs. column xs 1) is, (ap (λ xs. column xs 2) is, (ap (λ xs. column xs 3) is, (ap (λ xs. column xs 4) is, (ap (λ xs. column xs 5) is, (ap (λ xs. column xs 6) is, tt)))))))) (short_row bonds.key bonds.columns r typed)
 
-pub holds_bonds : (form : Form) (db : Database) → IsDatabase db → db.schema ≡ schema_of form → (all : List StoredBond) (ids : List Rowid) → ShowsAll db.trees 2 bond_terms (map spec.bond_shown all)
-    → rises (λ a b. pair_lt (a.letter, a.number) (b.letter, b.number)) all ≡ true → ShowsAll db.trees 2 rowid_terms (map (λ it. Int it.rowid ∷ []) ids) → rises (λ a b. int_lt a.rowid b.rowid) ids ≡ true
+pub holds_bonds : (form : Form) (db : Database) → IsDatabase db → db.schema ≡ schema_of form → (all : List Held) (ids : List Rowid) → ShowsAll db.trees 2 bond_terms (map spec.bond_shown all)
+    → rises (λ a b. pair_lt (key_of a.bond.serial) (key_of b.bond.serial)) all ≡ true → ShowsAll db.trees 2 rowid_terms (map (λ it. Int it.rowid ∷ []) ids) → rises (λ a b. int_lt a.rowid b.rowid) ids ≡ true
     → HoldsPairs bond_columns (db.trees 2) (spec.bond_map all)
 holds_bonds form db sound has all ids shows up numbers ids_up =
     let same = subst (IsPermutation (map (shown_by bond_terms) (db.trees 2))) (sym (map-map (λ (e : (ℕ × ℕ) × BondRow). Int (pos e.0.0) ∷ Int (pos e.0.1) ∷ bond_columns e.1) spec.bond_entry all)) shows in
     let rowids = subst (IsPermutation (map (shown_by rowid_terms) (db.trees 2))) (sym (map-map (λ (j : ℤ). Int j ∷ []) (λ (it : Rowid). it.rowid) ids)) numbers in
-    let sorted = sorted_if_rises pair_cmp pair_total spec.bond_entry all (sym (rises_same _ _ (λ (a b : StoredBond). pair_below (a.letter, a.number) (b.letter, b.number)) all) ∙ up) in
+    let sorted = sorted_if_rises pair_cmp pair_total spec.bond_entry all (sym (rises_same _ _ (λ (a b : Held). pair_below (key_of a.bond.serial) (key_of b.bond.serial)) all) ∙ up) in
     holds_pairs bond_columns un_bonds back_bonds bond_terms (db.trees 2) (map spec.bond_entry all) (map (λ (it : Rowid). it.rowid) ids) same rowids
     (all_weaker _ _ alike_bonds (db.trees 2) (typed form db sound has).bonds) (apart_if_rises (λ (it : Rowid). it.rowid) ids ids_up) sorted
 
@@ -240,8 +241,8 @@ listed_batches all up = entries-from_sorted nat_cmp (map spec.batch_entry all) (
 pub listed_replies : (all : List StoredReply) → rises (λ a b. nat_lt a.number b.number) all ≡ true → entries (spec.reply_map all) ≡ map spec.reply_entry all
 listed_replies all up = entries-from_sorted nat_cmp (map spec.reply_entry all) (sorted_if_rises nat_cmp nat_cmp_total spec.reply_entry all (sym (rises_same _ _ (λ (a b : StoredReply). number_below a.number b.number) all) ∙ up))
 
-pub listed_bonds : (all : List StoredBond) → rises (λ a b. pair_lt (a.letter, a.number) (b.letter, b.number)) all ≡ true → entries (spec.bond_map all) ≡ map spec.bond_entry all
-listed_bonds all up = entries-from_sorted pair_cmp (map spec.bond_entry all) (sorted_if_rises pair_cmp pair_total spec.bond_entry all (sym (rises_same _ _ (λ (a b : StoredBond). pair_below (a.letter, a.number) (b.letter, b.number)) all) ∙ up))
+pub listed_bonds : (all : List Held) → rises (λ a b. pair_lt (key_of a.bond.serial) (key_of b.bond.serial)) all ≡ true → entries (spec.bond_map all) ≡ map spec.bond_entry all
+listed_bonds all up = entries-from_sorted pair_cmp (map spec.bond_entry all) (sorted_if_rises pair_cmp pair_total spec.bond_entry all (sym (rises_same _ _ (λ (a b : Held). pair_below (key_of a.bond.serial) (key_of b.bond.serial)) all) ∙ up))
 
 pub listed_lines : (all : List StoredLine) → rises (λ a b. pair_lt (a.ticket, a.place) (b.ticket, b.place)) all ≡ true → entries (spec.line_map all) ≡ map spec.line_entry all
 listed_lines all up = entries-from_sorted pair_cmp (map spec.line_entry all) (sorted_if_rises pair_cmp pair_total spec.line_entry all (sym (rises_same _ _ (λ (a b : StoredLine). pair_below (a.ticket, a.place) (b.ticket, b.place)) all) ∙ up))

@@ -1,6 +1,9 @@
--- Lemmas that the proofs of crates above use: whether a store has tables, of which version its rows are, that trees hold one set of rows, and
--- which room hidden row numbers leave.
-use Rattle.std.proofs.Common.{◌≡◌, ◌^◌}
+-- Lemmas that the proofs of crates above use: whether a store has tables, of which version its rows are, that trees hold one set of rows,
+-- which room hidden row numbers leave, and how serial numbers are read.
+use Rattle.std.proofs.Common.{ℕ, ◌≡◌, ◌^◌}
+use Rattle.std.specs.Prelude.{Option, Some}
+use Rattle.ee_units.specs.Spelling.{SerialNumber, serial_at, ◌>>=◌}
+use Rattle.ee_desk_texts.specs.Ranges.{IsSerial}
 use Rattle.sqlite.specs.State.{State}
 use Rattle.sqlite.specs.Tree.{Trees}
 use Rattle.ee_store_schema.specs.Forms.{IsOurs, HoldsIn}
@@ -10,6 +13,7 @@ use Rattle.ee_store_schema.specs.declared.forms.Form.{Form}
 use Rattle.ee_store_schema.specs.declared.forms.Form.TheVariants.{Current}
 use Rattle.ee_store_load.specs.Numbering.{HasNumbersLeft}
 use Rattle.ee_store_load.specs.Opening.{HasTables, IsOfForm, IsOtherVersion}
+use Rattle.ee_store_load.proofs.BondLemmas
 use Rattle.ee_store_load.proofs.NumberLemmas
 use Rattle.ee_store_load.proofs.OneLemmas
 use Rattle.ee_store_load.proofs.OpenLemmas
@@ -34,3 +38,18 @@ has_room = NumberLemmas.has_room
 -- so do bonds and lines in every form of the tables
 pub register_rises : (form : Form) (db : Trees) → IsTable (db 2) → IsTable (db 7) → HasNumbersLeft form db → Rises 1 (2 ^ 62) (db 2) × Rises 1 (2 ^ 62) (db 7)
 register_rises = NumberLemmas.register_rises
+
+-- ---- values that are read
+pub some_is : {A : Type 0} (x y : A) → Some x ≡ Some y → x ≡ y
+some_is = BondLemmas.some_is
+
+pub bind_some : {A B : Type 0} (o : Option A) (x : A) (f : A → Option B) (r : Option B) → o ≡ Some x → f x ≡ r → (o >>= f) ≡ r
+bind_some = BondLemmas.bind_some
+
+-- the letter and the number of a serial number in range are read as it
+pub serial_read : (s : SerialNumber) → IsSerial s → serial_at s.letter s.number ≡ Some s
+serial_read = BondLemmas.serial_read
+
+-- what is read as a serial number is its letter and its number
+pub serial_is : (letter number : ℕ) (s : SerialNumber) → serial_at letter number ≡ Some s → (letter ≡ s.letter) × (number ≡ s.number)
+serial_is = BondLemmas.serial_is

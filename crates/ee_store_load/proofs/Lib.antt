@@ -3,6 +3,7 @@ mod ScanLemmas
 mod AskLemmas
 mod FoundLemmas
 mod RowLemmas
+mod BondLemmas
 mod TableLemmas
 mod TextLemmas
 mod QuestionLemmas

@@ -8,7 +8,7 @@ use Rattle.sqlite_schema.specs.declared.schema.Index.{Index}
 use Rattle.ee_store_tables.specs.Tables.{counter_schema}
 use Rattle.ee_store_schema.specs.declared.forms.Form.{Form}
 use Rattle.ee_store_schema.specs.declared.forms.Form.TheVariants.{Current, First, Earliest}
-use Rattle.ee_store_schema.specs.Forms.{schema_of, replies}
+use Rattle.ee_store_schema.specs.Forms.{schema_of}
 use Rattle.ee_store_schema.specs.Asking.{IsNeverRefused}
 use Rattle.ee_store_load.specs.Reading.{whole_table}
 use Rattle.ee_store_load.proofs.TextLemmas.{begun_with, of_each, IsCompiled, IsMistyped, NeverOverflows, never_refused}

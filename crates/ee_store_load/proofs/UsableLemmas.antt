@@ -21,10 +21,10 @@ use Rattle.sqlite_trees.specs.Tree.{IsAscending}
 use Rattle.sqlite_value.proofs.OrderLemmas.{value_cmp-Int, then-Equal}
 use Rattle.sqlite_keyed.proofs.ListLemmas.{map-map, map_same, map_back, all_weaker, ascending-map, ascending_weaker, filter_all, all_of}
 use Rattle.ee_store_tables.specs.Keyed.{pair_cmp, row_of, stored, ReadAlike, HoldsMap, HoldsPairs}
-use Rattle.ee_store_tables.specs.Rows.{ReplyRow, reply_columns}
+use Rattle.ee_store_tables.specs.Rows.{ReplyRow, reply_columns, BondRow, bond_columns}
 use Rattle.ee_store_tables.proofs.Lemmas.Rows.{pair_total, no_limit, by_column, cmp_pos, rows_that_match, keyed_same, keys_rise, rows_in_order, int_in, number_in}
 use Rattle.ee_store_load.specs.Reading.{rises, whole_table, CanBeRead}
-use Rattle.ee_store_load.specs.Shown.{pair_lt, keyed_shown, pair_shown, IsKeyed, IsPaired, IsReply, IsAnswerRow, IsRowid, IsWritten, AreWritten}
+use Rattle.ee_store_load.specs.Shown.{pair_lt, keyed_shown, pair_shown, IsKeyed, IsPaired, IsReply, IsAnswerRow, IsRowid, IsWritten, AreWritten, IsBond, IsBondRow, AreBonds}
 use Rattle.ee_store_schema.specs.Forms.{at_first_desk}
 use Rattle.ee_store_schema.proofs.Lemmas.Desks.{first_desk_get}
 use Rattle.ee_store_load.specs.declared.entries.Rowid.{Rowid}
@@ -133,6 +133,15 @@ pub all_replies : (m : FinMap nat_cmp ReplyRow) → AreWritten (at_first_desk m)
 all_replies m written =
     let found = entry_found nat_cmp nat_cmp_total (entries m) (entries_sorted m) in
     All-from_recursion _ _ (are_replies (entries m) (all_weaker _ _ (λ e is. written (0, e.0) e.1 (first_desk_get m e.0 ∙ get-entries m e.0 ∙ is)) (entries m) found))
+
+are_bonds : (es : List ((ℕ × ℕ) × BondRow)) → AllByRecursion IsBond es → AllByRecursion IsBondRow (map (pair_shown bond_columns) es)
+are_bonds [] all = tt
+are_bonds (e ∷ es) all = ((e, refl, all.0), are_bonds es all.1)
+
+pub all_bonds : (m : FinMap pair_cmp BondRow) → AreBonds m → All IsBondRow (map (pair_shown bond_columns) (entries m))
+all_bonds m are =
+    let found = entry_found pair_cmp pair_total (entries m) (entries_sorted m) in
+    All-from_recursion _ _ (are_bonds (entries m) (all_weaker _ _ (λ e is. are e.0 e.1 (get-entries m e.0 ∙ is)) (entries m) found))
 
 are_answers : (es : List ((ℕ × ℕ) × ReplyRow)) → AllByRecursion (λ e. IsWritten e.1) es → AllByRecursion IsAnswerRow (map (pair_shown reply_columns) es)
 are_answers [] all = tt

@@ -15,7 +15,7 @@ use Rattle.ee_store_schema.specs.declared.faults.OpenFault.TheVariants.{WrongVer
 use Rattle.ee_store_schema.specs.declared.forms.Form.{Form}
 use Rattle.ee_store_schema.specs.Forms.{version_of}
 use Rattle.ee_store_schema.specs.Making.{no_tables}
-use Rattle.ee_store_load.specs.Shown.{AreWritten}
+use Rattle.ee_store_load.specs.Shown.{AreBonds, AreWritten}
 
 -- the tables that every form begins with
 abbrev pub common_tables : List Table
@@ -50,9 +50,10 @@ IsOther rows = (desk : DeskRow) × (get rows 1 ≡ Some desk) × (desk.version �
 abbrev pub IsOtherVersion : Rows → Type 0
 IsOtherVersion rows = IsOther rows.desk
 
--- The desk's row exists, has the version of this form, and each text is UTF-8, as this program writes it.
+-- The desk's row exists and has the version of this form, each row of the register is that of a bond, and each text is UTF-8, as this program writes it.
 pub record AreReadable (form : Form) (rows : Rows) : Type 0 where
   pub desk : IsOfForm form rows
+  pub bonds : AreBonds rows.bonds
   pub texts : AreWritten rows.answers
 
 -- ---- the version where the tables may be others

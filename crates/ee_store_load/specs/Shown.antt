@@ -5,10 +5,13 @@ use Rattle.std.specs.FinMap.{FinMap, get, from_sorted}
 use Rattle.ee_store_tables.specs.Keyed.{pair_cmp}
 use Rattle.sqlite.specs.declared.types.Value.TheVariants.{Int, Text}
 use Rattle.sqlite.specs.Order.{Row}
-use Rattle.ee_store_tables.specs.Rows.{DeskRow, BondRow, TicketRow, PaidRow, BatchRow, ReplyRow, number, optional, reply_columns}
+use Rattle.ee_store_tables.specs.Rows.{DeskRow, BondRow, TicketRow, PaidRow, BatchRow, ReplyRow, number, optional, bond_columns, reply_columns}
+use Rattle.ee_units.specs.Denoms.{dollars}
+use Rattle.ee_desk_model.specs.declared.changes.Held.{Held}
+use Rattle.ee_desk_texts.specs.Ranges.{BondFits}
+use Rattle.ee_store_books.specs.Standing.{bond_row, key_of}
 use Rattle.ee_store_load.specs.declared.entries.StoredDesk.{StoredDesk}
 use Rattle.ee_store_load.specs.declared.entries.StoredRate.{StoredRate}
-use Rattle.ee_store_load.specs.declared.entries.StoredBond.{StoredBond}
 use Rattle.ee_store_load.specs.declared.entries.StoredTicket.{StoredTicket}
 use Rattle.ee_store_load.specs.declared.entries.StoredLine.{StoredLine}
 use Rattle.ee_store_load.specs.declared.entries.StoredBatch.{StoredBatch}
@@ -28,8 +31,10 @@ desk_shown d = number d.id ∷ number d.version ∷ optional d.day ∷ optional 
 abbrev pub rate_shown : StoredRate → Row
 rate_shown r = number r.period ∷ number r.rate ∷ []
 
-abbrev pub bond_shown : StoredBond → Row
-bond_shown b = number b.letter ∷ number b.number ∷ number b.denom ∷ number b.issued ∷ number b.owner ∷ optional b.coowner ∷ optional b.ticket ∷ []
+abbrev pub bond_shown : Held → Row
+bond_shown h =
+    number h.bond.serial.letter ∷ number h.bond.serial.number ∷ number (dollars h.bond.denom) ∷ number h.bond.issued ∷ number h.bond.owner ∷ optional h.bond.coowner
+    ∷ optional h.ticket ∷ []
 
 abbrev pub ticket_shown : StoredTicket → Row
 ticket_shown t = number t.ticket ∷ number t.day ∷ number t.payee ∷ number t.bonds ∷ number t.total ∷ []
@@ -62,6 +67,19 @@ IsKeyed {X} columns row = (e : ℕ × X) × (row ≡ keyed_shown columns e)
 abbrev pub IsPaired : {X : Type 0} → (X → Row) → Row → Type 0
 IsPaired {X} columns row = (e : (ℕ × ℕ) × X) × (row ≡ pair_shown columns e)
 
+abbrev pub bond_entry : Held → (ℕ × ℕ) × BondRow
+bond_entry h = (key_of h.bond.serial, bond_row h)
+
+-- a registered bond has this entry
+abbrev pub IsBond : (ℕ × ℕ) × BondRow → Type 0
+IsBond e = (held : Held) × BondFits held.bond × (e ≡ bond_entry held)
+
+abbrev pub AreBonds : FinMap pair_cmp BondRow → Type 0
+AreBonds bonds = (k : ℕ × ℕ) (bond : BondRow) → get bonds k ≡ Some bond → IsBond (k, bond)
+
+abbrev pub IsBondRow : Row → Type 0
+IsBondRow row = (e : (ℕ × ℕ) × BondRow) × (row ≡ pair_shown bond_columns e) × IsBond e
+
 -- texts that can be read
 abbrev pub IsWritten : ReplyRow → Type 0
 IsWritten reply = IsUtf8 reply.act × IsUtf8 reply.reply
@@ -86,9 +104,6 @@ desk_entry d = (d.id, record { version = d.version; day = d.day; last_day = d.la
 abbrev pub rate_entry : StoredRate → ℕ × ℕ
 rate_entry r = (r.period, r.rate)
 
-abbrev pub bond_entry : StoredBond → (ℕ × ℕ) × BondRow
-bond_entry b = ((b.letter, b.number), record { denom = b.denom; issued = b.issued; owner = b.owner; coowner = b.coowner; ticket = b.ticket })
-
 abbrev pub ticket_entry : StoredTicket → ℕ × TicketRow
 ticket_entry t = (t.ticket, record { day = t.day; payee = t.payee; bonds = t.bonds; total = t.total })
 
@@ -109,7 +124,7 @@ desk_map all = from_sorted (map desk_entry all)
 abbrev pub rate_map : List StoredRate → FinMap nat_cmp ℕ
 rate_map all = from_sorted (map rate_entry all)
 
-abbrev pub bond_map : List StoredBond → FinMap pair_cmp BondRow
+abbrev pub bond_map : List Held → FinMap pair_cmp BondRow
 bond_map all = from_sorted (map bond_entry all)
 
 abbrev pub ticket_map : List StoredTicket → FinMap nat_cmp TicketRow

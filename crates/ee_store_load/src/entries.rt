@@ -5,7 +5,7 @@
 
 ghost use Rattle.std.specs.Prelude.{[], ◌∷◌, nat_lt, int_lt};
 ghost use Rattle.sqlite.specs.declared.types.Value.TheVariants.{Int};
-ghost use Rattle.ee_store_tables.specs.Rows.{desk_columns, rate_columns, bond_columns, ticket_columns, paid_columns, batch_columns};
+ghost use Rattle.ee_store_tables.specs.Rows.{desk_columns, rate_columns, ticket_columns, paid_columns, batch_columns};
 ghost use Rattle.ee_store_load.specs.Shown as spec;
 
 use crate::reading::StoredRow;
@@ -32,25 +32,6 @@ pub struct StoredRate {
     pub period: u64,
     /// The rate, in hundredths of a percent.
     pub rate: u64,
-}
-
-/// A registered bond, and the ticket that paid it.
-#[derive(Clone, Copy)]
-pub struct StoredBond {
-    /// The letter of the serial number, 1 for A.
-    pub letter: u64,
-    /// The number of the serial number.
-    pub number: u64,
-    /// The denomination in dollars.
-    pub denom: u64,
-    /// The issue month.
-    pub issued: u64,
-    /// The customer who is the owner.
-    pub owner: u64,
-    /// The customer who is the coowner, if there is one.
-    pub coowner: Option<u64>,
-    /// The number of the ticket that paid it, if one did.
-    pub ticket: Option<u64>,
 }
 
 /// A ticket without its lines.
@@ -157,33 +138,6 @@ impl StoredRow for StoredRate {
 
     fn precedes(&self, next: &StoredRate) -> bool {
         self.period < next.period
-    }
-}
-
-impl StoredRow for StoredBond {
-    ghost shown = { spec.bond_shown };
-
-    ghost is_readable = { spec.IsPaired bond_columns };
-
-    ghost stands_before = { λ a b. spec.pair_lt (a.letter, a.number) (b.letter, b.number) };
-
-    fn read(row: &Row) -> Result<StoredBond, OpenFault> {
-        if row.column_count() != 7 {
-            return Err(OpenFault::Unusable);
-        }
-        Ok(StoredBond {
-            letter: row.get(0)?,
-            number: row.get(1)?,
-            denom: row.get(2)?,
-            issued: row.get(3)?,
-            owner: row.get(4)?,
-            coowner: row.get(5)?,
-            ticket: row.get(6)?,
-        })
-    }
-
-    fn precedes(&self, next: &StoredBond) -> bool {
-        self.letter < next.letter || (self.letter == next.letter && self.number < next.number)
     }
 }
 

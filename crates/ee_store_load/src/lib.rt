@@ -7,6 +7,7 @@
 //! written.
 #![tactic(auto)]
 
+mod bonds;
 mod entries;
 mod numbering;
 mod opening;
@@ -17,9 +18,7 @@ mod testing;
 mod version;
 mod whole;
 
-pub use entries::{
-    StoredBatch, StoredBond, StoredDesk, StoredLine, StoredRate, StoredReply, StoredTicket,
-};
+pub use entries::{StoredBatch, StoredDesk, StoredLine, StoredRate, StoredReply, StoredTicket};
 pub use opening::{is_blank, open_rows};
 pub use tables::KeptReplies;
 pub use testing::RowTest;

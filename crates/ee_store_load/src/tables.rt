@@ -29,6 +29,7 @@ ghost use Rattle.ee_store_schema.specs.Migrating.{answer_entry};
 ghost use Rattle.ee_store_load.specs.Numbering.{AllLeaveRoom};
 ghost use Rattle.ee_store_load.specs.Reading.{IsSoundNow, OnlyLoads};
 ghost use Rattle.ee_store_load.specs.Shown.{
+  AreBonds,
   AreWritten,
   desk_map,
   rate_map,
@@ -50,11 +51,12 @@ ghost use Rattle.ee_store_load.specs.Shown.{
 ghost use Rattle.ee_store_load.specs.Whole.{HasFirstTables, HoldsKept, HoldsTested, HoldsExtensions};
 
 use crate::entries::{
-    Rowid, StoredBatch, StoredBond, StoredDesk, StoredLine, StoredRate, StoredReply, StoredTicket,
+    Rowid, StoredBatch, StoredDesk, StoredLine, StoredRate, StoredReply, StoredTicket,
 };
 use crate::numbering::RoomAbove;
 use crate::reading::read_table;
 use crate::testing::{RowTest, all_pass, test_table};
+use ee_desk_model::Held;
 use ee_store_schema::{Form, OpenFault, StoredAnswer};
 use sqlite::{Alter, Connection};
 use std::alloc::Global;
@@ -295,14 +297,14 @@ pub(crate) struct NumberedRows<T> {
 pub(crate) fn read_bonds<S: Alter>(
     conn: &mut Connection<S>,
     alloc: Global,
-) -> Result<NumberedRows<StoredBond>, OpenFault>
+) -> Result<NumberedRows<Held>, OpenFault>
     ensures found { HasCleanDisk (state S.Store conn.new) → HasOurTables (state S.Store conn.old) → IsSoundNow (state S.Store conn.old)
         → IfOk result (λ found. HoldsPairs bond_columns ((state S.Store conn.old).now.trees 2) (bond_map found.rows.items)) }
     ensures room { HasCleanDisk (state S.Store conn.new) → HasOurTables (state S.Store conn.old)
         → IfOk result (λ found. (found.has_room ≡ true) ↔ AllLeaveRoom ((state S.Store conn.old).now.trees 2)) }
     ensures listed { IfOk result (λ found. entries (bond_map found.rows.items) ≡ map bond_entry found.rows.items) }
     ensures usable { HasCleanDisk (state S.Store conn.new) → IfErr result (λ e. e ≡ OpenFault.Unusable → HasOurTables (state S.Store conn.old)
-        → IsTrue (state S.Store conn.old).is_open → (m : FinMap pair_cmp BondRow) → ¬ HoldsPairs bond_columns ((state S.Store conn.old).now.trees 2) m) }
+        → IsTrue (state S.Store conn.old).is_open → (m : FinMap pair_cmp BondRow) → AreBonds m → ¬ HoldsPairs bond_columns ((state S.Store conn.old).now.trees 2) m) }
     ensures only_loads { OnlyLoads (state S.Store conn.old) (state S.Store conn.new) result }
     ensures cause { FailsForCause HasOurTables (state S.Store conn.old) (state S.Store conn.new) result }
 {

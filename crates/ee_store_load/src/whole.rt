@@ -7,7 +7,7 @@ ghost use Rattle.ee_store_tables.specs.Rows.{Rows};
 ghost use Rattle.ee_store_schema.specs.declared.forms.Form.{Form};
 ghost use Rattle.ee_store_schema.specs.Forms.{HoldsIn, SeesForm, HasOurTables, SeesIn, HasForm, HadIn};
 ghost use Rattle.ee_store_load.specs.Opening.{IsOfForm, IsOtherVersion, AreReadable};
-ghost use Rattle.ee_store_load.specs.Shown.{AreWritten};
+ghost use Rattle.ee_store_load.specs.Shown.{AreBonds, AreWritten};
 ghost use Rattle.ee_store_schema.specs.Faults.{FailsForCause, StaysOutside};
 ghost use Rattle.ee_store_load.specs.Numbering.{HasNumbersLeft};
 ghost use Rattle.ee_store_load.specs.Reading.{IsSoundNow, OnlyLoads};
@@ -23,13 +23,14 @@ ghost use Rattle.ee_store_load.specs.Whole.{
   ListsRecords,
 };
 
-use crate::entries::{StoredBatch, StoredBond, StoredDesk, StoredLine, StoredRate, StoredTicket};
+use crate::entries::{StoredBatch, StoredDesk, StoredLine, StoredRate, StoredTicket};
 use crate::tables::{
     KeptReplies, read_batches, read_bonds, read_desk, read_extensions, read_lines, read_rates,
     read_tickets, test_answers,
 };
 use crate::testing::RowTest;
 use crate::version::known_version;
+use ee_desk_model::Held;
 use ee_store_schema::{Form, OpenFault, StoredAnswer};
 use sqlite::{Alter, Connection};
 use std::alloc::Global;
@@ -43,8 +44,8 @@ pub struct AllRows {
     pub desk: Vec<StoredDesk>,
     /// The fixed rates.
     pub rates: Vec<StoredRate>,
-    /// The bonds.
-    pub bonds: Vec<StoredBond>,
+    /// The registered bonds, each with the ticket that paid it.
+    pub bonds: Vec<Held>,
     /// The tickets.
     pub tickets: Vec<StoredTicket>,
     /// The lines of the tickets.
@@ -64,7 +65,7 @@ pub struct AllRows {
 pub(crate) struct RegisterRows {
     desk: Vec<StoredDesk>,
     rates: Vec<StoredRate>,
-    bonds: Vec<StoredBond>,
+    bonds: Vec<Held>,
     has_room: bool,
 }
 
@@ -92,7 +93,7 @@ fn read_register<S: Alter>(
         → IfOk result (λ found. HoldsRegister (state S.Store conn.old).now.trees found) }
     ensures listed { IfOk result ListsRegister }
     ensures usable { HasCleanDisk (state S.Store conn.new) → IfErr result (λ e. e ≡ OpenFault.Unusable → HasOurTables (state S.Store conn.old)
-        → IsTrue (state S.Store conn.old).is_open → (form : Form) (rows : Rows) → ¬ HoldsIn form (state S.Store conn.old).now.trees rows) }
+        → IsTrue (state S.Store conn.old).is_open → (form : Form) (rows : Rows) → AreBonds rows.bonds → ¬ HoldsIn form (state S.Store conn.old).now.trees rows) }
     ensures only_loads { OnlyLoads (state S.Store conn.old) (state S.Store conn.new) result }
     ensures cause { FailsForCause HasOurTables (state S.Store conn.old) (state S.Store conn.new) result }
 {
@@ -162,7 +163,7 @@ fn read_in<S: Alter, P: RowTest<StoredAnswer>>(
     ensures listed { IfOk result ListsAll }
     ensures form { IfOk result (λ all. all.form ≡ form) }
     ensures usable { HasCleanDisk (state S.Store conn.new) → IfErr result (λ e. e ≡ OpenFault.Unusable → SeesForm form (state S.Store conn.old)
-        → IsTrue (state S.Store conn.old).is_open → (rows : Rows) → AreWritten rows.answers → ¬ HoldsIn form (state S.Store conn.old).now.trees rows) }
+        → IsTrue (state S.Store conn.old).is_open → (rows : Rows) → AreBonds rows.bonds → AreWritten rows.answers → ¬ HoldsIn form (state S.Store conn.old).now.trees rows) }
     ensures only_loads { OnlyLoads (state S.Store conn.old) (state S.Store conn.new) result }
     ensures cause { FailsForCause (SeesForm form) (state S.Store conn.old) (state S.Store conn.new) result }
 {

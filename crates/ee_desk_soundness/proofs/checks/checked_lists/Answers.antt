@@ -1,36 +1,29 @@
-use Rattle.std.proofs.Common.{◌≡◌, true, refl, rules}
-use Rattle.std.specs.Result.{IfErr}
-use Rattle.std.proofs.lemmas.Result.{IfErr-weaker}
+use Rattle.std.proofs.Common.{rules, ◌≡◌, List, map, sym, ap, ◌∙◌, subst}
+use Rattle.std.specs.Result.{IfOk, IfErr}
+use Rattle.ee_calculator.specs.declared.bonds.Bond.{Bond}
 use Rattle.ee_desk_soundness.specs.declared.parts.PartsFault.TheVariants.{Unsound}
-use Rattle.ee_desk_soundness.specs.Checks.{parts_in, IsRegister, AreClosed}
-use Rattle.ee_desk_soundness.proofs.Making.{unmarked, small, made_is, not_paid, not_register, not_closed}
+use Rattle.ee_desk_soundness.specs.Parts.{AreUnsound}
+use Rattle.ee_desk_soundness.specs.Made.{IsMadeOf}
+use Rattle.ee_desk_soundness.specs.Marks.{bonds_listed, unpaid}
+use Rattle.ee_desk_soundness.specs.Checks.{parts_in}
+use Rattle.ee_desk_soundness.proofs.BondPlaces.{listed_unpaid}
+use Rattle.ee_desk_soundness.proofs.Making.{not_register}
 use Rattle.ee_desk_soundness.proofs.checks.checked_lists.Goals as goal
 
-pub returns-in_err-maps-clause-unsound : goal.returns-in_err-maps-clause-unsound
-returns-in_err-maps-clause-unsound c =
-    let never : IfErr c.from_residual.result (λ fault. fault ≡ Unsound → IsRegister c.args.rates.now c.args.bonds.now → ⊥) = search rules in
-    IfErr-weaker c.from_residual.result _ _ (λ fault h e. not_register (parts_in c.args.rates.now c.args.bonds.now c.args.day c.args.last c.args.tickets.now c.args.batches.now) (h e)) never
-
-pub pay-requires : goal.pay-requires
-pay-requires c =
-    unmarked (parts_in c.args.rates.now c.args.bonds.now c.args.day c.args.last c.args.tickets.now c.args.batches.now) c.in_ok-maps.maps.terms.entries c.in_ok-maps.maps.bonds c.in_ok-maps.ensures.terms c.in_ok-maps.ensures.bonds
-
-pub returns-then-not-pay-clause-unsound : goal.returns-then-not-pay-clause-unsound
-returns-then-not-pay-clause-unsound c =
-    λ e. not_paid (parts_in c.args.rates.now c.args.bonds.now c.args.day c.args.last c.args.tickets.now c.args.batches.now) c.in_ok-maps.maps.terms.entries c.in_ok-maps.maps.bonds c.in_ok-maps.ensures.terms c.in_ok-maps.ensures.bonds (λ paid. let full = c.pay.ensures.paid.1 paid in absurd (search rules))
-
-pub closed-requires : goal.closed-requires
-closed-requires c =
-    let holds : c.pay.result ≡ true = search rules in
-    small (parts_in c.args.rates.now c.args.bonds.now c.args.day c.args.last c.args.tickets.now c.args.batches.now) c.in_ok-maps.maps.terms.entries c.in_ok-maps.maps.bonds c.in_ok-maps.ensures.terms c.in_ok-maps.ensures.bonds c.in_ok-maps.ensures.right (c.pay.ensures.paid.0 holds)
-
-pub returns-in_err-counts-clause-unsound : goal.returns-in_err-counts-clause-unsound
-returns-in_err-counts-clause-unsound c =
-    let never : IfErr c.from_residual-in_err-counts.result (λ fault. fault ≡ Unsound → AreClosed c.args.tickets.now c.args.batches.now c.args.day c.args.last → ⊥) = search rules in
-    IfErr-weaker c.from_residual-in_err-counts.result _ _ (λ fault h e. not_closed (parts_in c.args.rates.now c.args.bonds.now c.args.day c.args.last c.args.tickets.now c.args.batches.now) (h e)) never
+pub checked_bonds-requires : goal.checked_bonds-requires
+checked_bonds-requires c =
+    c.in_ok-held.ensures ∙ ap (map unpaid) (sym (ap bonds_listed c.in_ok-held.ensures ∙ listed_unpaid c.args.bonds.now))
 
 pub returns-clause-ok : goal.returns-clause-ok
 returns-clause-ok c =
-    let holds : c.pay.result ≡ true = search rules in
-    made_is (parts_in c.args.rates.now c.args.bonds.now c.args.day c.args.last c.args.tickets.now c.args.batches.now) c.in_ok-maps.maps.terms.entries c.in_ok-maps.maps.bonds c.in_ok-maps.ensures.terms c.in_ok-maps.ensures.bonds _ refl c.in_ok-maps.ensures.right (c.pay.ensures.paid.0 holds) (c.pay.ensures.marked holds) (c.pay.ensures.bonds holds)
-    c.in_ok-counts.ensures.right c.in_range.ensures c.in_ok-counts.ensures.counts
+    let same = ap bonds_listed c.in_ok-held.ensures ∙ listed_unpaid c.args.bonds.now in
+    subst (λ (bonds : List Bond). IfOk c.checked_bonds.result (IsMadeOf (parts_in c.args.rates.now bonds c.args.day c.args.last c.args.tickets.now c.args.batches.now))) same c.checked_bonds.ensures.ok
+
+pub returns-clause-unsound : goal.returns-clause-unsound
+returns-clause-unsound c =
+    let same = ap bonds_listed c.in_ok-held.ensures ∙ listed_unpaid c.args.bonds.now in
+    subst (λ (bonds : List Bond). IfErr c.checked_bonds.result (λ fault. fault ≡ Unsound → AreUnsound (parts_in c.args.rates.now bonds c.args.day c.args.last c.args.tickets.now c.args.batches.now))) same c.checked_bonds.ensures.unsound
+
+pub returns-then-not-serials_rise-clause-unsound : goal.returns-then-not-serials_rise-clause-unsound
+returns-then-not-serials_rise-clause-unsound c =
+    λ e. not_register (parts_in c.args.rates.now c.args.bonds.now c.args.day c.args.last c.args.tickets.now c.args.batches.now) (λ register. let full = c.serials_rise.ensures.1 register.serials in absurd (search rules))

@@ -4,7 +4,14 @@ use Rattle.std.proofs.lemmas.Bool.{not-true, not-false}
 use Rattle.ee_desk_model.specs.Repeats.{Content}
 use Rattle.ee_store_tables.specs.Rows.{Rows}
 use Rattle.ee_store_load.specs.Whole.{AreRead}
-use Rattle.ee_store_contents.specs.Contents.{KeepsAnswer}
+use Rattle.ee_store_contents.specs.Contents.{KeepsAnswer, parts_of_read}
+use Rattle.std.proofs.Common.{map}
+use Rattle.std.specs.Prelude.{T}
+use Rattle.std.specs.FinMap.{is_sorted}
+use Rattle.ee_store_tables.specs.Keyed.{pair_cmp}
+use Rattle.ee_store_load.specs.Shown.{bond_entry}
+use Rattle.ee_store_load.specs.declared.whole.AllRows.{AllRows}
+use Rattle.ee_store_contents.proofs.RowsOfBooks.{rows_rise}
 use Rattle.ee_store_books.specs.Standing.{StandAt}
 use Rattle.ee_store_schema.specs.Forms.{version_of}
 use Rattle.ee_store_contents.specs.declared.contents.ContentFault.{ContentFault}
@@ -33,13 +40,17 @@ returns-in_err-indexes-clause-unusable c =
     let rest = c.take_earlier-answers.new.stored in
     handed_on (λ fault. fault ≡ Unusable → (rows : Rows) → AreRead KeepsAnswer stored rows → (content : Content) → StandAt (version_of stored.form) rows content → ⊥) c.from_residual-in_err-indexes.result c.in_err-indexes.field-0.0
     c.from_residual-in_err-indexes.ensures.1
-    (λ is rows read content stands. not_sound stored rows c.requires read c.in_ok-parts.parts (c.in_ok-parts.ensures.found ∙ same_parts stored rest c.take_earlier-answers.ensures.rest) (c.in_err-indexes.ensures.unusable is) content stands)
+    (λ is rows read content stands. not_sound stored rows c.requires read (parts_of_read c.in_ok-parts.parts) (c.in_ok-parts.ensures.found ∙ same_parts stored rest c.take_earlier-answers.ensures.rest) (c.in_err-indexes.ensures.unusable is) content stands)
 
 pub returns-clause-ok : goal.returns-clause-ok
 returns-clause-ok c rows read =
     let stored = c.args.stored in
     let rest = c.take_earlier-answers.new.stored in
     let made = c.in_ok-indexes.ensures.ok in
-    let found = tables_founded stored rows c.requires read c.in_ok-parts.parts c.in_ok-indexes.indexes.terms.entries
+    let found = tables_founded stored rows c.requires read (parts_of_read c.in_ok-parts.parts) c.in_ok-indexes.indexes.terms.entries
     (c.in_ok-parts.ensures.found ∙ same_parts stored rest c.take_earlier-answers.ensures.rest) c.in_ok-parts.ensures.fits (not-false stored.replies.pass c.if-not-stored.false) made.sound made.rates in
     (found.0, c.in_ok-tables.ensures ∙ found.1, found.2)
+
+pub right_parts-requires : goal.right_parts-requires
+right_parts-requires c =
+    rows_rise _ (subst (λ (rows : AllRows). T (is_sorted pair_cmp (map bond_entry rows.bonds.items))) (sym c.take_earlier-answers.ensures.rest) c.requires.bonds)

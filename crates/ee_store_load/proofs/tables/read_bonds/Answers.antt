@@ -73,15 +73,15 @@ returns-clause-listed g c = listed_bonds c.in_ok-rows.rows.items c.in_ok-rows.en
 pub returns-in_err-rows-clause-usable : goal.returns-in_err-rows-clause-usable
 returns-in_err-rows-clause-usable g c clean =
     let old = state g.S.Store c.args.conn.now in
-    handed_on _ c.from_residual.result c.in_err-rows.field-0.0 c.from_residual.ensures.1 (λ unusable ours is_open m holds.
-    c.in_err-rows.ensures.usable clean unusable (schema_of ours.0) 2 bond_terms by_pair (asks_bonds ours.0) ours.1 is_open (can_read_bonds old.now.trees m holds))
+    handed_on _ c.from_residual.result c.in_err-rows.field-0.0 c.from_residual.ensures.1 (λ unusable ours is_open m are holds.
+    c.in_err-rows.ensures.usable clean unusable (schema_of ours.0) 2 bond_terms by_pair (asks_bonds ours.0) ours.1 is_open (can_read_bonds old.now.trees m are holds))
 
 pub returns-in_err-has_room-clause-usable : goal.returns-in_err-has_room-clause-usable
 returns-in_err-has_room-clause-usable g c clean =
     let old = state g.S.Store c.args.conn.now in
     let middle = state g.S.Store c.read_table.new.conn in
     let new = state g.S.Store c.test_table.new.conn in
-    handed_on _ c.from_residual-in_err-has_room.result c.in_err-has_room.field-0.0 c.from_residual-in_err-has_room.ensures.1 (λ unusable ours is_open m holds.
+    handed_on _ c.from_residual-in_err-has_room.result c.in_err-has_room.field-0.0 c.from_residual-in_err-has_room.ensures.1 (λ unusable ours is_open m are holds.
     let before = clean_before middle new c.test_table.ensures.only_loads.crash clean in
     let same = c.in_ok-rows.ensures.only_loads.same before in
     let ours_then = still_form ours.0 old middle same ours.1 in

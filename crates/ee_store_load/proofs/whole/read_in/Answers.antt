@@ -155,15 +155,15 @@ returns-clause-listed g c =
 
 pub returns-in_err-register-clause-usable : goal.returns-in_err-register-clause-usable
 returns-in_err-register-clause-usable g c clean =
-    handed_on _ c.from_residual.result c.in_err-register.field-0.0 c.from_residual.ensures.1 (λ unusable ours_0 open_0 rows written holds_0.
+    handed_on _ c.from_residual.result c.in_err-register.field-0.0 c.from_residual.ensures.1 (λ unusable ours_0 open_0 rows bonds written holds_0.
     let at_0 = state g.S.Store c.args.conn.now in
     let at_1 = state g.S.Store c.read_register.new.conn in
     let clean_1 = clean in
-    c.in_err-register.ensures.usable clean_1 unusable (c.args.form, ours_0) open_0 c.args.form rows holds_0)
+    c.in_err-register.ensures.usable clean_1 unusable (c.args.form, ours_0) open_0 c.args.form rows bonds holds_0)
 
 pub returns-in_err-payments-clause-usable : goal.returns-in_err-payments-clause-usable
 returns-in_err-payments-clause-usable g c clean =
-    handed_on _ c.from_residual-in_err-payments.result c.in_err-payments.field-0.0 c.from_residual-in_err-payments.ensures.1 (λ unusable ours_0 open_0 rows written holds_0.
+    handed_on _ c.from_residual-in_err-payments.result c.in_err-payments.field-0.0 c.from_residual-in_err-payments.ensures.1 (λ unusable ours_0 open_0 rows bonds written holds_0.
     let at_0 = state g.S.Store c.args.conn.now in
     let at_1 = state g.S.Store c.read_register.new.conn in
     let at_2 = state g.S.Store c.read_payments.new.conn in
@@ -176,7 +176,7 @@ returns-in_err-payments-clause-usable g c clean =
 
 pub returns-in_err-records-clause-usable : goal.returns-in_err-records-clause-usable
 returns-in_err-records-clause-usable g c clean =
-    handed_on _ c.from_residual-in_err-records.result c.in_err-records.field-0.0 c.from_residual-in_err-records.ensures.1 (λ unusable ours_0 open_0 rows written holds_0.
+    handed_on _ c.from_residual-in_err-records.result c.in_err-records.field-0.0 c.from_residual-in_err-records.ensures.1 (λ unusable ours_0 open_0 rows bonds written holds_0.
     let at_0 = state g.S.Store c.args.conn.now in
     let at_1 = state g.S.Store c.read_register.new.conn in
     let at_2 = state g.S.Store c.read_payments.new.conn in
@@ -194,7 +194,7 @@ returns-in_err-records-clause-usable g c clean =
 
 pub returns-in_err-extensions-clause-usable : goal.returns-in_err-extensions-clause-usable
 returns-in_err-extensions-clause-usable g c clean =
-    handed_on _ c.from_residual-in_err-extensions.result c.in_err-extensions.field-0.0 c.from_residual-in_err-extensions.ensures.1 (λ unusable ours_0 open_0 rows written holds_0.
+    handed_on _ c.from_residual-in_err-extensions.result c.in_err-extensions.field-0.0 c.from_residual-in_err-extensions.ensures.1 (λ unusable ours_0 open_0 rows bonds written holds_0.
     let at_0 = state g.S.Store c.args.conn.now in
     let at_1 = state g.S.Store c.read_register.new.conn in
     let at_2 = state g.S.Store c.read_payments.new.conn in

@@ -62,7 +62,7 @@ returns-clause-usable g c clean =
     let before = clean_before middle new c.read_in.ensures.only_loads.crash clean in
     each_fault c.read_in.result (λ e usable unusable ours is_open rows sees readable.
     let same = c.in_ok-version.ensures.same before in
-    usable unusable (still_form c.args.form old middle same ours) same.0.is_open rows readable.texts (subst (λ (d : Database). HoldsIn c.args.form d.trees rows) (sym same.0.now_is) (sees is_open).1)) (c.read_in.ensures.usable clean)
+    usable unusable (still_form c.args.form old middle same ours) same.0.is_open rows readable.bonds readable.texts (subst (λ (d : Database). HoldsIn c.args.form d.trees rows) (sym same.0.now_is) (sees is_open).1)) (c.read_in.ensures.usable clean)
 
 pub returns-clause-tested : goal.returns-clause-tested
 returns-clause-tested g c clean =

@@ -65,7 +65,7 @@ returns-clause-listed g c = record { desk = c.in_ok-desk.ensures.listed; rates =
 
 pub returns-in_err-desk-clause-usable : goal.returns-in_err-desk-clause-usable
 returns-in_err-desk-clause-usable g c clean =
-    handed_on _ c.from_residual.result c.in_err-desk.field-0.0 c.from_residual.ensures.1 (λ unusable ours_0 open_0 form rows holds_0.
+    handed_on _ c.from_residual.result c.in_err-desk.field-0.0 c.from_residual.ensures.1 (λ unusable ours_0 open_0 form rows bonds holds_0.
     let at_0 = state g.S.Store c.args.conn.now in
     let at_1 = state g.S.Store c.read_desk.new.conn in
     let clean_1 = clean in
@@ -73,7 +73,7 @@ returns-in_err-desk-clause-usable g c clean =
 
 pub returns-in_err-rates-clause-usable : goal.returns-in_err-rates-clause-usable
 returns-in_err-rates-clause-usable g c clean =
-    handed_on _ c.from_residual-in_err-rates.result c.in_err-rates.field-0.0 c.from_residual-in_err-rates.ensures.1 (λ unusable ours_0 open_0 form rows holds_0.
+    handed_on _ c.from_residual-in_err-rates.result c.in_err-rates.field-0.0 c.from_residual-in_err-rates.ensures.1 (λ unusable ours_0 open_0 form rows bonds holds_0.
     let at_0 = state g.S.Store c.args.conn.now in
     let at_1 = state g.S.Store c.read_desk.new.conn in
     let at_2 = state g.S.Store c.read_rates.new.conn in
@@ -87,7 +87,7 @@ returns-in_err-rates-clause-usable g c clean =
 
 pub returns-in_err-bonds-clause-usable : goal.returns-in_err-bonds-clause-usable
 returns-in_err-bonds-clause-usable g c clean =
-    handed_on _ c.from_residual-in_err-bonds.result c.in_err-bonds.field-0.0 c.from_residual-in_err-bonds.ensures.1 (λ unusable ours_0 open_0 form rows holds_0.
+    handed_on _ c.from_residual-in_err-bonds.result c.in_err-bonds.field-0.0 c.from_residual-in_err-bonds.ensures.1 (λ unusable ours_0 open_0 form rows bonds holds_0.
     let at_0 = state g.S.Store c.args.conn.now in
     let at_1 = state g.S.Store c.read_desk.new.conn in
     let at_2 = state g.S.Store c.read_rates.new.conn in
@@ -103,7 +103,7 @@ returns-in_err-bonds-clause-usable g c clean =
     let ours_2 = still_ours at_1 at_2 same_2 ours_1 in
     let open_2 = same_2.0.is_open in
     let holds_2 = subst (λ (d : Database). HoldsIn form d.trees rows) (sym same_2.0.now_is) holds_1 in
-    c.in_err-bonds.ensures.usable clean_3 unusable ours_2 open_2 rows.bonds (common form at_2.now.trees rows holds_2).bonds)
+    c.in_err-bonds.ensures.usable clean_3 unusable ours_2 open_2 rows.bonds bonds (common form at_2.now.trees rows holds_2).bonds)
 
 pub returns-in_err-desk-clause-cause : goal.returns-in_err-desk-clause-cause
 returns-in_err-desk-clause-cause g c clean ours_0 limit =

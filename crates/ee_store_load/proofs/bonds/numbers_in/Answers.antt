@@ -1,7 +1,7 @@
 use Rattle.std.proofs.Common.{arith}
 use Rattle.ee_store_load.proofs.RowLemmas.{seven_columns}
 use Rattle.ee_store_tables.proofs.Lemmas.Rows.{reads_optional}
-use Rattle.ee_store_load.proofs.entries.StoredBondStoredRow.read.Goals as goal
+use Rattle.ee_store_load.proofs.bonds.numbers_in.Goals as goal
 
 pub returns-clause-exact : goal.returns-clause-exact
 returns-clause-exact c = seven_columns c.args.row.now _ _ _ _ _ _ _ (omega (arith, c.column_count.ensures, c.if-column_count-ne7.false))
