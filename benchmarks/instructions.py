@@ -22,6 +22,7 @@ from asking import HALF_PAID, IMPORT, LISTS, MANY, MANY_AGAIN, ONE, ONE_AGAIN, P
 
 PROGRAM, FOLDER = os.path.abspath(sys.argv[1]), Path(sys.argv[2])
 COPY, PROFILE = FOLDER / "copy.db", FOLDER / "profile"
+OURS = r"\bee_\w+"
 # A function is of the first group whose pattern its name has.
 GROUPS = {
     "its log's hash": r"(?i)sip",
@@ -30,9 +31,11 @@ GROUPS = {
     "taking memory": r"malloc|calloc|realloc|free|alloc",
     "JSON": r"json",
     "`sqlite`": r"sqlite",
-    "this repository": r"\bee_\w+",
+    "this repository": OURS,
     "the rest": "",
 }
+#: The instructions of all calls of `sqlite` by this repository's functions, with all that those call: a count beside those of the functions.
+CALLS = "in calls of `sqlite`"
 #: Values of every period, so that tables of unit values are made in both runs.
 WARM = [get(f"/value/50/{2005 + half // 2}-{5 + half % 2 * 6:02}/2015-05") for half in range(18)]
 MOST_BONDS = 1500
@@ -70,18 +73,20 @@ class Program(NamedTuple):
 def costs(profile: Path) -> collections.Counter[str]:
     names: dict[str, str] = {}
     found_costs: collections.Counter[str] = collections.Counter()
-    name, is_call = "", False
+    name, called, is_call = "", "", False
     with open(profile) as lines:
         for line in lines:
             if found := re.match(r"fn=\((\d+)\)(?: (.*))?", line):
                 name = names.setdefault(found[1], found[2])
             elif found := re.match(r"cfn=\((\d+)\)(?: (.*))?", line):
-                names.setdefault(found[1], found[2])
+                called = names.setdefault(found[1], found[2])
             elif line.startswith("calls="):
                 is_call = True
             elif re.match(r"[+*\-\d]", line):
                 if not is_call:
                     found_costs[name] += int(line.split()[1])
+                elif "sqlite" in called and "sqlite" not in name and re.search(OURS, name):
+                    found_costs[CALLS] += int(line.split()[1])
                 is_call = False
     return found_costs
 
@@ -96,6 +101,7 @@ def group_of(name: str) -> str:
 
 def print_row(programs: list[Program], kind: str, message: Callable[[int], bytes], few: int = 20, more: int = 120) -> None:
     ours, *others = (program.difference(message, few, more) for program in programs)
+    calls = ours.pop(CALLS, 0)
     whole = sum(ours.values())
     cells = [f"{whole / (more - few):,.0f}"]
     for other in others:
@@ -103,7 +109,7 @@ def print_row(programs: list[Program], kind: str, message: Callable[[int], bytes
     parts: collections.Counter[str] = collections.Counter()
     for name, cost in ours.items():
         parts[group_of(name)] += cost
-    print(f"| {' | '.join([kind, *cells, *(f'{100 * parts[group] / whole:.0f} %' for group in GROUPS)])} |", flush=True)
+    print(f"| {' | '.join([kind, *cells, *(f'{100 * parts[group] / whole:.0f} %' for group in GROUPS), f'{100 * calls / whole:.0f} %'])} |", flush=True)
 
 
 def main() -> None:
@@ -112,7 +118,7 @@ def main() -> None:
     programs = [Program("The counter", [PROGRAM, "apply", "--db"], []), Program("C, default pages", [peer, "apply"], ["default"]), Program("C, the best", [peer, "apply"], ["best"])]
     for program in programs:
         program.apply(program.store, beginning(100, MOST_BONDS) + [redemption(100_000 + n, PAYEE, "F", n, n) for n in range(1, 201)])
-    print(f"| Response | The counter | C, default pages | Ratio | C, the best | Ratio | {' | '.join(GROUPS)} |\n|{'---|' * (len(GROUPS) + 6)}")
+    print(f"| Response | The counter | C, default pages | Ratio | C, the best | Ratio | {' | '.join([*GROUPS, CALLS])} |\n|{'---|' * (len(GROUPS) + 7)}")
     print_row(programs, VALUE, value)
     print_row(programs, ONE, lambda n: redemption(200_000 + n, PAYEE, "F", 200 + n, 200 + n))
     print_row(programs, ONE_AGAIN, lambda n: redemption(100_000 + n, PAYEE, "F", n, n))

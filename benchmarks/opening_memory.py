@@ -1,18 +1,17 @@
 #!/usr/bin/env python3
-"""Measures whose memory an opening takes: opening_memory.py PROGRAM FOLDER [BONDS], where FOLDER, which is made, is for the stores, and BONDS is 50,000. It needs valgrind, and takes four minutes.
+"""Measures whose memory an opening takes: opening_memory.py PROGRAM FOLDER [BONDS], where FOLDER, which is made, is for the stores, and BONDS is 100,000.
 
-Two stores have as many bonds: in one none is paid, in the other all are, one on each ticket. A command opens each under `valgrind --tool=massif`, which tells at some hundred moments who asked for the
-memory in use: by the first function above the allocator that is `sqlite`'s or this repository's. A row has the most memory of an opening, and the most that each of the two had at one time, per bond.
-Memory that an opening of an empty store takes too is taken off."""
+Two stores have as many bonds: in one none is paid, in the other all are, one on each ticket. Each is opened as it is, and once more with the same rows and a version that the program doesn't know: that
+is refused as soon as `sqlite` has opened and tested the file, so it tells `sqlite`'s part. Memory is the most that the process had, less what a store of ten bonds takes."""
 from __future__ import annotations
 
+import contextlib
 import datetime
 import os
-import re
+import sqlite3
 import subprocess
 import sys
 from pathlib import Path
-from typing import Iterator, NamedTuple
 
 sys.dont_write_bytecode = True
 
@@ -20,20 +19,9 @@ from asking import post  # noqa: E402
 from stores import EACH, made, served  # noqa: E402
 
 PROGRAM, FOLDER = os.path.abspath(sys.argv[1]), Path(sys.argv[2])
-BONDS = int((sys.argv[3:] or ["50000"])[0])
+BONDS = int((sys.argv[3:] or ["100000"])[0])
 DAY_TICKETS, FIRST_DAY = 1000, datetime.date(2026, 1, 1)
-OTHERS, SQLITE, OURS = "the rest", "sqlite", "this repository"
-
-
-class Memory(NamedTuple):
-    """Bytes at the moment with the most, and the most of each owner at any moment."""
-
-    most: int
-    sqlite: int
-    ours: int
-
-    def less(self, other: Memory) -> Memory:
-        return Memory(*(one - base for one, base in zip(self, other)))
+WRONG_VERSION = "WrongVersion"
 
 
 def pay_all(store: Path) -> None:
@@ -48,49 +36,32 @@ def pay_all(store: Path) -> None:
     subprocess.run([PROGRAM, "export", "999999999", "--db", store], stdout=subprocess.DEVNULL, check=True)
 
 
-def owner_of(function: str) -> str | None:
-    if re.search(r"\bsqlite", function):
-        return SQLITE
-    return OURS if re.search(r"\bee_", function) else None
+def refused(store: Path) -> Path:
+    """A store with the same rows, tables and page size, and a version that the program refuses."""
+    other = store.with_suffix(".refused.db")
+    with contextlib.closing(sqlite3.connect(other)) as copy:
+        copy.execute("PRAGMA page_size = 1024")
+        copy.execute("PRAGMA journal_mode = WAL")
+        copy.execute("ATTACH ? AS old", (str(store),))
+        for kind, name, text in copy.execute("SELECT type, name, sql FROM old.sqlite_schema WHERE sql IS NOT NULL ORDER BY rowid").fetchall():
+            copy.execute(text)
+            if kind == "table":
+                copy.execute(f"INSERT INTO main.{name} SELECT * FROM old.{name}")
+        copy.execute("UPDATE main.desk SET version = 99")
+        copy.commit()
+    return other
 
 
-def owned(tree: list[tuple[int, int, str]]) -> Iterator[tuple[int, str]]:
-    """The bytes of each branch of a tree of callers, with their owner: the first on the way up from the allocator that has a name of the two."""
-    place = 0
-
-    def branch(depth: int) -> Iterator[tuple[int, str]]:
-        nonlocal place
-        _, size, function = tree[place]
-        place += 1
-        owner = owner_of(function)
-        below: list[tuple[int, str]] = []
-        while place < len(tree) and tree[place][0] > depth:
-            below += branch(tree[place][0])
-        if owner:
-            yield size, owner
-        else:
-            yield from below
-            if rest := size - sum(size for size, _ in below):
-                yield rest, OTHERS
-
-    yield from branch(tree[0][0])
-
-
-def opened(store: Path) -> Memory:
-    """What an opening of a store takes."""
-    told = FOLDER / "massif"
-    words = ["valgrind", "--tool=massif", "--detailed-freq=1", "--max-snapshots=200", "--threshold=0.1", "--depth=40", f"--massif-out-file={told}"]
-    subprocess.run([*words, PROGRAM, "export", "999999999", "--db", store], stdout=subprocess.DEVNULL, stderr=subprocess.DEVNULL, check=True)
-    moments: list[dict[str, int]] = []
-    for snapshot in told.read_text().split("#-----------\nsnapshot=")[1:]:
-        tree = [(len(found[1]), int(found[2]), found[3]) for found in re.finditer(r"^( *)n\d+: (\d+) (.*)$", snapshot, re.M)]
-        if tree:
-            parts = dict.fromkeys((SQLITE, OURS, OTHERS), 0)
-            for size, owner in owned(tree):
-                parts[owner] += size
-            moments.append(parts)
-    assert len(moments) > 20, "valgrind told too little"
-    return Memory(max(sum(parts.values()) for parts in moments), max(parts[SQLITE] for parts in moments), max(parts[OURS] for parts in moments))
+def memory(store: Path, status: int) -> int:
+    """The bytes that the process had at most."""
+    process = subprocess.Popen([PROGRAM, "export", "999999999", "--db", store], stdout=subprocess.DEVNULL, stderr=subprocess.PIPE)
+    assert process.stderr
+    words = process.stderr.read().decode()
+    _, ended, usage = os.wait4(process.pid, 0)
+    process.returncode = os.waitstatus_to_exitcode(ended)
+    assert (process.returncode == 0) == (status == 0) and (status == 0 or WRONG_VERSION in words), (process.returncode, words)
+    most: int = usage.ru_maxrss * 1024
+    return most
 
 
 def main() -> None:
@@ -99,10 +70,11 @@ def main() -> None:
     for store, count in ((none, 10), (unpaid, BONDS), (paid, BONDS)):
         made(PROGRAM, store, count)
     pay_all(paid)
-    base = opened(none)
-    print("| Store | Most memory | `sqlite`'s at most | Ours at most |\n|---|---|---|---|")
-    for name, store in ((f"{BONDS:,} bonds, none paid", unpaid), (f"{BONDS:,} bonds, each on a ticket", paid)):
-        print(f"| {name} | {' | '.join(f'{size / BONDS:,.0f} bytes a bond' for size in opened(store).less(base))} |", flush=True)
+    base = memory(none, 0)
+    print("| Store | Opening | `sqlite`'s part |\n|---|---|---|")
+    for name, store in ((f"{BONDS:,} bonds, none paid", unpaid), (f"{BONDS:,} bonds, each on a ticket of its own", paid)):
+        whole, alone = (memory(*of) - base for of in ((store, 0), (refused(store), 1)))
+        print(f"| {name} | {whole / BONDS:,.0f} bytes a bond | {alone / BONDS:,.0f} |", flush=True)
 
 
 if __name__ == "__main__":
