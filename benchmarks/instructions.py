@@ -34,7 +34,7 @@ GROUPS = {
     "this repository": OURS,
     "the rest": "",
 }
-#: The instructions of all calls of `sqlite` by this repository's functions, with all that those call: a count beside those of the functions.
+#: The instructions of all calls of `sqlite` by this repository's functions, with all that those call, counted apart.
 CALLS = "in calls of `sqlite`"
 #: Values of every period, so that tables of unit values are made in both runs.
 WARM = [get(f"/value/50/{2005 + half // 2}-{5 + half % 2 * 6:02}/2015-05") for half in range(18)]

@@ -2,7 +2,7 @@
 """Measures whose memory an opening takes: opening_memory.py PROGRAM FOLDER [BONDS], where FOLDER, which is made, is for the stores, and BONDS is 100,000.
 
 Two stores have as many bonds: in one none is paid, in the other all are, one on each ticket. Each is opened as it is, and once more with the same rows and a version that the program doesn't know: that
-is refused as soon as `sqlite` has opened and tested the file, so it tells `sqlite`'s part. Memory is the most that the process had, less what a store of ten bonds takes."""
+is refused as soon as `sqlite` has opened and tested the file, so it shows `sqlite`'s part. Memory is the most that the process had, less what a store of ten bonds takes."""
 from __future__ import annotations
 
 import contextlib

@@ -25,7 +25,7 @@ both : (s : SerialNumber) (o : Option Bond) → IfSome o BondFits → IfSome o (
 both s None fits keyed = tt
 both s (Some bond) fits keyed = (fits, keyed)
 
--- the rows of bonds are those of registered bonds
+-- the rows of bonds show registered bonds
 are_bonds : (books : PlainBooks) → ((s : SerialNumber) → IfSome (finite.get books.bonds s) (λ bond. BondFits bond × (bond.serial ≡ s))) → AreBonds (bond_rows books.bonds books.tickets)
 are_bonds books fit k row found =
     let entry : SerialNumber × Bond → (ℕ × ℕ) × BondRow = λ e. (key_of e.0, bond_row (held_as books.tickets e.0 e.1)) in

@@ -50,7 +50,7 @@ IsOther rows = (desk : DeskRow) × (get rows 1 ≡ Some desk) × (desk.version �
 abbrev pub IsOtherVersion : Rows → Type 0
 IsOtherVersion rows = IsOther rows.desk
 
--- The desk's row exists and has the version of this form, each row of the register is that of a bond, and each text is UTF-8, as this program writes it.
+-- The desk's row exists and has the version of this form, each row of the register shows a bond, and each text is UTF-8, as this program writes it.
 pub record AreReadable (form : Form) (rows : Rows) : Type 0 where
   pub desk : IsOfForm form rows
   pub bonds : AreBonds rows.bonds
