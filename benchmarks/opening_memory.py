@@ -72,7 +72,7 @@ def main() -> None:
     pay_all(paid)
     base = memory(none, 0)
     print("| Store | Opening | `sqlite`'s part |\n|---|---|---|")
-    for name, store in ((f"{BONDS:,} bonds, none paid", unpaid), (f"{BONDS:,} bonds, each on a ticket of its own", paid)):
+    for name, store in ((f"{BONDS:,} bonds, none paid", unpaid), (f"{BONDS:,} bonds, all paid, one a ticket", paid)):
         whole, alone = (memory(*of) - base for of in ((store, 0), (refused(store), 1)))
         print(f"| {name} | {whole / BONDS:,.0f} bytes a bond | {alone / BONDS:,.0f} |", flush=True)
 
