@@ -1,22 +1,20 @@
-use Rattle.std.proofs.Common.{◌≡◌, sym, ◌∙◌, subst}
-use Rattle.std.specs.Prelude.{Result, Ok, Err, IfErr, IsErrAnd}
+use Rattle.std.proofs.Common.{◌≡◌, map, sym, ◌∙◌, subst}
+use Rattle.std.specs.Prelude.{Result, Ok, Err, IfErr, IsErrAnd, T}
+use Rattle.std.specs.FinMap.{is_sorted}
 use Rattle.std.proofs.lemmas.Bool.{not-true, not-false}
 use Rattle.ee_desk_model.specs.Repeats.{Content}
-use Rattle.ee_store_tables.specs.Rows.{Rows}
-use Rattle.ee_store_load.specs.Whole.{AreRead}
-use Rattle.ee_store_contents.specs.Contents.{KeepsAnswer, parts_of_read}
-use Rattle.std.proofs.Common.{map}
-use Rattle.std.specs.Prelude.{T}
-use Rattle.std.specs.FinMap.{is_sorted}
 use Rattle.ee_store_tables.specs.Keyed.{pair_cmp}
+use Rattle.ee_store_tables.specs.Rows.{Rows}
 use Rattle.ee_store_load.specs.Shown.{bond_entry}
+use Rattle.ee_store_load.specs.Whole.{AreRead}
 use Rattle.ee_store_load.specs.declared.whole.AllRows.{AllRows}
-use Rattle.ee_store_contents.proofs.RowsOfBooks.{rows_rise}
 use Rattle.ee_store_books.specs.Standing.{StandAt}
 use Rattle.ee_store_schema.specs.Forms.{version_of}
+use Rattle.ee_store_contents.specs.Contents.{KeepsAnswer, parts_of_read}
 use Rattle.ee_store_contents.specs.declared.contents.ContentFault.{ContentFault}
 use Rattle.ee_store_contents.specs.declared.contents.ContentFault.TheVariants.{Unusable}
 use Rattle.ee_store_contents.proofs.Founded.{same_parts, no_parts, not_kept, not_sound, tables_founded}
+use Rattle.ee_store_contents.proofs.RowsOfBooks.{rows_rise}
 use Rattle.ee_store_contents.proofs.contents.tables_of.Goals as goal
 
 handed_on : {A : Type 0} (P : ContentFault → Type 0) (r : Result A ContentFault) (fault : ContentFault) → IsErrAnd r (λ told. told ≡ fault) → P fault → IfErr r P
