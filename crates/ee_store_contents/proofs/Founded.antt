@@ -2,6 +2,7 @@
 use Rattle.std.proofs.Common.{◌≡◌, true, false, ℕ, List, map, refl, sym, ap, ◌∙◌, subst}
 use Rattle.std.proofs.lemmas.Bool.{false≢true}
 use Rattle.std.specs.Prelude.{Some, None}
+use Rattle.std.proofs.lemmas.Option.{same_Some}
 use Rattle.ee_value.specs.declared.rates.Rates.{Rates}
 use Rattle.ee_desk_model.specs.PlainBooks.{PlainBooks}
 use Rattle.ee_desk_model.specs.Sound.{IsSound}
@@ -20,7 +21,6 @@ use Rattle.ee_store_load.specs.Whole.{AreInOrder, AreRead, rows_with}
 use Rattle.ee_store_contents.specs.Contents.{PartsFit, KeepsAnswer, tables_for}
 use Rattle.ee_store_contents.specs.Reading.{parts_in}
 use Rattle.ee_store_contents.proofs.KeptTables.{own, tables_made}
-use Rattle.ee_store_load.proofs.Lemmas.{some_is}
 use Rattle.ee_store_contents.proofs.RowsOfBooks.{rows_of_parts, parts_in_range, parts_read, parts_are, answers_kept, content_stands}
 
 -- the kept replies are no part of the books
@@ -49,7 +49,7 @@ module _ (stored : AllRows) (rows : Rows) (order : AreInOrder stored) (read : Ar
 
   pub not_sound : (parts : Parts) → Some parts ≡ parts_in stored → AreUnsound parts → (content : Content) → StandAt (version_of stored.form) rows content → ⊥
   not_sound parts found unsound content stands =
-      unsound content.books stands.right.sound (sym (some_is parts (parts_of content.books) (found ∙ read_as content stands)))
+      unsound content.books stands.right.sound (sym (same_Some parts (parts_of content.books) (found ∙ read_as content stands)))
 
   founded : (parts : Parts) (books : PlainBooks) → Some parts ≡ parts_in stored → PartsFit parts → parts_of books ≡ parts → IsSound books
       → stored.replies.pass ≡ true → (content : Content) × (content.books ≡ books) × StandAt (version_of stored.form) rows content

@@ -8,6 +8,7 @@ use Rattle.std.specs.FinMap.{is_sorted}
 use Rattle.std.specs.FinMap.Entries.{below_all}
 use Rattle.std.proofs.lemmas.Bool.{eqb-true, eq-eqb, ne_eqb}
 use Rattle.std.proofs.Math.Facts.{yes_and, and_yes}
+use Rattle.std.proofs.lemmas.Option.{same_Some}
 use Rattle.ee_units.specs.Spelling.{◌>>=◌}
 use Rattle.ee_units.proofs.Lemmas.{in_range-is, in_range_back}
 use Rattle.ee_value.specs.declared.rates.Rates.{Rates}
@@ -20,7 +21,7 @@ use Rattle.ee_store_load.specs.Shown.{rate_entry}
 use Rattle.ee_store_contents.specs.Contents.{stored_rate, extension_row, stored_extension}
 use Rattle.ee_store_contents.specs.Reading.{optional_in, issue_in, rate_of, other_rate, rate_in, extension_of, after_extension, rates_in}
 use Rattle.ee_store_books.proofs.Lemmas.Contents.{some_from_bind}
-use Rattle.ee_store_load.proofs.Lemmas.{some_is, bind_some}
+use Rattle.ee_store_load.proofs.Lemmas.{bind_some}
 use Rattle.ee_store_contents.proofs.ReadBack.{optional_read, map_is, issue_is}
 
 -- ---- one row
@@ -40,7 +41,7 @@ other_is : (fixed hundredths rate : ℕ) → other_rate fixed hundredths ≡ Som
 other_is fixed hundredths rate e =
     let read = some_from_bind (rate_of hundredths) (λ rate. cond (rate == fixed) None (Some rate)) rate e in
     let apart = cond_else (read.0 == fixed) (Some read.0) rate read.2 in
-    let same = some_is read.0 rate apart.1 in
+    let same = same_Some read.0 rate apart.1 in
     ((in_range-is 0 2000 hundredths read.0 read.1).0 ∙ same, ap (λ n. n == fixed) (sym same) ∙ apart.0)
 
 other_named : (fixed extension : ℕ) (b : Bool) → (extension == fixed) ≡ b → extension ≤ 2000 → IfSome (cond b None (Some extension)) (IsOther fixed)
@@ -64,7 +65,7 @@ fixed_with fixed None = refl
 fixed_with fixed (Some extension) = refl
 
 named_is : (fixed : ℕ) (hundredths extension : Option ℕ) → optional_in (other_rate fixed) hundredths ≡ Some extension → hundredths ≡ named_extension (rates_with fixed extension)
-named_is fixed None extension e = sym (none_named fixed) ∙ ap (λ o. named_extension (rates_with fixed o)) (some_is None extension e)
+named_is fixed None extension e = sym (none_named fixed) ∙ ap (λ o. named_extension (rates_with fixed o)) (same_Some None extension e)
 named_is fixed (Some n) extension e =
     let one = map_is (other_rate fixed n) extension e in
     let other = other_is fixed n one.0 one.1 in
@@ -85,7 +86,7 @@ rate_is extension row rate e =
     let from = some_from_bind (issue_in row.period) _ rate e in
     let fixed = some_from_bind (rate_of row.rate) _ rate from.2 in
     let other = some_from_bind (optional_in (other_rate fixed.0) extension) _ rate fixed.2 in
-    let is = some_is _ rate other.2 in
+    let is = same_Some _ rate other.2 in
     let own = (in_range-is 0 2000 row.rate fixed.0 fixed.1).0 ∙ sym (fixed_with fixed.0 other.0) in (
       (λ i. record { period = issue_is row.period from.0 from.1 i; rate = own i }) ∙ ap stored_rate is,
       named_is fixed.0 extension other.0 other.1 ∙ ap (λ (r : RateRow). named_extension r.rates) is,
@@ -145,7 +146,7 @@ split_again period (row ∷ rows) = by_case (row.period == period) refl
 
 pub rates_is : (rows extensions : List StoredRate) (rates : List RateRow) → rates_in rows extensions ≡ Some rates
     → (rows ≡ map stored_rate rates) × (extensions ≡ filter_map stored_extension rates)
-rates_is [] [] rates e = let is = some_is [] rates e in (ap (map stored_rate) is, ap (filter_map stored_extension) is)
+rates_is [] [] rates e = let is = same_Some [] rates e in (ap (map stored_rate) is, ap (filter_map stored_extension) is)
 rates_is [] (extension ∷ extensions) rates e = absurd (cc)
 rates_is (row ∷ rows) extensions rates e =
     let later = after_extension row.period extensions in
@@ -153,7 +154,7 @@ rates_is (row ∷ rows) extensions rates e =
     let more = some_from_bind (rates_in rows later) (λ more. Some (one.0 ∷ more)) rates one.2 in
     let own = rate_is (extension_of row.period extensions) row one.0 one.1 in
     let rest = rates_is rows later more.0 more.1 in
-    let is = some_is (one.0 ∷ more.0) rates more.2 in (
+    let is = same_Some (one.0 ∷ more.0) rates more.2 in (
       (λ i. own.0 i ∷ rest.0 i) ∙ ap (map stored_rate) is,
       split_again row.period extensions ∙ (λ i. cons_option (option_map (extension_row (own.0 i).period) (own.1 i)) (rest.1 i)) ∙ ap (filter_map stored_extension) is,
     )

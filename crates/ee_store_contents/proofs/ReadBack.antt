@@ -5,6 +5,7 @@ use Rattle.std.specs.Option.{option_eq}
 use Rattle.std.specs.List.{AllByRecursion}
 use Rattle.std.proofs.lemmas.Bool.{eqb-true, eq-eqb, leb-true, le-leb, and_parts}
 use Rattle.std.proofs.lemmas.List.{take-append-drop, length-take-le}
+use Rattle.std.proofs.lemmas.Option.{same_Some}
 use Rattle.ee_units.specs.Spelling.{serial_at, ◌>>=◌}
 use Rattle.ee_units.proofs.Lemmas.{in_range-is, in_range_back}
 use Rattle.ee_calculator.specs.declared.bonds.Bond.{Bond}
@@ -22,7 +23,7 @@ use Rattle.ee_store_load.specs.declared.entries.StoredTicket.{StoredTicket}
 use Rattle.ee_store_load.specs.declared.entries.StoredLine.{StoredLine}
 use Rattle.ee_store_load.specs.declared.entries.StoredBatch.{StoredBatch}
 use Rattle.ee_store_books.proofs.Lemmas.Contents.{some_from_bind}
-use Rattle.ee_store_load.proofs.Lemmas.{some_is, bind_some, serial_read, serial_is}
+use Rattle.ee_store_load.proofs.Lemmas.{bind_some, serial_read, serial_is}
 use Rattle.ee_store_contents.specs.Contents.{stored_desk, held_bond, stored_ticket, stored_line, placed_lines, stored_lines, stored_batch}
 use Rattle.ee_store_contents.specs.Reading.{each, optional_in, issue_in, day_in, customer_in, days_of, days_in, bond_in, line_at, lines_at, ticket_with, ticket_in, tickets_in, batch_in}
 use Rattle.ee_store_books.specs.Lines.{line_with}
@@ -38,10 +39,10 @@ optional_read read P h (Some n) p = ap (option_map Some) (h n p)
 
 pub map_is : (o : Option ℕ) (p : Option ℕ) → option_map Some o ≡ Some p → (m : ℕ) × (o ≡ Some m) × (p ≡ Some m)
 map_is None p e = absurd (cc)
-map_is (Some m) p e = (m, refl, sym (some_is (Some m) p e))
+map_is (Some m) p e = (m, refl, sym (same_Some (Some m) p e))
 
 optional_is : (read : ℕ → Option ℕ) → ((n m : ℕ) → read n ≡ Some m → n ≡ m) → (o p : Option ℕ) → optional_in read o ≡ Some p → o ≡ p
-optional_is read h None p e = some_is None p e
+optional_is read h None p e = same_Some None p e
 optional_is read h (Some n) p e = let m = map_is (read n) p e in ap Some (h n m.0 m.1) ∙ sym m.2
 
 option_eq_same : (a : Option ℕ) → option_eq nat_eq a a ≡ true
@@ -57,11 +58,11 @@ module _ {A B : Type 0} (read : A → Option B) (row : B → A) where
       (bind_some (each read (map row ys)) ys (λ xs. Some (y ∷ xs)) (Some (y ∷ ys)) (each_read Fits h ys all.1) refl)
 
   pub each_is : ((x : A) (y : B) → read x ≡ Some y → x ≡ row y) → (xs : List A) (ys : List B) → each read xs ≡ Some ys → xs ≡ map row ys
-  each_is h [] ys e = ap (map row) (some_is [] ys e)
+  each_is h [] ys e = ap (map row) (same_Some [] ys e)
   each_is h (x ∷ xs) ys e =
       let one = some_from_bind (read x) (λ y. each read xs >>= λ zs. Some (y ∷ zs)) ys e in
       let more = some_from_bind (each read xs) (λ zs. Some (one.0 ∷ zs)) ys one.2 in
-      (λ i. h x one.0 one.1 i ∷ each_is h xs more.0 more.1 i) ∙ ap (map row) (some_is (one.0 ∷ more.0) ys more.2)
+      (λ i. h x one.0 one.1 i ∷ each_is h xs more.0 more.1 i) ∙ ap (map row) (same_Some (one.0 ∷ more.0) ys more.2)
 
 -- ---- plain numbers
 day_read : (n : ℕ) → IsDay n → day_in n ≡ Some n
@@ -94,7 +95,7 @@ unfolding days_of
 days_of_is row days e =
     let day = some_from_bind (optional_in day_in row.day) _ days e in
     let last = some_from_bind (optional_in day_in row.last_day) _ days day.2 in
-    let is = some_is _ days last.2 in
+    let is = same_Some _ days last.2 in
     (optional_is day_in day_is row.day day.0 day.1 ∙ ap (λ (d : Days). d.day) is, optional_is day_in day_is row.last_day last.0 last.1 ∙ ap (λ (d : Days). d.last_day) is)
 
 pub days_is : (version : ℕ) (rows : List StoredDesk) (days : Days) → days_in version rows ≡ Some days → rows ≡ stored_desk version days.day days.last_day ∷ []
@@ -114,7 +115,7 @@ pub bond_is : (tickets : List Ticket) (held : Held) (bond : Bond) → bond_in (t
 bond_is tickets held bond e =
     let right = cond_is (option_eq nat_eq held.ticket (ticket_of tickets held.bond.serial)) bond (Some held.bond) bond e in
     (λ i. record { bond = held.bond; ticket = option_eq-is held.ticket (ticket_of tickets held.bond.serial) right.0 i })
-    ∙ ap (held_bond tickets) (some_is held.bond bond right.1)
+    ∙ ap (held_bond tickets) (same_Some held.bond bond right.1)
 
 -- ---- lines
 line_read : (ticket place : ℕ) (line : Line) → IsSerial line.serial → line_at ticket place (stored_line ticket place line) ≡ Some line
@@ -129,7 +130,7 @@ plain_line_is row line e =
     let serial = some_from_bind (serial_at row.letter row.number) _ line e in
     let s = serial_is row.letter row.number serial.0 serial.1 in
     (λ i. record { ticket = row.ticket; place = row.place; letter = s.0 i; number = s.1 i; cents = row.cents })
-    ∙ ap (stored_line row.ticket row.place) (some_is _ line serial.2)
+    ∙ ap (stored_line row.ticket row.place) (same_Some _ line serial.2)
 
 line_is : (ticket place : ℕ) (row : StoredLine) (line : Line) → line_at ticket place row ≡ Some line → row ≡ stored_line ticket place line
 line_is ticket place row line e =
@@ -145,12 +146,12 @@ lines_read ticket place (line ∷ lines) h =
     (bind_some (lines_at ticket (place + 1) (placed_lines ticket (place + 1) lines)) lines (λ xs. Some (line ∷ xs)) _ (lines_read ticket (place + 1) lines h.1) refl)
 
 lines_is : (ticket place : ℕ) (rows : List StoredLine) (lines : List Line) → lines_at ticket place rows ≡ Some lines → rows ≡ placed_lines ticket place lines
-lines_is ticket place [] lines e = ap (placed_lines ticket place) (some_is [] lines e)
+lines_is ticket place [] lines e = ap (placed_lines ticket place) (same_Some [] lines e)
 lines_is ticket place (row ∷ rows) lines e =
     let one = some_from_bind (line_at ticket place row) (λ line. lines_at ticket (place + 1) rows >>= λ more. Some (line ∷ more)) lines e in
     let more = some_from_bind (lines_at ticket (place + 1) rows) (λ more. Some (one.0 ∷ more)) lines one.2 in
     (λ i. line_is ticket place row one.0 one.1 i ∷ lines_is ticket (place + 1) rows more.0 more.1 i)
-    ∙ ap (placed_lines ticket place) (some_is (one.0 ∷ more.0) lines more.2)
+    ∙ ap (placed_lines ticket place) (same_Some (one.0 ∷ more.0) lines more.2)
 
 -- ---- tickets
 with_read : (ticket : Ticket) → TicketFits ticket → ticket_with (stored_ticket ticket) ticket.lines ≡ Some ticket
@@ -165,7 +166,7 @@ unfolding ticket_with
 with_is row lines ticket long e =
     let day = some_from_bind (day_in row.day) _ ticket e in
     let payee = some_from_bind (customer_in row.payee) _ ticket day.2 in
-    let is = some_is _ ticket payee.2 in (
+    let is = same_Some _ ticket payee.2 in (
       (λ i. record { ticket = row.ticket; day = day_is row.day day.0 day.1 i; payee = customer_is row.payee payee.0 payee.1 i; bonds = long i; total = row.total }) ∙ ap stored_ticket is,
       ap (λ (t : Ticket). t.lines) is,
     )
@@ -211,7 +212,7 @@ tickets_read (t ∷ tickets) h =
 
 pub tickets_is : (rows : List StoredTicket) (lines : List StoredLine) (tickets : List Ticket) → tickets_in rows lines ≡ Some tickets
     → (rows ≡ map stored_ticket tickets) × (lines ≡ flat_map stored_lines tickets)
-tickets_is [] [] tickets e = let is = some_is [] tickets e in (ap (map stored_ticket) is, ap (flat_map stored_lines) is)
+tickets_is [] [] tickets e = let is = same_Some [] tickets e in (ap (map stored_ticket) is, ap (flat_map stored_lines) is)
 tickets_is [] (line ∷ lines) tickets e = absurd (cc)
 tickets_is (row ∷ rows) lines tickets e =
     let enough = cond_is (nat_le row.bonds (length lines)) tickets _ tickets e in
@@ -219,7 +220,7 @@ tickets_is (row ∷ rows) lines tickets e =
     let more = some_from_bind (tickets_in rows (drop row.bonds lines)) (λ more. Some (one.0 ∷ more)) tickets one.2 in
     let own = ticket_is row (take row.bonds lines) one.0 (length-take-le row.bonds lines (leb-true row.bonds (length lines) enough.0)) one.1 in
     let rest = tickets_is rows (drop row.bonds lines) more.0 more.1 in
-    let is = some_is (one.0 ∷ more.0) tickets more.2 in (
+    let is = same_Some (one.0 ∷ more.0) tickets more.2 in (
       (λ i. own.0 i ∷ rest.0 i) ∙ ap (map stored_ticket) is,
       sym (take-append-drop row.bonds lines) ∙ (λ i. own.1 i ++ rest.1 i) ∙ ap (flat_map stored_lines) is,
     )
@@ -233,4 +234,4 @@ pub batch_is : (row : StoredBatch) (batch : Batch) → batch_in row ≡ Some bat
 unfolding batch_in
 batch_is row batch e =
     let day = some_from_bind (day_in row.day) _ batch e in
-    (λ i. record { day = day_is row.day day.0 day.1 i; tickets = row.tickets; bonds = row.bonds; total = row.total }) ∙ ap stored_batch (some_is _ batch day.2)
+    (λ i. record { day = day_is row.day day.0 day.1 i; tickets = row.tickets; bonds = row.bonds; total = row.total }) ∙ ap stored_batch (same_Some _ batch day.2)

@@ -10,6 +10,7 @@ use Rattle.std.specs.FinMap.{FinMap, IsAntisymmetric, nat_cmp-IsAntisymmetric, e
 use Rattle.std.specs.FinMap.Entries.{below_all}
 use Rattle.std.proofs.lemmas.List.{map-append}
 use Rattle.std.specs.Option.{unwrap_or}
+use Rattle.std.proofs.lemmas.Option.{same_Some}
 use Rattle.ee_units.specs.Spelling.{SerialNumber}
 use Rattle.ee_units.specs.Denoms.{denom_with}
 use Rattle.ee_units.specs.declared.denoms.Denom.TheVariants as denom
@@ -56,7 +57,7 @@ use Rattle.ee_store_tables.proofs.Lemmas.Rows.{pair_total, pair_same}
 use Rattle.ee_store_books.proofs.Lemmas.Contents as contents
 use Rattle.ee_store_books.proofs.Lemmas.Contents.{sorted_entries, extension_entries, ticket_entries, ticket_lines, paid_entries, batch_entries, rising_front, days_in_range, right_bond_is_keyed, head_of, tail_of, some_from_bind}
 use Rattle.ee_store_contents.proofs.RatesBack.{rates_read, rates_is}
-use Rattle.ee_store_load.proofs.Lemmas.{some_is, bind_some}
+use Rattle.ee_store_load.proofs.Lemmas.{bind_some}
 use Rattle.ee_store_contents.proofs.ReadBack.{each_read, each_is, days_read, days_is, bond_read, bond_is, tickets_read, tickets_is, batch_read, batch_is}
 
 -- ---- lists
@@ -243,7 +244,7 @@ parts_are parts stored e =
     let batches = some_from_bind (each batch_in stored.batches.items) _ parts bonds.2 in
     let terms = rates_is stored.rates.items stored.extensions.items rates.0 rates.1 in
     let paid = tickets_is stored.tickets.items stored.lines.items tickets.0 tickets.1 in
-    subst (λ p. AreRowsOf p stored) (some_is _ parts batches.2) (record {
+    subst (λ p. AreRowsOf p stored) (same_Some _ parts batches.2) (record {
       desk = days_is (version_of stored.form) stored.desk.items days.0 days.1;
       rates = terms.0;
       extensions = terms.1;

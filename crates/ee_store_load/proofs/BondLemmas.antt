@@ -1,7 +1,7 @@
 -- The numbers of a bond's row, and the bond that has them.
 use Rattle.std.proofs.Common.{◌≡◌, ℕ, refl, sym, ap, ◌∙◌}
 use Rattle.std.specs.Prelude.{Option, Some, None, IfSome}
-use Rattle.std.specs.Option.{unwrap_or}
+use Rattle.std.proofs.lemmas.Option.{same_Some}
 use Rattle.ee_units.specs.Spelling.{SerialNumber, in_range, serial_at, ◌>>=◌}
 use Rattle.ee_units.proofs.Lemmas.{in_range-is, in_range_back}
 use Rattle.ee_desk_model.specs.declared.changes.Held.{Held}
@@ -10,9 +10,6 @@ use Rattle.ee_store_books.proofs.Lemmas.Contents.{some_from_bind}
 use Rattle.ee_store_books.specs.Standing.{bond_row, key_of}
 use Rattle.ee_store_tables.specs.Rows.{BondRow}
 use Rattle.ee_store_load.specs.Shown.{bond_entry, IsBond}
-
-pub some_is : {A : Type 0} (x y : A) → Some x ≡ Some y → x ≡ y
-some_is x y e = ap (λ o. unwrap_or o x) e
 
 pub bind_some : {A B : Type 0} (o : Option A) (x : A) (f : A → Option B) (r : Option B) → o ≡ Some x → f x ≡ r → (o >>= f) ≡ r
 bind_some o x f r e k = ap (λ o. o >>= f) e ∙ k
@@ -28,7 +25,7 @@ unfolding serial_at
 serial_is letter number s e =
     let l = some_from_bind (in_range 1 26 letter) _ s e in
     let n = some_from_bind (in_range 1 9999999999 number) _ s l.2 in
-    let is = some_is _ s n.2 in
+    let is = same_Some _ s n.2 in
     ((in_range-is 1 26 letter l.0 l.1).0 ∙ ap (λ (s : SerialNumber). s.letter) is, (in_range-is 1 9999999999 number n.0 n.1).0 ∙ ap (λ (s : SerialNumber). s.number) is)
 
 -- a bond's letter and number are read as its serial number

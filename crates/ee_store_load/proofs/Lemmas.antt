@@ -40,9 +40,6 @@ pub register_rises : (form : Form) (db : Trees) → IsTable (db 2) → IsTable (
 register_rises = NumberLemmas.register_rises
 
 -- ---- values that are read
-pub some_is : {A : Type 0} (x y : A) → Some x ≡ Some y → x ≡ y
-some_is = BondLemmas.some_is
-
 pub bind_some : {A B : Type 0} (o : Option A) (x : A) (f : A → Option B) (r : Option B) → o ≡ Some x → f x ≡ r → (o >>= f) ≡ r
 bind_some = BondLemmas.bind_some
 
