@@ -34,7 +34,7 @@ Carries old new (serve db port connections) result = IfOk result (λ ended. ende
 
 -- the versions of the program and of the stores that it makes
 abbrev pub version_line : List ℕ
-version_line = codes "ee_cli 1.0.0, store version 2" ++ 10 ∷ []
+version_line = codes "ee_cli 1.1.0, store version 2" ++ 10 ∷ []
 
 -- the words ask for help, or for the version
 abbrev pub AsksToShow : List Text → Type 0

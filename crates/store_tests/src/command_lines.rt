@@ -132,7 +132,7 @@ fn help_is_no_fault(rt: HostRuntime) {
 #[test]
 fn versions(rt: HostRuntime) {
     for line in ["--version", "-V"] {
-        prints(&rt, &rt, line, "", "ee_cli 1.0.0, store version 2\n");
+        prints(&rt, &rt, line, "", "ee_cli 1.1.0, store version 2\n");
     }
 }
 

@@ -7,4 +7,4 @@ two : decimal 2 ≡ 50 ∷ []
 two = decimal-digits_of 2 (omega arith) (omega arith)
 
 pub returns : goal.returns
-returns c = IfOk-weaker c.format.result _ _ (λ line same. same ∙ ap (λ number. codes "ee_cli 1.0.0, store version " ++ (number ++ 10 ∷ [])) two) c.format.ensures.ok
+returns c = IfOk-weaker c.format.result _ _ (λ line same. same ∙ ap (λ number. codes "ee_cli 1.1.0, store version " ++ (number ++ 10 ∷ [])) two) c.format.ensures.ok
