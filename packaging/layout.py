@@ -19,11 +19,9 @@ PATHS = (
     ("/opt/counter/ee_cli", "/usr/bin/ee_cli"),
     ("/opt/counter/", "/usr/share/ladwenpik/"),
     ("/usr/bin/env python3", "/usr/bin/python3"),
-    ("from counter_replies.js;", "from /usr/share/ladwenpik/nginx/counter_replies.js;"),
-    ("from counter_sign_in.js;", "from /usr/share/ladwenpik/nginx/counter_sign_in.js;"),
 )
 #: Files that packages have under another name.
-NAMED = (("samples/nginx/sign_in_password.conf", "samples/nginx/sign_in.conf"), ("samples/systemd/counter.sysusers", "debian/ladwenpik.sysusers"))
+NAMED = (("samples/systemd/counter.sysusers", "debian/ladwenpik.sysusers"),)
 #: Pages say what the repository has, and keep its paths.
 PAGES = (".md", ".json", ".png", ".a", ".1")
 

@@ -1,4 +1,4 @@
-// Keeps a reply for the log of requests, as /etc/nginx/counter_replies.js, and hands it on as it is.
+// Keeps a reply for the log of requests, and passes it on as it is.
 function keep(r, data, flags) {
     if (r.method === 'POST') {
         r.variables.counter_reply = (r.variables.counter_reply || '') + data;
