@@ -2,11 +2,9 @@
 
 from __future__ import annotations
 
-import shutil
 import subprocess
 from pathlib import Path
 
-TOP = Path(__file__).resolve().parents[2]
 EASYRSA = "/usr/share/easy-rsa/easyrsa"
 
 
@@ -16,12 +14,12 @@ class Staff:
     def __init__(self, folder: Path) -> None:
         self.folder = folder
         self.easyrsa("init-pki")
-        shutil.copy(TOP / "samples/nginx/staff.vars", folder / "vars")
         self.easyrsa("--req-cn=counter staff", "build-ca", "nopass")
         self.easyrsa("gen-crl")
 
     def easyrsa(self, *words: str) -> None:
-        line = [EASYRSA, "--batch", f"--pki-dir={self.folder}", *words]
+        options = ["--batch", f"--pki-dir={self.folder}", "--use-algo=ec", "--curve=prime256v1"]
+        line = [EASYRSA, *options, *words]
         subprocess.run(line, check=True, capture_output=True, cwd=self.folder.parent)
 
     def hire(self, *names: str) -> None:
