@@ -118,28 +118,29 @@ function readUnserved(text) {
   return value !== null && isNumber(value.code) && typeof value.unserved === "string" ? { kind: "unserved", name: value.unserved, ...value } : null;
 }
 
-// The proxy's refusal of a user whose group may not do what was asked, and of one who isn't signed in. It passed nothing to the counter.
-const FORBIDDEN = '{"forbidden":"group"}';
-const NO_PASSWORD = '{"forbidden":"password"}';
+// The proxy's reasons to pass a request on to nobody.
+const FORBIDDEN = ["certificate", "request", "origin", "client", "type", "group", "chunks", "size", "host"];
 
-// What isn't the counter's answer. A page in place of one is perhaps a proxy's page for signing in.
+// What isn't the counter's answer: one of the proxy's own, or of something else.
 function otherAnswer(status, text) {
-  if (status === 401) return { kind: "signed_out" };
+  const { forbidden, unavailable } = parsed(text) ?? /** @type {Record<string, any>} */ ({});
+  if (status >= 400 && status < 500 && FORBIDDEN.includes(forbidden)) return { kind: "forbidden", why: forbidden };
   if (status === 429) return { kind: "none", why: "busy" };
-  const is_page = (status === 200 || status === 403) && /^\s*</.test(text);
-  return { kind: "none", why: is_page ? "page" : "status", status };
+  return { kind: "none", why: status >= 500 && unavailable === "counter" ? "unavailable" : "status", status };
 }
 
-function readForbidden(text) {
-  if (text === FORBIDDEN) return { kind: "forbidden" };
-  return text === NO_PASSWORD ? { kind: "signed_out" } : null;
+const NAME = /^[a-z0-9._@-]{1,64}$/;
+
+// Who the user is, as the proxy says under /user: the name in the certificate, and the groups.
+export function readUser(text) {
+  const { user, groups } = parsed(text) ?? /** @type {Record<string, any>} */ ({});
+  return typeof user === "string" && NAME.test(user) && typeof groups === "string" ? { kind: "user", name: user, groups: groups.split(" ") } : null;
 }
 
-// Reads a response: what `read` makes of a 200, a refusal, a fault, a request that wasn't served, that the user may not make or that needs signing in, or no answer of the counter.
+// Reads a response: what `read` makes of a 200, a refusal, a fault, a request that wasn't served, one that the proxy passed on to nobody, or no answer of the counter.
 export function readAnswer(status, text, read) {
   const other = otherAnswer(status, text);
   if (status === 200) return read(text) ?? other;
-  if (status === 403) return readForbidden(text) ?? other;
   if (status === 409) return readRefused(text) ?? other;
   if (status === 503) return readUnserved(text) ?? other;
   if ([400, 404, 405, 413].includes(status)) return readFault(text) ?? other;

@@ -55,11 +55,6 @@ export function startFrom(number) {
   last = Math.max(last, number ?? 0);
 }
 
-export function forgetTickets() {
-  known.clear();
-  own.clear();
-}
-
 // Takes over what the journal has of this desk's tickets: `paid` of its record, or nothing.
 export function knowOwn(paid) {
   for (const { ticket, bonds, total } of paid?.tickets ?? []) own.set(ticket, { day: paid.day, bonds, total: BigInt(total) });

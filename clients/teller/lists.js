@@ -30,7 +30,7 @@ export async function load(place, work) {
   } catch (error) {
     if (control.signal.aborted) return;
     if (!(error instanceof Unanswered)) throw error;
-    place.replaceChildren(...unansweredLine(error.answer), tryAgain(place, work));
+    place.replaceChildren(unansweredLine(error.answer), tryAgain(place, work));
   }
 }
 

@@ -3,21 +3,21 @@
 import { byId, element, fill, show } from "./elements.js";
 import { button, onSubmit, readFields } from "./forms.js";
 import { Journal, takeJournal } from "./journal.js";
-import { forgetTickets, startFrom, Unanswered } from "./latest.js";
+import { startFrom, Unanswered } from "./latest.js";
 import { asking, clearNotices, earlierSendings, endSteps, giveFocusBack, keepFocus, notice, startNotices, tellFailed, tellForbidden, tellRefused, tellStep, tellUnanswered } from "./notices.js";
+import { askUser } from "./queries.js";
 import { startQuestions } from "./question.js";
 import { receiptOf, Receipts } from "./receipts.js";
 import { Sender } from "./sender.js";
 import { laterOf, readDesk } from "./spelling.js";
-import { askGroups, askUser, onSignedIn, tellSignedIn } from "./user.js";
 import { dayReplied, deskSums, enterDay, offerActs, showDay, startDayView } from "./view_day.js";
 import { clearPay, enterPay, followDay, hasGoneOn, markPaid, startPayView } from "./view_pay.js";
-import { clearInterest, enterInterest, startInterest } from "./view_interest.js";
+import { enterInterest, startInterest } from "./view_interest.js";
 import { startRecords } from "./view_records.js";
-import { clearLookUps, enterBatches, enterTickets, lookUpTicket, showBatch, showTicket, startLookUps } from "./view_lookups.js";
+import { enterBatches, enterTickets, lookUpTicket, showBatch, showTicket, startLookUps } from "./view_lookups.js";
 import { clearWalkIn, followWalkIn, offerWalkIn, startWalkIn } from "./view_walkin.js";
-import { currentView, showOther, startViews } from "./views.js";
-import { ENTER, HEAD, LANGUAGE, PAY, TEXTS, unkeptInWords, WALK_IN } from "./words.js";
+import { showOther, startViews } from "./views.js";
+import { ENTER, FORMATS, HEAD, PAY, TEXTS, unkeptInWords, WALK_IN } from "./words.js";
 
 const NOT_OPEN = [42, 43];
 const ALREADY_PAID = 52;
@@ -28,8 +28,8 @@ class Page {
   #journal;
   #receipts;
   #sender;
-  #look_up = null;
-  #last_user = null;
+  // Ends the look-up that is under way.
+  #stop_look_up = () => {};
   user = null;
 
   constructor(journal, receipts) {
@@ -41,8 +41,6 @@ class Page {
       this.#sender.sendNow();
     });
     addEventListener("online", () => this.#sender.sendNow());
-    onSignedIn(() => this.#signedIn());
-    byId("sign-out").addEventListener("click", (event) => this.#signOut(event));
   }
 
   get record() {
@@ -76,82 +74,39 @@ class Page {
     followWalkIn(this);
   }
 
-  // Shows who is signed in, or nobody if the proxy doesn't say. What was shown for another user goes.
-  showUser(name) {
-    if (name !== null && this.#last_user !== null && name !== this.#last_user) {
-      clearPay();
-      clearWalkIn();
-      clearLookUps();
-      clearInterest();
-      forgetTickets();
-    }
+  // Shows the user's name, and offers what the user's groups may do. Without the proxy's word on the user the page has no name to show, and offers everything.
+  showUser(answer) {
+    const { name, groups } = answer.kind === "user" ? answer : { name: null, groups: null };
     this.user = name;
-    this.#last_user = name ?? this.#last_user;
-    this.#offer(name);
-    show(byId("user"), name !== null);
-    byId("user-name").textContent = name === null ? "" : HEAD.user(name);
-  }
-
-  // Offers what the groups of the user may do. Meanwhile another user may have signed in.
-  async #offer(name) {
-    const groups = name === null ? null : await askGroups();
-    if (name !== this.user) return;
     offerActs(groups);
     offerWalkIn(groups);
-  }
-
-  async #signedIn() {
-    this.showUser(await askUser());
-    this.#look_up?.again?.();
-    this.#sender.sendNow();
-    const view = currentView();
-    if (view !== null) await ENTERED[view](this);
-  }
-
-  #signOut(event) {
-    if (!this.isOpen) return;
-    event.preventDefault();
-    notice("noted", HEAD.open_request);
+    show(byId("user"), name !== null);
+    byId("user").textContent = name === null ? "" : HEAD.user(name);
+    if (answer.kind === "forbidden") tellForbidden(answer, null);
   }
 
   showBatch(batch) {
     return showBatch(this, batch);
   }
 
-  // Resolves to what `ask` finds out by look-ups; it gets a signal that ends them, and a function that says how far it is. If the user isn't signed in, it is asked again once the user is. If a later
-  // look-up or a request overtakes it, or the teller ends it, it never resolves.
+  // Resolves to what `ask` finds out by look-ups; it gets a signal that ends them, and a function that says how far it is. If a later look-up or a request overtakes it, or the teller ends it, it never
+  // resolves.
   async lookUp(ask) {
-    this.#stopLookUp();
+    this.#stop_look_up();
     const control = new AbortController();
-    const told = asking(() => this.#stopLookUp());
     const stop = () => {
       control.abort();
       told.end();
     };
-    const look_up = { stop, again: null };
-    this.#look_up = look_up;
+    const told = asking(stop);
+    this.#stop_look_up = stop;
     try {
-      const answer = await this.#askedUntilSignedIn(ask, control.signal, told.say, look_up);
+      const answer = await ask(control.signal, told.say).catch(answerOf);
       if (!control.signal.aborted) return answer;
     } finally {
-      if (this.#look_up === look_up) this.#stopLookUp();
+      stop();
     }
     return new Promise(() => {});
-  }
-
-  async #askedUntilSignedIn(ask, signal, say, look_up) {
-    for (;;) {
-      const answer = await ask(signal, say).catch(answerOf);
-      if (signal.aborted || answer.kind !== "signed_out") return answer;
-      tellUnanswered(answer);
-      await new Promise((resolve) => (look_up.again = resolve));
-      clearNotices();
-    }
-  }
-
-  #stopLookUp() {
-    this.#look_up?.stop();
-    this.#look_up = null;
   }
 
   tellUnanswered(answer) {
@@ -177,7 +132,7 @@ class Page {
   }
 
   async #through(sent) {
-    this.#stopLookUp();
+    this.#stop_look_up();
     keepFocus();
     this.#rest(true);
     try {
@@ -200,7 +155,7 @@ class Page {
 
   // Shows an answer, a ticket with its receipt; returns what the journal then keeps.
   #shown(answer, receipt) {
-    this.#stopLookUp();
+    this.#stop_look_up();
     if (answer.kind === "ticket") return this.#shownTicket(answer, receipt);
     if (answer.kind === "opened" || answer.kind === "batch") return dayReplied(this, answer);
     if (answer.kind === "forbidden") tellForbidden(answer, answer.request.path, ...registeredLines(answer.request));
@@ -283,14 +238,6 @@ function chosenDesk(journal) {
   });
 }
 
-// In a tab that has to wait for another one, the user has signed in all the same: it says so once the other one knows.
-async function waiting(user) {
-  showOther("waiting");
-  await user;
-  tellSignedIn();
-  show(byId("signed-in"), true);
-}
-
 // Says above the sheet why an open payment might not be kept. Before the first payment there is time to mend it.
 function tellKept(why) {
   byId("unkept").textContent = why === null ? "" : unkeptInWords(why);
@@ -298,11 +245,11 @@ function tellKept(why) {
 }
 
 async function start() {
-  fill(TEXTS, LANGUAGE);
+  fill(TEXTS, FORMATS.language);
   startNotices();
   startQuestions();
   const user = askUser();
-  await takeJournal(() => waiting(user));
+  await takeJournal(() => showOther("waiting"));
   const journal = await Journal.open();
   if (journal.record === null) await chosenDesk(journal);
   journal.testKept(tellKept);
@@ -316,7 +263,7 @@ async function start() {
   startInterest(page);
   startRecords(page);
   page.showState();
-  user.then((name) => page.showUser(name));
+  user.then((answer) => page.showUser(answer));
   const entered = (name) => ENTERED[name](page);
   startViews(entered);
   byId("views").addEventListener("click", clearNotices);

@@ -5,11 +5,11 @@ import { readAnswer, readEntry } from "./answers.js";
 // Longer than the 30 seconds for which another client can hold the desk.
 export const TIME_LIMIT = 40_000;
 
-// No page of another origin can send this header without asking first, so the proxy demands it. By its value the proxy knows the page, and doesn't have the browser ask for a password.
-export const OWN = { "X-Counter-Client": "teller-page" };
+// No page of another origin can send this header without asking first, so the proxy demands it.
+const OWN = { "X-Counter-Client": "teller-page" };
 
 /** @type {RequestInit} */
-export const SETTINGS = { cache: "no-store", credentials: "same-origin", redirect: "manual" };
+const SETTINGS = { cache: "no-store", credentials: "same-origin", redirect: "manual" };
 
 /**
  * `timeout` and `any` are newer than the compiler that checks types.

@@ -88,15 +88,6 @@ export function clearNoted() {
   byId("notices").querySelector(".noted")?.remove();
 }
 
-// The way to sign in again, in another tab: what was typed in this one stays.
-function signInLink() {
-  return element("a", { class: "button", href: "./", target: "_blank", rel: "noopener" }, TEXTS.sign_in);
-}
-
-function needsSignIn(answer) {
-  return answer.kind === "signed_out" || answer.why === "redirected" || answer.why === "page";
-}
-
 // What those who look after the counter ask for: the code, and the entry in the proxy's log.
 function codeLine(answer, ...more) {
   const code = answer.code === undefined ? "" : NOTICES.code(answer.name, answer.code);
@@ -115,24 +106,21 @@ export function tellRefused(answer, ...more) {
   notice("refused", says, advises, ...more, ...codeLine(answer, answer.kind === "refused" && !isAfterRegistration(answer) ? NOTICES.nothing_changed : ""));
 }
 
-// A request that this user may not make; `path` is null for a look-up.
+// A request that the proxy passed on to nobody; `path` is null for a look-up.
 export function tellForbidden(answer, path, ...more) {
-  const { says, advises } = forbiddenInWords(path);
+  const { says, advises } = forbiddenInWords(answer.why, path);
   notice("refused", isAfterRegistration(answer) ? says : NOTICES.nothing_done(says), advises, ...more, ...codeLine(answer));
 }
 
 // A look-up that the counter didn't answer.
 export function tellUnanswered(answer) {
-  const { says, advises } = inWords(answer);
-  const link = needsSignIn(answer) ? [element("p", { class: "buttons" }, signInLink())] : [];
-  notice("refused", says, answer.kind === "signed_out" ? advises : NOTICES.try_again, ...link, ...codeLine(answer));
+  notice("refused", inWords(answer).says, NOTICES.try_again, ...codeLine(answer));
 }
 
 // What of a look-up's list stands in the list's own place.
 export function unansweredLine(answer) {
-  const { says } = inWords(answer);
-  const line = element("p", {}, says);
-  return needsSignIn(answer) ? [line, element("p", { class: "buttons" }, signInLink())] : [line];
+  const { says } = answer.kind === "forbidden" ? forbiddenInWords(answer.why, null) : inWords(answer);
+  return element("p", {}, says);
 }
 
 // What went wrong in the page itself, or in the browser's storage. An open request is in the journal.
@@ -174,16 +162,14 @@ export function tellStep(step) {
   byId("progress-code").replaceChildren(...(is_pausing ? codeLine(step.answer) : []));
   byId("progress").className = "on";
   announce(byId("progress-text").textContent);
-  show(byId("progress-bar"), is_pausing && step.milliseconds !== null);
+  show(byId("progress-bar"), is_pausing);
   show(byId("send-now"), is_pausing);
   clearInterval(countdown);
-  if (is_pausing) tellPause(step);
+  if (is_pausing) tellPause(step.milliseconds);
 }
 
-// The way to sign in stays while the request is sent again, so that it doesn't vanish as it is pressed.
-function tellPause({ answer, milliseconds }) {
-  show(byId("sign-in"), needsSignIn(answer));
-  if (milliseconds !== null) countDown(milliseconds);
+function tellPause(milliseconds) {
+  countDown(milliseconds);
   byId("told").scrollTop = 0;
   if (!has_taken_focus) takeFocus(byId("progress-text"));
   has_taken_focus = true;
@@ -197,7 +183,7 @@ export function endSteps() {
   byId("progress-text").textContent = "";
   byId("progress-code").replaceChildren();
   byId("progress").className = "";
-  for (const id of ["progress-bar", "send-now", "sign-in"]) show(byId(id), false);
+  for (const id of ["progress-bar", "send-now"]) show(byId(id), false);
   return had_focus;
 }
 

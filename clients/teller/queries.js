@@ -1,7 +1,7 @@
 // Look-ups, which change nothing. Each is asked again a few times if no answer comes; then the page says so. If the proxy has had too many requests, a look-up waits until it takes it. The signal `cancel`
 // ends one, whose answer then is of the kind "cancelled".
 
-import { readBatch, readRow, readTicket } from "./answers.js";
+import { readBatch, readRow, readTicket, readUser } from "./answers.js";
 import { asked } from "./messages.js";
 import { readSheet } from "./sheet.js";
 
@@ -72,6 +72,11 @@ export function askValue(denom, issued, month, cancel) {
     return row !== null && row.denom === denom && row.issued === issued ? row : null;
   };
   return answered(`/value/${denom}/${issued}/${month}`, read, cancel);
+}
+
+// The user's name and groups. Without the proxy there is no such path.
+export function askUser() {
+  return answered("/user", readUser);
 }
 
 export function isMissing(answer) {

@@ -4,14 +4,13 @@
 // NumberReused means that another request of this desk has the number. The same request would have got its own reply, so this one was never done under that number, and no copy of it
 // that is still on its way ever will be. It continues under a higher number, which is written into the journal first.
 //
-// A fault, or the proxy's word that this user may not do it, answers one sending. On the first sending it is final: nothing was done, and no other sending is on its way, since the proxy passes no repeat of
-// the browser's own on. On a later one it tells nothing about the sendings before it, so the request stays open.
+// A fault, or the proxy's word that it passed the request on to nobody, answers one sending. On the first sending it is final: nothing was done, and no other sending is on its way, since the proxy passes
+// no repeat of the browser's own on. On a later one it tells nothing about the sendings before it, so the request stays open. A request without a certificate of the staff always does: it is sent again.
 //
 // A registration may have a payment that follows it (`then`). When the registration's reply has come, the payment takes its place in the journal, in one step. So whenever the page is closed or
 // killed, it sends the one or the other, and a registration that was refused pays nothing.
 //
-// Nothing is sent that isn't written into the journal. If the browser can't write it, the page pauses and tries again. If the user isn't signed in, each further sending could count as a wrong
-// password: so the request waits until the user has signed in, or presses the button.
+// Nothing is sent that isn't written into the journal. If the browser can't write it, the page pauses and tries again.
 
 import { replyTo } from "./answers.js";
 import { Unstored } from "./journal.js";
@@ -28,7 +27,7 @@ function isReply(answer) {
 
 // An answer to this sending alone, which would be the same for the next one.
 function isOfOneSending(answer) {
-  return answer.kind === "forbidden" || (answer.kind === "fault" && !DAMAGED.includes(answer.code));
+  return (answer.kind === "forbidden" && answer.why !== "certificate") || (answer.kind === "fault" && !DAMAGED.includes(answer.code));
 }
 
 function isFinal(answer, sent) {
@@ -39,9 +38,9 @@ function isReused(answer) {
   return answer.kind === "refused" && answer.code === NUMBER_REUSED;
 }
 
-// How long the page waits after a sending without a reply; null if it waits until it is woken.
-function pauseAfter(answer, failures) {
-  return answer.kind === "signed_out" ? null : PAUSES[Math.min(failures, PAUSES.length - 1)];
+// How long the page waits after a sending without a reply.
+function pauseAfter(failures) {
+  return PAUSES[Math.min(failures, PAUSES.length - 1)];
 }
 
 export class Sender {
@@ -98,7 +97,7 @@ export class Sender {
       }
       const missed = isReused(answer) ? await this.#renumbered() : answer;
       if (missed === null) continue;
-      await this.#pause(missed, pauseAfter(missed, failures));
+      await this.#pause(missed, pauseAfter(failures));
       failures += 1;
     }
   }
@@ -110,7 +109,7 @@ export class Sender {
     for (let failures = 0; ; failures += 1) {
       const missed = await this.#written({ next: next + 1, open: { number: next, step: 1, sent: 0, teller: open.teller, ...open.then, registered } });
       if (missed === null) return;
-      await this.#pause({ ...missed, is_replied: true }, pauseAfter(missed, failures));
+      await this.#pause({ ...missed, is_replied: true }, pauseAfter(failures));
     }
   }
 
@@ -119,7 +118,7 @@ export class Sender {
     for (let failures = 0; ; failures += 1) {
       const missed = await this.#written({ ...changes, open: null }, keep);
       if (missed === null) return;
-      await this.#pause({ ...missed, is_replied: true }, pauseAfter(missed, failures));
+      await this.#pause({ ...missed, is_replied: true }, pauseAfter(failures));
     }
   }
 
@@ -161,7 +160,7 @@ export class Sender {
   async #pause(answer, milliseconds) {
     this.#tell({ step: "pausing", request: this.#journal.record.open, answer, milliseconds });
     await new Promise((resolve) => {
-      const timer = milliseconds === null ? undefined : setTimeout(resolve, milliseconds);
+      const timer = setTimeout(resolve, milliseconds);
       this.#wake = () => {
         clearTimeout(timer);
         resolve();

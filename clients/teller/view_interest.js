@@ -51,11 +51,6 @@ async function ask(app, span, title, name) {
   else app.tellUnanswered(found);
 }
 
-// Leaves nothing of a customer in the view.
-export function clearInterest() {
-  byId("interest-of").replaceChildren();
-}
-
 export function startInterest(app) {
   onSubmit(byId("ask-interest-day"), async () => {
     const fields = readFields([byId("interest-day"), readDay, ENTER.day]);

@@ -3,7 +3,7 @@
 import { byId } from "./elements.js";
 import { button, onSubmit, readFields } from "./forms.js";
 import { latestBatches, lastTicket, remember, ticketsDown, ticketsOf } from "./latest.js";
-import { listTable, load, stopLoading } from "./lists.js";
+import { listTable, load } from "./lists.js";
 import { notice } from "./notices.js";
 import { batchPaper, ticketPaper } from "./papers.js";
 import { askBatch, askTicket, isMissing } from "./queries.js";
@@ -148,15 +148,6 @@ export function enterBatches(app) {
 }
 
 // ---- both
-
-// Leaves nothing of a customer in the views.
-export function clearLookUps() {
-  Object.assign(shown, { ticket: null, receipt: null, entry: null });
-  for (const id of ["ticket", "ticket-list", "batch", "batch-list"]) {
-    stopLoading(byId(id));
-    byId(id).replaceChildren();
-  }
-}
 
 export function startLookUps(app) {
   onSubmit(byId("ask-ticket"), async () => {

@@ -18,7 +18,7 @@ const BOND_FIELDS = ["walkin-serial", "walkin-denom", "walkin-issued"];
 const CUSTOMER_FIELDS = ["walkin-owner", "walkin-coowner", "walkin-payee"];
 
 // The groups whose acts a walk-in takes.
-const GROUPS = ["teller", "office"];
+const GROUPS = ["teller", "registrar"];
 
 // The month in which bonds are paid now, or null; whether the user may not do it; and what was typed, by serial number: rows as those of a sheet.
 const shown = { month: null, is_barred: false, bonds: new Map() };

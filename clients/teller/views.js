@@ -32,11 +32,6 @@ export function showOther(name) {
   showOnly(name);
 }
 
-// The view that is shown, or null before the views have started.
-export function currentView() {
-  return VIEWS.find((view) => !byId(view).hidden) ?? null;
-}
-
 export function goTo(name) {
   if (named() === name) showOnly(name);
   else location.hash = name;

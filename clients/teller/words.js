@@ -1,61 +1,12 @@
-// Every word of the page, and how it spells days, months, money and amounts. For a second language, translate a copy of this file and serve it under this name.
+// Every word of the page, and how it spells days, months, money and amounts.
 // What is shown before this file is loaded, or if it can't be, stands in index.html. `tests/clients/teller_page` tests that no word of the page stands elsewhere, and that no code lacks a sentence.
 
 import { daysFrom, monthOf, noonOf, printMoney } from "./spelling.js";
 
-export const LANGUAGE = "en";
-
 // ---- days, money, numbers
 
-const WEEKDAYS = ["Sunday", "Monday", "Tuesday", "Wednesday", "Thursday", "Friday", "Saturday"];
-const MONTHS = ["January", "February", "March", "April", "May", "June", "July", "August", "September", "October", "November", "December"];
-
-export function monthInWords(month) {
-  return `${MONTHS[Number(month.slice(5)) - 1]} ${month.slice(0, 4)}`;
-}
-
-// As an American bank writes it: "February 6, 2012".
-export function dayInWords(day) {
-  return `${MONTHS[Number(day.slice(5, 7)) - 1]} ${Number(day.slice(8))}, ${day.slice(0, 4)}`;
-}
-
-export function weekdayInWords(day) {
-  return `${WEEKDAYS[noonOf(day).getUTCDay()]}, ${dayInWords(day)}`;
-}
-
-const twoDigits = (number) => String(number).padStart(2, "0");
-
-// A moment in milliseconds, in this machine's time zone: its day and time, as "February 6, 2012, 2:05 PM".
-export function timeInWords(moment) {
-  const date = new Date(moment);
-  const day = `${MONTHS[date.getMonth()]} ${date.getDate()}, ${date.getFullYear()}`;
-  return `${day}, ${date.getHours() % 12 || 12}:${twoDigits(date.getMinutes())} ${date.getHours() < 12 ? "AM" : "PM"}`;
-}
-
-// A moment of the server's clock, in this machine's time zone, which it names.
-export function serverTimeInWords(moment) {
-  const zone = new Intl.DateTimeFormat(LANGUAGE, { timeZoneName: "short" }).formatToParts(moment).find((part) => part.type === "timeZoneName").value;
-  return `${timeInWords(moment)} ${zone}`;
-}
-
-// The number of a month by its name, or by the first three letters or more of it; null if there is none.
-export function monthNamed(name) {
-  const place = MONTHS.findIndex((month) => month.toLowerCase().startsWith(name.toLowerCase()));
-  return place < 0 ? null : place + 1;
-}
-
-export function numberInWords(number) {
-  return number.toLocaleString("en-US");
-}
-
-// Money as tellers read it, with a comma after each three digits.
-export function moneyInWords(cents) {
-  return `$${printMoney(cents).replace(/\B(?=([0-9]{3})+\.)/g, ",")}`;
-}
-
 const counted = (count, one, many) => `${numberInWords(count)} ${count === 1 ? one : many}`;
-const bonds = (count) => counted(count, "bond", "bonds");
-const tickets = (count) => counted(count, "ticket", "tickets");
+const twoDigits = (number) => String(number).padStart(2, "0");
 
 const SMALL = ["zero", "one", "two", "three", "four", "five", "six", "seven", "eight", "nine", "ten", "eleven", "twelve", "thirteen", "fourteen", "fifteen", "sixteen", "seventeen", "eighteen", "nineteen"];
 const TENS = ["", "", "twenty", "thirty", "forty", "fifty", "sixty", "seventy", "eighty", "ninety"];
@@ -72,15 +23,62 @@ function belowThousand(number) {
   return `${SMALL[Math.floor(number / 100)]} hundred${rest === "" ? "" : ` ${rest}`}`;
 }
 
-// The amount as on a check: "Five thousand sixty-two dollars and 07/100".
-export function amountInWords(cents) {
-  const dollars = cents / 100n;
+function dollarsInWords(dollars) {
   const groups = [];
   for (let rest = dollars, place = 0; rest > 0n; rest /= 1000n, place += 1) {
     if (rest % 1000n > 0n) groups.unshift(belowThousand(Number(rest % 1000n)) + GROUPS[place]);
   }
   const words = dollars === 0n ? "zero" : groups.join(" ");
-  return `${words[0].toUpperCase()}${words.slice(1)} ${dollars === 1n ? "dollar" : "dollars"} and ${twoDigits(cents % 100n)}/100`;
+  return `${words[0].toUpperCase()}${words.slice(1)} ${dollars === 1n ? "dollar" : "dollars"}`;
+}
+
+function clockInWords(date) {
+  return `${date.getHours() % 12 || 12}:${twoDigits(date.getMinutes())} ${date.getHours() < 12 ? "AM" : "PM"}`;
+}
+
+export const FORMATS = {
+  language: "en",
+  weekdays: ["Sunday", "Monday", "Tuesday", "Wednesday", "Thursday", "Friday", "Saturday"],
+  months: ["January", "February", "March", "April", "May", "June", "July", "August", "September", "October", "November", "December"],
+  month: (month) => `${FORMATS.months[Number(month.slice(5)) - 1]} ${month.slice(0, 4)}`,
+  // As an American bank writes it: "February 6, 2012".
+  day: (day) => `${FORMATS.months[Number(day.slice(5, 7)) - 1]} ${Number(day.slice(8))}, ${day.slice(0, 4)}`,
+  weekday: (day) => `${FORMATS.weekdays[noonOf(day).getUTCDay()]}, ${dayInWords(day)}`,
+  // A moment in milliseconds, in this machine's time zone: its day and time, as "February 6, 2012, 2:05 PM".
+  time: (moment) => {
+    const date = new Date(moment);
+    return `${FORMATS.months[date.getMonth()]} ${date.getDate()}, ${date.getFullYear()}, ${clockInWords(date)}`;
+  },
+  number: (number) => number.toLocaleString("en-US"),
+  // Money as tellers read it, with a comma after each three digits.
+  money: (cents) => `$${printMoney(cents).replace(/\B(?=([0-9]{3})+\.)/g, ",")}`,
+  // The amount as on a check: "Five thousand sixty-two dollars and 07/100".
+  amount: (cents) => `${dollarsInWords(cents / 100n)} and ${twoDigits(cents % 100n)}/100`,
+  bonds: (count) => counted(count, "bond", "bonds"),
+  tickets: (count) => counted(count, "ticket", "tickets"),
+  seconds: (milliseconds) => (milliseconds < 1000 ? "half a second" : counted(milliseconds / 1000, "second", "seconds")),
+};
+
+export const monthInWords = (month) => FORMATS.month(month);
+export const dayInWords = (day) => FORMATS.day(day);
+export const weekdayInWords = (day) => FORMATS.weekday(day);
+export const timeInWords = (moment) => FORMATS.time(moment);
+export const numberInWords = (number) => FORMATS.number(number);
+export const moneyInWords = (cents) => FORMATS.money(cents);
+export const amountInWords = (cents) => FORMATS.amount(cents);
+const bonds = (count) => FORMATS.bonds(count);
+const tickets = (count) => FORMATS.tickets(count);
+
+// A moment of the server's clock, in this machine's time zone, which it names.
+export function serverTimeInWords(moment) {
+  const zone = new Intl.DateTimeFormat(FORMATS.language, { timeZoneName: "short" }).formatToParts(moment).find((part) => part.type === "timeZoneName").value;
+  return `${timeInWords(moment)} ${zone}`;
+}
+
+// The number of a month by its name, or by the first three letters or more of it; null if there is none.
+export function monthNamed(name) {
+  const place = FORMATS.months.findIndex((month) => month.toLowerCase().startsWith(name.toLowerCase()));
+  return place < 0 ? null : place + 1;
 }
 
 // ---- the texts of index.html, by their names there
@@ -89,14 +87,12 @@ export const TEXTS = {
   title: "Counter",
   skip: "Skip to the content",
   name: "Savings bond counter",
-  sign_out: "Sign out",
   views: "Views",
   day: "Day",
   pay: "Pay",
   tickets: "Tickets",
   batches: "Batches",
   until_sent: "Until it is sent again",
-  sign_in: "Sign in",
   send_now: "Send it now",
   asking: "Asking the counter.",
   cancel: "Cancel",
@@ -106,7 +102,6 @@ export const TEXTS = {
   work_at_desk: "Work at this desk",
   waiting: "The counter is open in another tab",
   waiting_help: "One page at a time works at a desk. This page continues when the other is closed.",
-  waiting_signed_in: "If you came here to sign in, you are signed in now. Close this tab, and continue in the other one.",
   to_pay: "Pay bonds",
   so_far: "This day so far",
   this_desk: "This desk",
@@ -203,7 +198,6 @@ export const HEAD = {
   state: (desk, day) => `Desk ${desk}, ${day === null ? "no open day" : dayInWords(day)}`,
   user: (name) => `Teller ${name}`,
   title: (view) => `${view} – ${TEXTS.title}`,
-  open_request: "A request has no reply yet. Sign out once its reply is there.",
   close: "Close",
   reload: "Reload the page",
   no_start: "This page can't start.",
@@ -405,41 +399,40 @@ export const PAPER = {
 
 // ---- a request under way
 
-const requestInWords = ({ path, fields }) => {
-  if (path === "/day/open") return `Opening ${dayInWords(fields.day)}`;
-  if (path === "/day/close") return `Closing ${dayInWords(fields.day)}`;
-  if (path === "/bonds") return `Registering ${bonds(fields.bonds.length)} of customer ${fields.bonds[0].owner}`;
-  return `Paying ${bonds(fields.serials.length)} to customer ${fields.payee}`;
+// By path: the request, and what an attempt without a reply may have done.
+export const REQUESTS = {
+  "/redeem": [({ serials, payee }) => `Paying ${bonds(serials.length)} to customer ${payee}`, "Nothing may be paid out yet. The payment may have been made already."],
+  "/bonds": [({ bonds: rows }) => `Registering ${bonds(rows.length)} of customer ${rows[0].owner}`, "Nothing may be paid out yet. The bonds may be registered already."],
+  "/day/open": [({ day }) => `Opening ${dayInWords(day)}`, "The day may be open already."],
+  "/day/close": [({ day }) => `Closing ${dayInWords(day)}`, "The day may be closed already."],
 };
 
-// What an attempt without a reply may have done.
-const MAY_BE_DONE = {
-  "/redeem": "Nothing may be paid out yet. The payment may have been made already.",
-  "/bonds": "Nothing may be paid out yet. The bonds may be registered already.",
-  "/day/open": "The day may be open already.",
-  "/day/close": "The day may be closed already.",
-};
+const requestInWords = ({ path, fields }) => REQUESTS[path][0](fields);
+const mayBeDone = ({ path }) => REQUESTS[path][1];
 
-const secondsInWords = (milliseconds) => (milliseconds < 1000 ? "half a second" : counted(milliseconds / 1000, "second", "seconds"));
+const advised = ({ says, advises }) => `${says} ${advises}`;
 
 // What came in place of a reply.
 function missedInWords(request, answer) {
-  const is_forbidden = answer.kind === "forbidden";
-  const { says, advises } = is_forbidden ? forbiddenInWords(request.path) : inWords(answer);
-  if (is_forbidden) return `${says} ${advises} This says nothing about the earlier attempts.`;
-  return answer.kind === "fault" && request.sent > 1 ? `${says} This says nothing about the earlier attempts.` : says;
+  const { says, advises } = answer.kind === "forbidden" ? forbiddenInWords(answer.why, request.path) : inWords(answer);
+  const missed = answer.kind === "forbidden" ? advised({ says, advises }) : says;
+  return ["fault", "forbidden"].includes(answer.kind) && request.sent > 1 ? `${missed} ${STEPS.not_earlier}` : missed;
 }
 
 const unstored = ({ request, answer, milliseconds }) => {
-  const { says, advises } = inWords(answer);
-  const first = answer.is_replied ? `${requestInWords(request)}: the reply has come.` : `${requestInWords(request)}: the request is open. ${request.sent === 0 ? "It wasn't sent." : MAY_BE_DONE[request.path]}`;
-  return [first, `${says} ${advises} The page tries again in ${secondsInWords(milliseconds)}.`];
+  const is_open = `${STEPS.is_open} ${request.sent === 0 ? STEPS.not_sent : mayBeDone(request)}`;
+  return [`${requestInWords(request)}: ${answer.is_replied ? STEPS.replied : is_open}`, `${advised(inWords(answer))} ${STEPS.tries_again(FORMATS.seconds(milliseconds))}`];
 };
-
-const waits = ({ request, answer }) => [`${requestInWords(request)}: no reply yet. ${request.sent > 1 ? MAY_BE_DONE[request.path] : "This attempt did nothing."}`, `${inWords(answer).says} ${inWords(answer).advises} The page waits, and keeps the request and what you typed.`];
 
 // By step: what comes first, and the rest.
 export const STEPS = {
+  not_earlier: "This says nothing about the earlier attempts.",
+  is_open: "the request is open.",
+  not_sent: "It wasn't sent.",
+  did_nothing: "This attempt did nothing.",
+  replied: "the reply has come.",
+  tries_again: (time) => `The page tries again in ${time}.`,
+  sends_again: (time) => `The same request is sent again in ${time}.`,
   sending: ({ request }) => {
     const times = request.sent === 1 ? "sent" : `sent again (attempt ${request.sent})`;
     return ["", `${requestInWords(request)}: ${times}, waiting for the reply.`];
@@ -448,24 +441,26 @@ export const STEPS = {
     const next = `The page continues with number ${request.number}. Does another page use this desk?`;
     return ["", `${requestInWords(request)}: another request of this desk used that number. ${next}`];
   },
+  no_reply: (request, done) => `${request}: no reply yet. ${done}`,
   pausing: (step) => {
     const { request, answer, milliseconds } = step;
     if (answer.kind === "unstored") return unstored(step);
-    if (milliseconds === null) return waits(step);
-    const first = `${requestInWords(request)}: no reply yet. ${MAY_BE_DONE[request.path]}`;
-    return [first, `${missedInWords(request, answer)} The same request is sent again in ${secondsInWords(milliseconds)}.`];
+    const done = answer.kind === "forbidden" && request.sent === 1 ? STEPS.did_nothing : mayBeDone(request);
+    return [STEPS.no_reply(requestInWords(request), done), `${missedInWords(request, answer)} ${STEPS.sends_again(FORMATS.seconds(milliseconds))}`];
   },
 };
 
-const DONE_ONCE = {
+export const INTERRUPTED = {
+  says: (done) => `The connection was interrupted. ${done}`,
   ticket: "This was paid once.",
   opened: "The day was opened once.",
   batch: "The day was closed once.",
+  nothing: (sent) => `None of the ${sent} attempts changed anything.`,
 };
 
 // The reply is perhaps that of an earlier attempt.
 export function interruptedInWords(kind, sent) {
-  return `The connection was interrupted. ${DONE_ONCE[kind] ?? `None of the ${sent} attempts changed anything.`}`;
+  return INTERRUPTED.says(["ticket", "opened", "batch"].includes(kind) ? INTERRUPTED[kind] : INTERRUPTED.nothing(sent));
 }
 
 export const NOTICES = {
@@ -484,7 +479,7 @@ const thatBond = (answer) => (answer.serial === undefined ? "a bond" : `bond ${a
 const monthOfAnswer = (answer) => (typeof answer.month === "string" ? monthInWords(answer.month) : "that month");
 
 // By code: the name, what is so, and what to do about it.
-const REFUSALS = {
+export const REFUSALS = {
   10: ["NumberReused", () => "Another request of this desk used this request's number.", () => "The page continues under a higher number. If this happens often, two pages share one desk: give each its own."],
   11: ["Empty", () => "The request names no bond.", () => "Choose at least one bond and try again."],
   12: ["TooMany", () => "The request is too large: a ticket holds up to 100 bonds, a registration up to 500 rows.", () => "Split it into smaller requests."],
@@ -510,7 +505,7 @@ const REFUSALS = {
 const damaged = () => "The page sends the same request again. If this continues, tell your administrator.";
 const misfit = () => "Nothing was done. Tell your administrator: it doesn't match the program.";
 
-const FAULTS = {
+export const FAULTS = {
   60: ["BadHead", () => "The message reached the counter damaged: its head can't be read.", damaged],
   61: ["HeadTooLong", () => "The message reached the counter damaged: its head is too long.", damaged],
   62: ["BodyTooLong", () => "The message is too long for the counter.", misfit],
@@ -523,61 +518,80 @@ const FAULTS = {
   69: ["NotFound", () => "There is no such ticket or batch.", () => "Check the number or the day. A day has a batch once it is closed."],
 };
 
-const UNSERVED = {
+export const UNSERVED = {
   1: ["NoMemory", () => "The counter had no memory for this request, so this attempt did nothing.", () => "The page sends the same request again. If this continues, tell your administrator."],
   2: ["StoreFailed", () => "The counter's store failed, so the request may or may not have been done.", () => "The page sends the same request again, which takes effect once at most. Tell your administrator: it must be restarted."],
 };
 
-const TABLES = { refused: REFUSALS, fault: FAULTS, unserved: UNSERVED };
+const CODES = { refused: REFUSALS, fault: FAULTS, unserved: UNSERVED };
 
-// What a user's group may not do, and whose group may.
-const RIGHTS = {
+// What a user's group may not do, and whose group may. `other` is a look-up.
+export const RIGHTS = {
   "/redeem": ["pay bonds", "a teller"],
-  "/bonds": ["register bonds", "the back office"],
+  "/bonds": ["register bonds", "a registrar"],
   "/day/open": ["open a day", "a supervisor"],
   "/day/close": ["close a day", "a supervisor"],
+  other: ["look this up", "a user who may"],
+};
+
+const unlike = () => "Reload the page. If this stays, tell your administrator.";
+
+// By the reason that the proxy gives: why it passed a request on to nobody, and what to do about it.
+export const FORBIDDEN = {
+  certificate: [() => "This browser sent no certificate of the staff, or it was revoked or has run out.", () => "Put in your card, or close the browser and open it again. If this stays, ask your administrator for a new certificate."],
+  group: [([act]) => `This user may not ${act}.`, ([, who]) => `Ask ${who}.`],
+  origin: [() => "The proxy took this for a request of another site's page.", unlike],
+  client: [() => "The proxy didn't find this page's name in the request.", unlike],
+  type: [() => "The proxy didn't find the request's type.", unlike],
+  request: [() => "The proxy couldn't read the request.", unlike],
+  chunks: [() => "The request reached the proxy in pieces without a length.", unlike],
+  size: [() => "The request is too long for the proxy.", () => "Split it into smaller requests."],
+  host: [() => "This page was opened under a name that isn't the counter's.", () => "Open it under its usual address."],
 };
 
 // By why no answer of the counter came.
-const WHY = {
-  redirected: () => "the request was redirected, as to a page for signing in",
-  page: (answer) => `a page of something else did (status ${answer.status}), as for signing in`,
+export const WHY = {
+  redirected: () => "the request was redirected",
   busy: () => "too many requests",
+  unavailable: () => "it is starting, or has too much to do",
   status: (answer) => `something else did (status ${answer.status})`,
   time: (answer) => `no response within ${answer.seconds} seconds`,
   lost: () => "the connection was lost",
 };
 
-const UNSTORED = {
+export const UNSTORED = {
   quota: ["This browser has no room left for the journal of this page.", "Make room on this machine's disk."],
   other: ["This browser couldn't write the journal of this page.", "If this continues, reload the page."],
+  unkept: ["This browser may forget an open payment: it doesn't promise to keep the data of this page, as in a private window.", "Ask your administrator to allow it persistent storage."],
 };
 
 // Why an open payment might not be kept.
 export function unkeptInWords(why) {
-  if (why !== "unkept") return UNSTORED[why].join(" ");
-  return "This browser may forget an open payment: it doesn't promise to keep the data of this page, as in a private window. Ask your administrator to allow it persistent storage.";
+  return UNSTORED[why].join(" ");
 }
 
-const other = (answer) => ({
-  says: `The counter answered ${answer.name} (code ${answer.code}), which this page doesn't know.`,
-  advises: "Don't pay anything out for this request. Tell your administrator.",
-});
+// An answer that is none of the counter's, and one whose code this page doesn't know.
+export const ANSWERS = {
+  none: (why) => `The counter didn't answer: ${why}.`,
+  none_advises: "The page sends the same request again.",
+  unknown: ({ name, code }) => `The counter answered ${name} (code ${code}), which this page doesn't know.`,
+  unknown_advises: "Don't pay anything out for this request. Tell your administrator.",
+};
 
 // The sentence of an answer that is no reply, and what to do. If the name isn't that of the code, the page knows neither.
 export function inWords(answer) {
-  if (answer.kind === "none") return { says: `The counter didn't answer: ${WHY[answer.why](answer)}.`, advises: "The page sends the same request again." };
-  if (answer.kind === "signed_out") return { says: "You are signed out, or the password has changed.", advises: "Sign in, in the tab that opens, and come back." };
+  if (answer.kind === "none") return { says: ANSWERS.none(WHY[answer.why](answer)), advises: ANSWERS.none_advises };
   if (answer.kind === "unstored") return { says: UNSTORED[answer.fault][0], advises: UNSTORED[answer.fault][1] };
-  const known = TABLES[answer.kind]?.[answer.code];
-  if (known === undefined || known[0] !== answer.name) return other(answer);
+  const known = CODES[answer.kind]?.[answer.code];
+  if (known === undefined || known[0] !== answer.name) return { says: ANSWERS.unknown(answer), advises: ANSWERS.unknown_advises };
   return { says: known[1](answer), advises: known[2](answer) };
 }
 
-// A request that the proxy refused, since the user's group may not make it.
-export function forbiddenInWords(path) {
-  const [act, who] = RIGHTS[path] ?? ["look this up", "a user who may"];
-  return { says: `This user may not ${act}.`, advises: `Ask ${who}, or sign in as one.` };
+// A request that the proxy passed on to nobody, for the reason `why`. `path` is null for a look-up.
+export function forbiddenInWords(why, path) {
+  const rights = RIGHTS[path ?? "other"];
+  const [says, advises] = FORBIDDEN[why].map((words) => words(rights));
+  return { says, advises };
 }
 
 // ---- interest
