@@ -1,6 +1,6 @@
 // Tickets and batches as they are shown, and as they are printed: on sheets of a set number of rows, so that each sheet has its own head and "page x of y", in any browser.
 
-import { BANK, branchOf } from "./bank.js";
+import * as bank from "./bank.js";
 import { element } from "./elements.js";
 import { button } from "./forms.js";
 import { csvOf } from "./interest.js";
@@ -110,12 +110,18 @@ function shownPaper(paper, id, printing, ...more) {
 
 const timeOf = (moment) => (moment === null ? "" : serverTimeInWords(moment));
 
+// The lines on the bank, and on the branch that has the desk.
+function bankOf(desk) {
+  const branch = bank.BRANCHES.find(({ from, to }) => desk >= from && desk <= to);
+  return [[PAPER.bank, bank.BANK], [PAPER.branch, branch?.name ?? ""]];
+}
+
 // The lines on who paid: `own` is what this desk's journal or its receipts have of the ticket, or null; `app` knows the desk and the user.
 function originOf(app, own, is_copy) {
   const { desk } = app.record;
   const payer = own === null ? [] : [[PAPER.desk, String(desk)], [PAPER.teller, own.teller ?? ""], [PAPER.time, timeOf(own.at)], [PAPER.request, PAPER.request_number(desk, own.number)]];
   const printed = is_copy ? [[PAPER.printed, printedBy(app)]] : [];
-  return [[PAPER.bank, BANK], [PAPER.branch, branchOf(desk)], ...payer, ...printed];
+  return [...bankOf(desk), ...payer, ...printed];
 }
 
 function printedBy(app) {
@@ -169,7 +175,7 @@ export function batchPaper(app, batch, tickets, printing, ...more) {
     title: PAPER.batch(batch.day),
     running: PAPER.batch(batch.day),
     facts,
-    printed_facts: [[PAPER.bank, BANK], [PAPER.branch, branchOf(app.record.desk)], ...facts, [PAPER.printed, printedBy(app)]],
+    printed_facts: [...bankOf(app.record.desk), ...facts, [PAPER.printed, printedBy(app)]],
     lacks: null,
     caption: PAPER.batch_lines(batch.day),
     table: "lines",

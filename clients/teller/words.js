@@ -1,6 +1,7 @@
-// Every word of the page, and how it spells days, months, money and amounts.
+// Every word of the page, and how it spells days, months, money and amounts, in the tables that the bank's own words (bank.js) are laid over. No bank edits this file.
 // What is shown before this file is loaded, or if it can't be, stands in index.html. `tests/clients/teller_page` tests that no word of the page stands elsewhere, and that no code lacks a sentence.
 
+import * as bank from "./bank.js";
 import { daysFrom, monthOf, noonOf, printMoney } from "./spelling.js";
 
 // ---- days, money, numbers
@@ -663,3 +664,34 @@ export const DOUBTS = {
   back: "If anything differs from the paper, choose Back.",
   agree: "They agree: continue",
 };
+
+// ---- the bank's own words
+
+const OURS = { FORMATS, TEXTS, ENTER, HEAD, DAY, PAY, HAND, SHEET, LOOKUPS, PAPER, REQUESTS, STEPS, INTERRUPTED, NOTICES, REFUSALS, FAULTS, UNSERVED, RIGHTS, FORBIDDEN, WHY, UNSTORED, ANSWERS, INTEREST, RECORDS, WALK_IN, DOUBTS };
+
+const isTable = (value) => typeof value === "object" && value !== null && !Array.isArray(value);
+
+// Whether a word can stand in place of another: a text, a function, or a list of as many words.
+function isAlike(word, other) {
+  return Array.isArray(other) ? Array.isArray(word) && word.length === other.length && other.every((part, place) => isAlike(word[place], part)) : typeof word === typeof other;
+}
+
+// Lays words over those of a table, and returns the names of those that can't be: the table has no such key, or a word of another kind.
+function laidOver(table, words, name) {
+  if (!isTable(words)) return [name];
+  return Object.entries(words).flatMap(([key, word]) => {
+    const full_name = `${name}.${key}`;
+    if (Object.hasOwn(table, key) && isTable(table[key])) return laidOver(table[key], word, full_name);
+    if (!Object.hasOwn(table, key) || !isAlike(word, table[key])) return [full_name];
+    table[key] = word;
+    return [];
+  });
+}
+
+const UNKNOWN = laidOver(OURS, /** @type {{ WORDS?: object }} */ (bank).WORDS ?? {}, "WORDS");
+for (const name of UNKNOWN) console.warn(`bank.js: this page has no word ${name}, or another kind of it`);
+
+// The words of bank.js that this page doesn't have, by their names: such as WORDS.PAY.payed.
+export function unknownWords() {
+  return UNKNOWN;
+}
