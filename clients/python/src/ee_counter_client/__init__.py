@@ -72,7 +72,20 @@ from .files import Registered, bonds_in, rates_in, register
 from .interest import bonds_known, interest_of_day, interest_of_payee, interest_of_ticket
 from .lookups import Lookups
 from .pool import Pool
-from .results import Abandoned, Added, Batch, Finished, Interest, Line, Opened, Paid, Request, Row, Sheet, Ticket
+from .results import (
+    Abandoned,
+    Added,
+    Batch,
+    Finished,
+    Interest,
+    Line,
+    Opened,
+    Paid,
+    Request,
+    Row,
+    Sheet,
+    Ticket,
+)
 from .spelling import Bond, Month, Rates
 from .version import __version__
 

@@ -5,7 +5,16 @@ import json
 import re
 from typing import Any, Callable, NamedTuple, Optional, Sequence, TypeVar
 
-from .errors import CounterError, Fault, Forbidden, ForeignAnswer, NotReady, SignInRefused, is_known_shape, shown
+from .errors import (
+    CounterError,
+    Fault,
+    Forbidden,
+    ForeignAnswer,
+    NotReady,
+    SignInRefused,
+    is_known_shape,
+    shown,
+)
 from .spelling import Json, cents_of, day_of
 
 Reader = Callable[[str], Optional[Any]]
@@ -55,19 +64,35 @@ def is_day(text: object) -> bool:
 
 def is_line(line: object) -> bool:
     """Whether it is a line of a ticket."""
-    if not isinstance(line, dict) or list(line) != ["paid", "serial"] or cents_of(line["paid"]) is None:
+    if (
+        not isinstance(line, dict)
+        or list(line) != ["paid", "serial"]
+        or cents_of(line["paid"]) is None
+    ):
         return False
-    return isinstance(line["serial"], str) and re.fullmatch(r"[A-Z][1-9][0-9]{0,9}EE", line["serial"]) is not None
+    return (
+        isinstance(line["serial"], str)
+        and re.fullmatch(r"[A-Z][1-9][0-9]{0,9}EE", line["serial"]) is not None
+    )
 
 
 def ticket_in(text: str) -> Optional[Json]:
     """A ticket whose lines add up to its total."""
     ticket = exactly(text, ("day", "lines", "payee", "ticket", "total"))
-    if ticket is None or len(ticket) != 5 or not isinstance(ticket["lines"], list) or not all(map(is_line, ticket["lines"])):
+    if (
+        ticket is None
+        or len(ticket) != 5
+        or not isinstance(ticket["lines"], list)
+        or not all(map(is_line, ticket["lines"]))
+    ):
         return None
     if not (is_day(ticket["day"]) and is_count(ticket["payee"]) and is_count(ticket["ticket"])):
         return None
-    return ticket if sum(cents_of(line["paid"]) or 0 for line in ticket["lines"]) == cents_of(ticket["total"]) else None
+    return (
+        ticket
+        if sum(cents_of(line["paid"]) or 0 for line in ticket["lines"]) == cents_of(ticket["total"])
+        else None
+    )
 
 
 def batch_in(text: str) -> Optional[Json]:
@@ -75,16 +100,30 @@ def batch_in(text: str) -> Optional[Json]:
     batch = exactly(text, ("bonds", "day", "tickets", "total"))
     if batch is None or len(batch) != 4 or cents_of(batch["total"]) is None:
         return None
-    return batch if is_day(batch["day"]) and is_count(batch["bonds"]) and is_count(batch["tickets"]) else None
+    return (
+        batch
+        if is_day(batch["day"]) and is_count(batch["bonds"]) and is_count(batch["tickets"])
+        else None
+    )
 
 
 def with_its(found: Optional[Json], **asked: Any) -> Optional[Json]:
     """What was found, if it is what was asked for."""
-    return found if found is not None and all(found[name] == value for name, value in asked.items()) else None
+    return (
+        found
+        if found is not None and all(found[name] == value for name, value in asked.items())
+        else None
+    )
 
 
 MONTH = r"[0-9]{4}-(?:0[1-9]|1[0-2])"
-CELLS = {"issued": MONTH, "next": f"({MONTH})?", "final": f"({MONTH})?", "note": "(NI|NE|P5|MA)?", "rate": r"([0-9]{1,2}\.[0-9]{2}%)?"}
+CELLS = {
+    "issued": MONTH,
+    "next": f"({MONTH})?",
+    "final": f"({MONTH})?",
+    "note": "(NI|NE|P5|MA)?",
+    "rate": r"([0-9]{1,2}\.[0-9]{2}%)?",
+}
 
 
 def row_in(text: str) -> Optional[Json]:
@@ -93,7 +132,10 @@ def row_in(text: str) -> Optional[Json]:
     row = exactly(text, keys)
     if row is None or len(row) != len(keys) or not is_count(row["denom"]):
         return None
-    if not all(isinstance(row[name], str) and re.fullmatch(pattern, row[name]) for name, pattern in CELLS.items()):
+    if not all(
+        isinstance(row[name], str) and re.fullmatch(pattern, row[name])
+        for name, pattern in CELLS.items()
+    ):
         return None
     price, interest, value = (cents_of(row[name]) for name in ("price", "interest", "value"))
     return row if price is not None and interest is not None and price + interest == value else None
@@ -104,7 +146,13 @@ def reply_in(path: str, fields: Json, text: str) -> Optional[Json]:
     if path == "/redeem":
         ticket = ticket_in(text)
         asked = (fields["day"], fields["payee"], fields["serials"])
-        return ticket if ticket is not None and (ticket["day"], ticket["payee"], [line["serial"] for line in ticket["lines"]]) == asked else None
+        return (
+            ticket
+            if ticket is not None
+            and (ticket["day"], ticket["payee"], [line["serial"] for line in ticket["lines"]])
+            == asked
+            else None
+        )
     if path == "/day/close":
         return with_its(batch_in(text), day=fields["day"])
     if path == "/day/open":
@@ -134,9 +182,17 @@ def foreign(status: int, text: str) -> Answer:
         return Answer("none", met="too many requests (status 429)")
     met = f"an answer of status {status} that isn't the counter's"
     if status in (401, 407):
-        return Answer("none", met=met, setup=SignInRefused(f"the user and the password aren't accepted (status {status})"))
+        return Answer(
+            "none",
+            met=met,
+            setup=SignInRefused(f"the user and the password aren't accepted (status {status})"),
+        )
     if status in GATEWAY:
-        return Answer("none", met=met, setup=NotReady(f"a proxy answers, and the counter behind it doesn't (status {status})"))
+        return Answer(
+            "none",
+            met=met,
+            setup=NotReady(f"a proxy answers, and the counter behind it doesn't (status {status})"),
+        )
     begins = " ".join(text[: 4 * QUOTED].split())[:QUOTED]
     return Answer("none", met=met, setup=ForeignAnswer(status, f"{met}: {begins!r}"))
 
@@ -154,9 +210,13 @@ def answer_of(status: int, text: str, read: Reader) -> Answer:
         value = exactly(text, ("code", "unserved"))
         kind = "unserved"
     else:
-        value = exactly(text, ("code", "fault", "field")) if status in (400, 404, 405, 413) else None
+        value = (
+            exactly(text, ("code", "fault", "field")) if status in (400, 404, 405, 413) else None
+        )
         kind = "fault"
-    is_named = kind == "reply" or (value is not None and type(value.get("code")) is int and type(value.get(kind)) is str)
+    is_named = kind == "reply" or (
+        value is not None and type(value.get("code")) is int and type(value.get(kind)) is str
+    )
     if value is None or not is_named or (kind == "refused" and not is_known_shape(value)):
         return foreign(status, text)
     return Answer(kind, value, shown(value["unserved"]) if kind == "unserved" else "")
@@ -169,7 +229,9 @@ def is_good(answer: Answer) -> bool:
 
 def is_of_one_sending(answer: Answer) -> bool:
     """Whether it answers one sending alone, and would be the same for the next one."""
-    return answer.kind == "forbidden" or (answer.kind == "fault" and answer.value["code"] not in DAMAGED)
+    return answer.kind == "forbidden" or (
+        answer.kind == "fault" and answer.value["code"] not in DAMAGED
+    )
 
 
 def error_of(answer: Answer, path: str) -> CounterError:

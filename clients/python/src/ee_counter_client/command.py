@@ -8,7 +8,17 @@ from typing import Callable, Optional, Sequence, Tuple, Union
 
 from .answers import compact
 from .counter import Counter
-from .errors import BadCall, BadValue, CounterError, Fault, Forbidden, Implausible, Incomplete, Refused, printable
+from .errors import (
+    BadCall,
+    BadValue,
+    CounterError,
+    Fault,
+    Forbidden,
+    Implausible,
+    Incomplete,
+    Refused,
+    printable,
+)
 from .files import rates_in, register
 from .interest import bonds_known, interest_of_day, interest_of_payee, interest_of_ticket
 from .lookups import ADDRESS, PATIENCE, Lookups
@@ -45,7 +55,12 @@ def run_register(counter: Counter, words: argparse.Namespace) -> int:
         nonlocal told_at
         if is_seen or told_at < 0 or done >= told_at + PROGRESS or done == of:
             told_at = done
-            print(f"{done:,} of {of:,} bonds", end="\r" if is_seen and done < of else "\n", file=sys.stderr, flush=True)
+            print(
+                f"{done:,} of {of:,} bonds",
+                end="\r" if is_seen and done < of else "\n",
+                file=sys.stderr,
+                flush=True,
+            )
 
     print(compact(register(counter, words.file, told, even_so=words.even_so)._asdict()), flush=True)
     return 0
@@ -63,7 +78,10 @@ def run_interest(ask: Callable[[], Interest]) -> int:
         found = ask()
     except Incomplete as lack:
         print(lack.interest.text, end="", flush=True)
-        print("\n".join(f"missing: {printable(sentence)}" for sentence in lack.missing), file=sys.stderr)
+        print(
+            "\n".join(f"missing: {printable(sentence)}" for sentence in lack.missing),
+            file=sys.stderr,
+        )
         return 1
     print(found.text, end="", flush=True)
     return 0
@@ -83,27 +101,101 @@ Run = Callable[[Counter, argparse.Namespace], int]
 LookUp = Callable[[Lookups, argparse.Namespace], int]
 #: Commands that need a journal: their names, what they do, and their arguments.
 ACTS: Tuple[Tuple[str, str, Tuple[str, ...], Run], ...] = (
-    ("rates", "enters the rates of a CSV file", ("rates file",), lambda counter, words: printed(counter.add_rates(rates_in(words.file)))),
-    ("register", "registers the bonds of a CSV file in requests of 500; run it again after a stop", ("bonds file",), run_register),
-    ("open", "opens a day", ("day",), lambda counter, words: printed(counter.open_day(words.day, key=words.key, even_so=words.even_so))),
-    ("redeem", "pays bonds to their owner or coowner", ("day", "payee", "serials"), lambda counter, words: printed(counter.redeem(words.day, words.payee, words.serials, key=words.key))),
-    ("close", "closes a day, and prints its batch", ("day",), lambda counter, words: printed(counter.close_day(words.day, key=words.key))),
-    ("finish", "sends the open request until its reply has come", (), lambda counter, words: looked_up(counter.finish(), "no request is open")),
-    ("abandon", "gives up the open request, which may have been done, and writes down why", ("reason",), run_abandon),
+    (
+        "rates",
+        "enters the rates of a CSV file",
+        ("rates file",),
+        lambda counter, words: printed(counter.add_rates(rates_in(words.file))),
+    ),
+    (
+        "register",
+        "registers the bonds of a CSV file in requests of 500; run it again after a stop",
+        ("bonds file",),
+        run_register,
+    ),
+    (
+        "open",
+        "opens a day",
+        ("day",),
+        lambda counter, words: printed(
+            counter.open_day(words.day, key=words.key, even_so=words.even_so)
+        ),
+    ),
+    (
+        "redeem",
+        "pays bonds to their owner or coowner",
+        ("day", "payee", "serials"),
+        lambda counter, words: printed(
+            counter.redeem(words.day, words.payee, words.serials, key=words.key)
+        ),
+    ),
+    (
+        "close",
+        "closes a day, and prints its batch",
+        ("day",),
+        lambda counter, words: printed(counter.close_day(words.day, key=words.key)),
+    ),
+    (
+        "finish",
+        "sends the open request until its reply has come",
+        (),
+        lambda counter, words: looked_up(counter.finish(), "no request is open"),
+    ),
+    (
+        "abandon",
+        "gives up the open request, which may have been done, and writes down why",
+        ("reason",),
+        run_abandon,
+    ),
 )
 #: Commands that look something up. With a journal they wait for its lock, as acts do.
 LOOK_UPS: Tuple[Tuple[str, str, Tuple[str, ...], LookUp], ...] = (
     ("sheet", "prints the unpaid bonds that a customer owns", ("customer", "month"), run_sheet),
-    ("ticket", "prints a ticket", ("number",), lambda counter, words: looked_up(counter.ticket(words.number), "there is no such ticket")),
-    ("batch", "prints the batch of a closed day", ("day",), lambda counter, words: looked_up(counter.batch(words.day), "the day has no batch: it isn't closed")),
-    ("value", "prints the row of a bond that isn't registered", ("denom", "issued", "month"), lambda counter, words: printed(counter.value(words.denom, words.issued, words.month))),
-    ("interest-ticket", "prints the interest of a ticket as CSV", ("number", "sources"), lambda counter, words: run_interest(lambda: interest_of_ticket(counter, words.number, bonds_known(*words.sources)))),
-    ("interest-day", "prints the interest of a closed day as CSV", ("day", "sources"), lambda counter, words: run_interest(lambda: interest_of_day(counter, words.day, bonds_known(*words.sources)))),
+    (
+        "ticket",
+        "prints a ticket",
+        ("number",),
+        lambda counter, words: looked_up(counter.ticket(words.number), "there is no such ticket"),
+    ),
+    (
+        "batch",
+        "prints the batch of a closed day",
+        ("day",),
+        lambda counter, words: looked_up(
+            counter.batch(words.day), "the day has no batch: it isn't closed"
+        ),
+    ),
+    (
+        "value",
+        "prints the row of a bond that isn't registered",
+        ("denom", "issued", "month"),
+        lambda counter, words: printed(counter.value(words.denom, words.issued, words.month)),
+    ),
+    (
+        "interest-ticket",
+        "prints the interest of a ticket as CSV",
+        ("number", "sources"),
+        lambda counter, words: run_interest(
+            lambda: interest_of_ticket(counter, words.number, bonds_known(*words.sources))
+        ),
+    ),
+    (
+        "interest-day",
+        "prints the interest of a closed day as CSV",
+        ("day", "sources"),
+        lambda counter, words: run_interest(
+            lambda: interest_of_day(counter, words.day, bonds_known(*words.sources))
+        ),
+    ),
     (
         "interest-payee",
         "prints the interest of what a customer was paid in a span of days as CSV",
         ("customer", "first", "last", "sources"),
-        lambda counter, words: run_interest(lambda: interest_of_payee(counter, words.customer, words.first, words.last, bonds_known(*words.sources))),
+        lambda counter, words: run_interest(
+            lambda: interest_of_payee(
+                counter, words.customer, words.first, words.last, bonds_known(*words.sources)
+            )
+        ),
     ),
 )
 NEED_JOURNAL = tuple(name for name, _, _, _ in ACTS)
@@ -118,8 +210,14 @@ QUESTIONED = {
 SEVERAL = ("serials", "sources")
 #: What every argument is, with an example.
 ARGUMENTS = {
-    "rates file": ("a CSV file with the columns from,rate or from,rate,extension, rates in percent", "samples/rates.csv"),
-    "bonds file": ("a CSV file with the columns serial,denom,issued,owner,coowner", "samples/inventory.csv"),
+    "rates file": (
+        "a CSV file with the columns from,rate or from,rate,extension, rates in percent",
+        "samples/rates.csv",
+    ),
+    "bonds file": (
+        "a CSV file with the columns serial,denom,issued,owner,coowner",
+        "samples/inventory.csv",
+    ),
     "day": ("the business day, YYYY-MM-DD", "2012-02-06"),
     "payee": ("the number of the customer who is paid, owner or coowner of every bond", "7"),
     "serials": ("the serial numbers of the bonds, 1 to 100", "L1EE K2EE"),
@@ -131,7 +229,10 @@ ARGUMENTS = {
     "issued": ("the issue month, YYYY-MM", "2010-11"),
     "first": ("the first day of the span, YYYY-MM-DD", "2012-01-01"),
     "last": ("its last day", "2012-12-31"),
-    "sources": ("files that say what every bond is: inventories, archives of a desk, folders of a store's archive", "samples/inventory.csv"),
+    "sources": (
+        "files that say what every bond is: inventories, archives of a desk, folders of a store's archive",
+        "samples/inventory.csv",
+    ),
 }
 STATUSES = """statuses:
   0  done
@@ -143,23 +244,60 @@ STATUSES = """statuses:
 def words_of(line: Optional[Sequence[str]]) -> argparse.Namespace:
     """Reads a command line."""
     example = "example:\n  %(prog)s --journal desk3.journal --desk 3 open 2012-02-06\n  %(prog)s ticket 1\n\n"
-    parser = parser_of(argparse.ArgumentParser, "Sends requests to the counter. Each gets its one reply, which is printed as the counter gave it.", example)
+    parser = parser_of(
+        argparse.ArgumentParser,
+        "Sends requests to the counter. Each gets its one reply, which is printed as the counter gave it.",
+        example,
+    )
     parser.add_argument("--version", action="version", version=f"ee_counter_client {__version__}")
-    parser.add_argument("--journal", metavar="FILE", help="the file with the numbers of a desk, which look-ups don't need; with --desk it is created if it doesn't exist")
-    parser.add_argument("--desk", type=int, metavar="NUMBER", help="the desk of a new journal, 0 to 999")
-    parser.add_argument("--at", default=ADDRESS, metavar="ADDRESS", help="the counter's address (%(default)s)")
+    parser.add_argument(
+        "--journal",
+        metavar="FILE",
+        help="the file with the numbers of a desk, which look-ups don't need; with --desk it is created if it doesn't exist",
+    )
+    parser.add_argument(
+        "--desk", type=int, metavar="NUMBER", help="the desk of a new journal, 0 to 999"
+    )
+    parser.add_argument(
+        "--at", default=ADDRESS, metavar="ADDRESS", help="the counter's address (%(default)s)"
+    )
     parser.add_argument("--user", help="the user, if a proxy asks for a password")
-    parser.add_argument("--password-file", metavar="FILE", help="a file whose first line is the password")
-    parser.add_argument("--certificate", metavar="FILE", help="a file with the certificate to trust, instead of the system's")
-    parser.add_argument("--archive", metavar="FILE", help="a file that gets every request before it is sent, and every reply; it is created if it doesn't exist")
-    parser.add_argument("--patience", type=float, default=PATIENCE, metavar="SECONDS", help="seconds until a request is left open without a reply (%(default)g)")
+    parser.add_argument(
+        "--password-file", metavar="FILE", help="a file whose first line is the password"
+    )
+    parser.add_argument(
+        "--certificate",
+        metavar="FILE",
+        help="a file with the certificate to trust, instead of the system's",
+    )
+    parser.add_argument(
+        "--archive",
+        metavar="FILE",
+        help="a file that gets every request before it is sent, and every reply; it is created if it doesn't exist",
+    )
+    parser.add_argument(
+        "--patience",
+        type=float,
+        default=PATIENCE,
+        metavar="SECONDS",
+        help="seconds until a request is left open without a reply (%(default)g)",
+    )
     commands = parser.add_subparsers(dest="command", required=True, metavar="COMMAND")
     for name, does, arguments, _ in (*ACTS, *LOOK_UPS):
         journal = " --journal desk3.journal" if name in NEED_JOURNAL else ""
         shown = " ".join(ARGUMENTS[argument][1] for argument in arguments)
-        command = parser_of(commands.add_parser, does, f"example:\n  {parser.prog}{journal} {name} {shown}".rstrip() + "\n\n", name=name, help=does)
+        command = parser_of(
+            commands.add_parser,
+            does,
+            f"example:\n  {parser.prog}{journal} {name} {shown}".rstrip() + "\n\n",
+            name=name,
+            help=does,
+        )
         if name in KEYED:
-            command.add_argument("--key", help="a name of your own for the request: the same command again prints the same reply, and sends nothing")
+            command.add_argument(
+                "--key",
+                help="a name of your own for the request: the same command again prints the same reply, and sends nothing",
+            )
         if name in QUESTIONED:
             command.add_argument("--even-so", action="store_true", help=QUESTIONED[name])
         for argument in arguments:
@@ -174,9 +312,16 @@ def words_of(line: Optional[Sequence[str]]) -> argparse.Namespace:
     return words
 
 
-def parser_of(make: Callable[..., argparse.ArgumentParser], does: str, example: str, **more: str) -> argparse.ArgumentParser:
+def parser_of(
+    make: Callable[..., argparse.ArgumentParser], does: str, example: str, **more: str
+) -> argparse.ArgumentParser:
     """A parser whose help ends with an example and the statuses."""
-    return make(description=does, epilog=example + STATUSES, formatter_class=argparse.RawDescriptionHelpFormatter, **more)
+    return make(
+        description=does,
+        epilog=example + STATUSES,
+        formatter_class=argparse.RawDescriptionHelpFormatter,
+        **more,
+    )
 
 
 def password_of(words: argparse.Namespace) -> Optional[str]:
@@ -194,10 +339,23 @@ def run(words: argparse.Namespace) -> int:
     """Runs a command."""
     user, password, certificate = words.user, password_of(words), words.certificate
     if words.journal is None:
-        lookups = Lookups(words.at, user=user, password=password, certificate=certificate, patience=words.patience)
+        lookups = Lookups(
+            words.at, user=user, password=password, certificate=certificate, patience=words.patience
+        )
         return next(run for name, _, _, run in LOOK_UPS if name == words.command)(lookups, words)
-    with Counter(words.journal, words.at, desk=words.desk, user=user, password=password, certificate=certificate, patience=words.patience, archive=words.archive) as counter:
-        return next(run for name, _, _, run in (*ACTS, *LOOK_UPS) if name == words.command)(counter, words)
+    with Counter(
+        words.journal,
+        words.at,
+        desk=words.desk,
+        user=user,
+        password=password,
+        certificate=certificate,
+        patience=words.patience,
+        archive=words.archive,
+    ) as counter:
+        return next(run for name, _, _, run in (*ACTS, *LOOK_UPS) if name == words.command)(
+            counter, words
+        )
 
 
 def status_of(error: CounterError) -> int:
@@ -219,7 +377,13 @@ def main(line: Optional[Sequence[str]] = None) -> int:
         return 1
     except Implausible as doubt:
         more = len(doubt.doubts) - MOST_LINES
-        print(*map(printable, doubt.doubts[:MOST_LINES]), *([f"and {more:,} more"] if more > 0 else []), "nothing was sent; with --even-so it is", sep="\n", file=sys.stderr)
+        print(
+            *map(printable, doubt.doubts[:MOST_LINES]),
+            *([f"and {more:,} more"] if more > 0 else []),
+            "nothing was sent; with --even-so it is",
+            sep="\n",
+            file=sys.stderr,
+        )
         return 2
     except CounterError as error:
         print(error, file=sys.stderr)
@@ -228,5 +392,8 @@ def main(line: Optional[Sequence[str]] = None) -> int:
         print(printable(str(failure)), file=sys.stderr)
         return 3
     except KeyboardInterrupt:
-        print("stopped; an open request is kept, and sent again by the same command or by finish", file=sys.stderr)
+        print(
+            "stopped; an open request is kept, and sent again by the same command or by finish",
+            file=sys.stderr,
+        )
         return 3

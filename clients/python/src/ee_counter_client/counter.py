@@ -11,14 +11,56 @@ import time
 from types import TracebackType
 from typing import Any, Iterator, Mapping, Optional, Tuple, Type, TypeVar, Union
 
-from .answers import NUMBER_REUSED, Answer, batch_in, error_of, is_good, is_of_one_sending, reply_in, ticket_in, with_its
+from .answers import (
+    NUMBER_REUSED,
+    Answer,
+    batch_in,
+    error_of,
+    is_good,
+    is_of_one_sending,
+    reply_in,
+    ticket_in,
+    with_its,
+)
 from .archive import Archive
-from .errors import BadValue, Busy, Closed, CounterError, Fault, FileFailed, Forbidden, Implausible, KeyReused, Refused, SignInRefused, StillOpen, printable
+from .errors import (
+    BadValue,
+    Busy,
+    Closed,
+    CounterError,
+    Fault,
+    FileFailed,
+    Forbidden,
+    Implausible,
+    KeyReused,
+    Refused,
+    SignInRefused,
+    StillOpen,
+    printable,
+)
 from .journal import Journal
 from .lookups import ADDRESS, PATIENCE, TIME_LIMIT, Lookups, Path, Trials, path_of
 from .plausible import MOST_DAYS, days_before, doubts_of_bond, doubts_of_day, question
 from .results import Abandoned, Added, Batch, Finished, Opened, Request, Result, Ticket, result_of
-from .spelling import MOST_BOOKMARK, MOST_NUMBER, MOST_ROWS, MOST_SERIALS, Bond, DayLike, Json, ListOf, Rates, bond_of, customer_of, day_of, key_of, list_of, rate_row_of, serial_of, whole
+from .spelling import (
+    MOST_BOOKMARK,
+    MOST_NUMBER,
+    MOST_ROWS,
+    MOST_SERIALS,
+    Bond,
+    DayLike,
+    Json,
+    ListOf,
+    Rates,
+    bond_of,
+    customer_of,
+    day_of,
+    key_of,
+    list_of,
+    rate_row_of,
+    serial_of,
+    whole,
+)
 from .way import Deadline
 
 LOG = logging.getLogger("ee_counter_client")
@@ -63,8 +105,17 @@ class Counter(Lookups):
         time_limit: float = TIME_LIMIT,
         archive: Optional[Path] = None,
     ) -> None:
-        super().__init__(address, user=user, password=password, certificate=certificate, patience=patience, time_limit=time_limit)
-        paths = path_of(journal, "a journal"), None if archive is None else path_of(archive, "an archive")
+        super().__init__(
+            address,
+            user=user,
+            password=password,
+            certificate=certificate,
+            patience=patience,
+            time_limit=time_limit,
+        )
+        paths = path_of(journal, "a journal"), None if archive is None else path_of(
+            archive, "an archive"
+        )
         self._journal = Journal(paths[0], None if desk is None else whole(desk, 0, 999, "a desk"))
         try:
             self._archive = None if paths[1] is None else Archive(paths[1])
@@ -78,7 +129,12 @@ class Counter(Lookups):
     def __enter__(self) -> "Counter":
         return self
 
-    def __exit__(self, kind: Optional[Type[BaseException]], error: Optional[BaseException], trace: Optional[TracebackType]) -> None:
+    def __exit__(
+        self,
+        kind: Optional[Type[BaseException]],
+        error: Optional[BaseException],
+        trace: Optional[TracebackType],
+    ) -> None:
         self.close()
 
     def __repr__(self) -> str:
@@ -118,42 +174,94 @@ class Counter(Lookups):
     @property
     def abandoned(self) -> Tuple[Abandoned, ...]:
         """The requests that were given up, the earliest first."""
-        return tuple(abandoned_of(self._journal, kept) for kept in self._journal.record["abandoned"])
+        return tuple(
+            abandoned_of(self._journal, kept) for kept in self._journal.record["abandoned"]
+        )
 
     def find(self, key: str) -> Optional[Finished]:
         """Returns the request of a key, with its reply. None if no request with this key was done."""
         kept = self._journal.keys.kept.get(str(key_of(key)))
-        return None if kept is None else Finished(Request(self.desk, kept.number, kept.path, kept.fields, 0, key), kept.reply)
+        return (
+            None
+            if kept is None
+            else Finished(
+                Request(self.desk, kept.number, kept.path, kept.fields, 0, key), kept.reply
+            )
+        )
 
     # Acts. Each returns the counter's reply, or raises Refused, Fault, Forbidden or NoReply, or an error of the set-up.
 
-    def add_rates(self, rates: ListOf[Union[Rates, Mapping[str, Any]]], *, bookmark: Any = None, key: Optional[str] = None) -> Added:
+    def add_rates(
+        self,
+        rates: ListOf[Union[Rates, Mapping[str, Any]]],
+        *,
+        bookmark: Any = None,
+        key: Optional[str] = None,
+    ) -> Added:
         """Enters up to 500 rows of rates: Rates, or mappings with the keys `from`, `rate` and perhaps `extension`. Rates are in percent."""
-        return self._act("/rates", {"rates": [rate_row_of(row) for row in list_of(rates, MOST_ROWS, "rates")]}, bookmark, key, Added)
+        return self._act(
+            "/rates",
+            {"rates": [rate_row_of(row) for row in list_of(rates, MOST_ROWS, "rates")]},
+            bookmark,
+            key,
+            Added,
+        )
 
-    def add_bonds(self, bonds: ListOf[Union[Bond, Mapping[str, Any]]], *, bookmark: Any = None, key: Optional[str] = None, even_so: bool = False) -> Added:
+    def add_bonds(
+        self,
+        bonds: ListOf[Union[Bond, Mapping[str, Any]]],
+        *,
+        bookmark: Any = None,
+        key: Optional[str] = None,
+        even_so: bool = False,
+    ) -> Added:
         """Registers up to 500 bonds: Bond, or mappings with the keys `serial`, `denom` (dollars), `issued`, `owner` and perhaps `coowner`.
 
-        Raises Implausible for a letter that doesn't fit the denomination, or an issue month after 2011-12, unless `even_so`."""
+        Raises Implausible for a letter that doesn't fit the denomination, or an issue month after 2011-12, unless `even_so`.
+        """
         fields = {"bonds": [bond_of(bond) for bond in list_of(bonds, MOST_ROWS, "bonds")]}
         return self._act("/bonds", fields, bookmark, key, Added, is_questioned=not even_so)
 
-    def open_day(self, day: DayLike, *, bookmark: Any = None, key: Optional[str] = None, even_so: bool = False) -> Opened:
+    def open_day(
+        self,
+        day: DayLike,
+        *,
+        bookmark: Any = None,
+        key: Optional[str] = None,
+        even_so: bool = False,
+    ) -> Opened:
         """Opens a day. Refused as DayOpen or DayNotLater.
 
-        Raises Implausible if the day is more than seven days from today, or after the last one that was opened, unless `even_so`."""
-        return self._act("/day/open", {"day": day_of(day)}, bookmark, key, Opened, is_questioned=not even_so)
+        Raises Implausible if the day is more than seven days from today, or after the last one that was opened, unless `even_so`.
+        """
+        return self._act(
+            "/day/open", {"day": day_of(day)}, bookmark, key, Opened, is_questioned=not even_so
+        )
 
     def close_day(self, day: DayLike, *, bookmark: Any = None, key: Optional[str] = None) -> Batch:
         """Closes the open day, and returns its batch. Refused as NoOpenDay or DayIsOther."""
         return self._act("/day/close", {"day": day_of(day)}, bookmark, key, Batch)
 
-    def redeem(self, day: DayLike, payee: int, serials: ListOf[str], *, bookmark: Any = None, key: Optional[str] = None) -> Ticket:
+    def redeem(
+        self,
+        day: DayLike,
+        payee: int,
+        serials: ListOf[str],
+        *,
+        bookmark: Any = None,
+        key: Optional[str] = None,
+    ) -> Ticket:
         """Pays up to 100 bonds to their owner or coowner on the open day: all of them, or none.
 
         With a `key` of the caller's own, the same call made again returns the same ticket, also in a later run. A refusal leaves the key free. Refused as AlreadyPaid (with its ticket), NotPayee,
         UnknownSerial, NotEligible, NotIssued, Repeated, NoOpenDay, DayIsOther or DayFull."""
-        fields = {"day": day_of(day), "payee": customer_of(payee), "serials": [serial_of(serial) for serial in list_of(serials, MOST_SERIALS, "serial numbers")]}
+        fields = {
+            "day": day_of(day),
+            "payee": customer_of(payee),
+            "serials": [
+                serial_of(serial) for serial in list_of(serials, MOST_SERIALS, "serial numbers")
+            ],
+        }
         return self._act("/redeem", fields, bookmark, key, Ticket)
 
     def finish(self) -> Optional[Result]:
@@ -168,7 +276,8 @@ class Counter(Lookups):
     def abandon(self, reason: str) -> Optional[Abandoned]:
         """Gives up the open request, and writes that into the journal with the reason. None if no request is open.
 
-        The request may have been done, or may yet be done by a copy that is on its way: `outcome` says what to look at. Its number isn't used again."""
+        The request may have been done, or may yet be done by a copy that is on its way: `outcome` says what to look at. Its number isn't used again.
+        """
         if not isinstance(reason, str) or not 1 <= len(reason) <= 500:
             raise BadValue("a reason is a text of 1 to 500 characters")
         with self._turn():
@@ -180,7 +289,9 @@ class Counter(Lookups):
             kept = {**still, "reason": reason, "time": now}
             self._journal.change(open=None, abandoned=[*self._journal.record["abandoned"], kept])
             given_up = abandoned_of(self._journal, kept)
-            LOG.warning("%s was given up (%s): %s", given_up.request, printable(reason), given_up.outcome)
+            LOG.warning(
+                "%s was given up (%s): %s", given_up.request, printable(reason), given_up.outcome
+            )
             return given_up
 
     # The rules.
@@ -192,7 +303,9 @@ class Counter(Lookups):
         self._test_is_open()
         left = deadline.left()
         if not self._lock.acquire(timeout=-1 if left is None else left):
-            raise Busy(f"another thread used desk {self.desk} for {self.patience:g} seconds, and the patience is over")
+            raise Busy(
+                f"another thread used desk {self.desk} for {self.patience:g} seconds, and the patience is over"
+            )
         try:
             self._test_is_open()
             yield deadline
@@ -205,10 +318,19 @@ class Counter(Lookups):
         if self._is_closed:
             raise Closed("the counter was closed")
         if os.getpid() != self._process:
-            raise Closed(f"the counter belongs to process {self._process}, and not to the one that was forked from it: open one of its own, on another journal")
+            raise Closed(
+                f"the counter belongs to process {self._process}, and not to the one that was forked from it: open one of its own, on another journal"
+            )
 
     def _act(
-        self, path: str, fields: Json, bookmark: Any, key: Optional[str], kind: Type[Kind], final: Tuple[Type[CounterError], ...] = (), is_questioned: bool = False
+        self,
+        path: str,
+        fields: Json,
+        bookmark: Any,
+        key: Optional[str],
+        kind: Type[Kind],
+        final: Tuple[Type[CounterError], ...] = (),
+        is_questioned: bool = False,
     ) -> Kind:
         """Sends a new request, or the same one that is still open, until its reply has come. An error of the set-up that is `final` ends it whenever it comes. A new
         request that `is_questioned` has to be plausible."""
@@ -232,9 +354,16 @@ class Counter(Lookups):
     def _question_gap(self, day: str, deadline: Deadline) -> None:
         """Raises Implausible if none of the seven days before was closed, and the counter has a ticket: its last day is longer ago. No look-up names the last day."""
         try:
-            is_near = any(self._asked_within(deadline, f"/batch/{before}", batch_in) for before in days_before(day))
+            is_near = any(
+                self._asked_within(deadline, f"/batch/{before}", batch_in)
+                for before in days_before(day)
+            )
             if not is_near and self._asked_within(deadline, "/ticket/1", ticket_in) is not None:
-                raise Implausible([f"{day} is more than {MOST_DAYS} days after the last day that was opened: none of the {MOST_DAYS} days before it has a batch"])
+                raise Implausible(
+                    [
+                        f"{day} is more than {MOST_DAYS} days after the last day that was opened: none of the {MOST_DAYS} days before it has a batch"
+                    ]
+                )
         except SignInRefused:
             self._signed_out = time.monotonic()
             raise
@@ -246,14 +375,22 @@ class Counter(Lookups):
             return None
         if (kept.path, kept.fields) != (path, fields):
             raise KeyReused(key, kept.number)
-        return result_of(Request(self.desk, kept.number, kept.path, kept.fields, 0, key), kept.reply)
+        return result_of(
+            Request(self.desk, kept.number, kept.path, kept.fields, 0, key), kept.reply
+        )
 
     def _is_open(self, path: str, fields: Json, key: Optional[str]) -> bool:
         """Whether the open request is this one."""
         still = self._journal.record["open"]
-        return still is not None and (still["path"], still["fields"], still.get("key")) == (path, fields, key)
+        return still is not None and (still["path"], still["fields"], still.get("key")) == (
+            path,
+            fields,
+            key,
+        )
 
-    def _finish_other(self, path: str, fields: Json, key: Optional[str], deadline: Deadline) -> None:
+    def _finish_other(
+        self, path: str, fields: Json, key: Optional[str], deadline: Deadline
+    ) -> None:
         """Finishes another open request that has a key, as an earlier run left it: its own call then finds its reply. StillOpen if it has none."""
         still = self._journal.record["open"]
         if still is None or self._is_open(path, fields, key):
@@ -276,14 +413,27 @@ class Counter(Lookups):
             number = self._journal.record["next"]
             if number > MOST_NUMBER:
                 raise CounterError(f"desk {self.desk} has no numbers left")
-            self._journal.change(next=number + 1, open={"number": number, "step": 1, "sent": 0, "path": path, "fields": fields, "bookmark": bookmark, "key": key})
+            self._journal.change(
+                next=number + 1,
+                open={
+                    "number": number,
+                    "step": 1,
+                    "sent": 0,
+                    "path": path,
+                    "fields": fields,
+                    "bookmark": bookmark,
+                    "key": key,
+                },
+            )
 
     def _try_the_way(self, deadline: Deadline) -> None:
         """Before the first good exchange: asks for something that changes nothing. A wrong set-up ends the call before its request is in the journal. A counter that
         doesn't answer doesn't: the request is sent as often as the patience allows."""
         self._wait_signed_out(Trials(deadline))
         if not self._is_known:
-            answer = self._exchanged("GET", TRIAL, None, lambda text: with_its(batch_in(text), day=TRIAL[-10:]), deadline)
+            answer = self._exchanged(
+                "GET", TRIAL, None, lambda text: with_its(batch_in(text), day=TRIAL[-10:]), deadline
+            )
             if answer.setup is not None:
                 raise self._as_open(answer.setup)
             if not is_good(answer):
@@ -301,12 +451,15 @@ class Counter(Lookups):
 
     def _settled(self, deadline: Deadline, final: Tuple[Type[CounterError], ...] = ()) -> Result:
         """Sends what is open until its reply has come. NumberReused means that another request of this desk has the number: this one was never done under it,
-        and continues under a higher one. A fault, or Forbidden, ends only a request that was sent once."""
+        and continues under a higher one. A fault, or Forbidden, ends only a request that was sent once.
+        """
         trials = Trials(deadline)
         while True:
             self._wait_signed_out(trials)
             answer = self._sent_once(deadline)
-            if answer.kind == "reply" or (answer.kind == "refused" and answer.value["code"] != NUMBER_REUSED):
+            if answer.kind == "reply" or (
+                answer.kind == "refused" and answer.value["code"] != NUMBER_REUSED
+            ):
                 return self._replied(answer)
             if answer.kind == "refused":
                 self._renumber()
@@ -319,16 +472,27 @@ class Counter(Lookups):
                 raise self._as_open(answer.setup)
             self._signed_out = time.monotonic() if isinstance(answer.setup, SignInRefused) else None
             trials.failed(answer)
-            LOG.warning("no reply: %s%s", trials.met, "; the request was sent before, and may have been done" if is_of_one_sending(answer) else "")
+            LOG.warning(
+                "no reply: %s%s",
+                trials.met,
+                "; the request was sent before, and may have been done"
+                if is_of_one_sending(answer)
+                else "",
+            )
             if not trials.pause():
                 raise trials.over(self.open_request)
 
     def _wait_signed_out(self, trials: Trials) -> None:
         """Waits after a password that wasn't accepted, also in the next call, so that no proxy locks the address out."""
-        rest = 0.0 if self._signed_out is None else self._signed_out + SIGN_IN_PAUSE - time.monotonic()
+        rest = (
+            0.0 if self._signed_out is None else self._signed_out + SIGN_IN_PAUSE - time.monotonic()
+        )
         if rest > 0:
             trials.met = trials.met or "the user and the password weren't accepted"
-            LOG.warning("the user and the password weren't accepted; the request is sent again in %.0f seconds", rest)
+            LOG.warning(
+                "the user and the password weren't accepted; the request is sent again in %.0f seconds",
+                rest,
+            )
             if not trials.wait(rest):
                 raise trials.over(self.open_request)
 
@@ -338,23 +502,45 @@ class Counter(Lookups):
         sending = {**self._journal.record["open"], "sent": self._journal.record["open"]["sent"] + 1}
         self._journal.change(open=sending)
         path, fields = sending["path"], sending["fields"]
-        LOG.debug("sending request %d of desk %d (%s), for the %d. time", sending["number"], self.desk, path, sending["sent"])
-        return self._exchanged("POST", path, {"desk": self.desk, "number": sending["number"], **fields}, lambda text: reply_in(path, fields, text), deadline)
+        LOG.debug(
+            "sending request %d of desk %d (%s), for the %d. time",
+            sending["number"],
+            self.desk,
+            path,
+            sending["sent"],
+        )
+        return self._exchanged(
+            "POST",
+            path,
+            {"desk": self.desk, "number": sending["number"], **fields},
+            lambda text: reply_in(path, fields, text),
+            deadline,
+        )
 
     def _renumber(self) -> None:
         request = self._journal.record["open"]
         number = request["number"] + request["step"]
         if number > MOST_NUMBER:
             raise CounterError(f"desk {self.desk} has no numbers left")
-        self._journal.change(next=number + 1, open={**request, "number": number, "step": request["step"] * 2, "sent": 0})
-        LOG.warning("number %d was used by another request of desk %d; continuing with %d", request["number"], self.desk, number)
+        self._journal.change(
+            next=number + 1,
+            open={**request, "number": number, "step": request["step"] * 2, "sent": 0},
+        )
+        LOG.warning(
+            "number %d was used by another request of desk %d; continuing with %d",
+            request["number"],
+            self.desk,
+            number,
+        )
 
     def _replied(self, answer: Answer) -> Result:
         """Keeps the reply, and unless it is a refusal the bookmark, in one step. The line of a key is on the disk before. A refusal changed nothing, so its key is free."""
         request = self._journal.record["open"]
         if request["sent"] > 1:
             done = "it was done once" if answer.kind == "reply" else "no attempt changed anything"
-            LOG.warning("request %d was sent %d times; %s", request["number"], request["sent"], done)
+            LOG.warning(
+                "request %d was sent %d times; %s", request["number"], request["sent"], done
+            )
         if self._archive is not None:
             self._archive.add(self.desk, request, answer.value)
         if answer.kind == "reply" and request.get("key") is not None:
@@ -386,4 +572,10 @@ def abandoned_of(journal: Journal, kept: Json) -> Abandoned:
     """The request that was given up, of the journal's record of it."""
     may_be_done = kept["sent"] > 0
     outcome = OUTCOMES[kept["path"]] if may_be_done else "the request was never sent"
-    return Abandoned(journal.request_of(kept), kept["reason"], datetime.datetime.fromisoformat(kept["time"]), may_be_done, outcome)
+    return Abandoned(
+        journal.request_of(kept),
+        kept["reason"],
+        datetime.datetime.fromisoformat(kept["time"]),
+        may_be_done,
+        outcome,
+    )

@@ -46,7 +46,9 @@ def unpickled(kind: Type[CounterError], args: Tuple[Any, ...]) -> CounterError:
 
 def printable(text: str) -> str:
     """A text as it may stand in a message or a log: control characters are escaped."""
-    return "".join(sign if sign.isprintable() else sign.encode("unicode_escape").decode() for sign in text)
+    return "".join(
+        sign if sign.isprintable() else sign.encode("unicode_escape").decode() for sign in text
+    )
 
 
 def shown(text: str) -> str:
@@ -56,7 +58,9 @@ def shown(text: str) -> str:
 
 def in_file(line: Optional[int], rows: Optional[Tuple[int, int]]) -> str:
     """Says where in a file it is: the line, and the rows that weren't registered with it."""
-    return (f", line {line} of the file" if line else "") + (f"; with it rows {rows[0]} to {rows[1]} of the file" if rows else "")
+    return (f", line {line} of the file" if line else "") + (
+        f"; with it rows {rows[0]} to {rows[1]} of the file" if rows else ""
+    )
 
 
 # ---- the program or its data must be corrected
@@ -108,7 +112,9 @@ class KeyReused(BadCall):
     """The key belongs to another request of this journal. Nothing was sent."""
 
     def __init__(self, key: str, number: int) -> None:
-        super().__init__(f"the key {key!r} belongs to request {number}, which asks for something else")
+        super().__init__(
+            f"the key {key!r} belongs to request {number}, which asks for something else"
+        )
         self.key, self.number = key, number
 
 
@@ -120,9 +126,17 @@ class Fault(BadCall):
     """The counter can't read the request, which was sent once. `code` is from 60 to 69, `name` its name, `field` the field that it names. `rows` is as in Refused."""
 
     def __init__(self, answer: Mapping[str, Any]) -> None:
-        self.answer, self.code, self.name, self.field = dict(answer), int(answer["code"]), str(answer["fault"]), answer.get("field")
+        self.answer, self.code, self.name, self.field = (
+            dict(answer),
+            int(answer["code"]),
+            str(answer["fault"]),
+            answer.get("field"),
+        )
         self.rows: Optional[Tuple[int, int]] = None
-        super().__init__(f"{shown(self.name)} (code {self.code})" + (f", field {shown(str(self.field))}" if self.field else ""))
+        super().__init__(
+            f"{shown(self.name)} (code {self.code})"
+            + (f", field {shown(str(self.field))}" if self.field else "")
+        )
 
     def __str__(self) -> str:
         return super().__str__() + in_file(None, self.rows)
@@ -230,7 +244,8 @@ class Refused(CounterError):
     """The counter refused the request, and nothing was changed. The refusal is the request's reply for good; a corrected request gets a new number.
 
     `code` is from 10 to 54, `name` its name, `details` what it names, `reply` the counter's own JSON object. If a file was being registered, `rows` has the first and
-    last row of the request, and `line` the line of the bond that the refusal names. A code that this version doesn't know is a plain Refused."""
+    last row of the request, and `line` the line of the bond that the refusal names. A code that this version doesn't know is a plain Refused.
+    """
 
     #: The keys of the reply beside its code and name, with their types.
     keys: Tuple[Tuple[str, Type[object]], ...] = ()
@@ -238,10 +253,15 @@ class Refused(CounterError):
     def __init__(self, reply: Mapping[str, Any], request: Optional["Request"] = None) -> None:
         self.reply: Dict[str, Any] = dict(reply)
         self.code, self.name, self.request = int(reply["code"]), str(reply["refused"]), request
-        self.details = {key: value for key, value in reply.items() if key not in ("code", "refused")}
+        self.details = {
+            key: value for key, value in reply.items() if key not in ("code", "refused")
+        }
         self.rows: Optional[Tuple[int, int]] = None
         self.line: Optional[int] = None
-        super().__init__(f"{shown(self.name)} (code {self.code})" + "".join(f", {key} {shown(str(value))}" for key, value in self.details.items()))
+        super().__init__(
+            f"{shown(self.name)} (code {self.code})"
+            + "".join(f", {key} {shown(str(value))}" for key, value in self.details.items())
+        )
 
     def __str__(self) -> str:
         return super().__str__() + in_file(self.line, self.rows)
@@ -398,4 +418,6 @@ def is_known_shape(reply: Mapping[str, Any]) -> bool:
     named = {key: value for key, value in reply.items() if key not in ("code", "refused")}
     if kind is NoRate and not named:
         return True
-    return list(named) == [key for key, _ in kind.keys] and all(type(named[key]) is form for key, form in kind.keys)
+    return list(named) == [key for key, _ in kind.keys] and all(
+        type(named[key]) is form for key, form in kind.keys
+    )

@@ -80,15 +80,26 @@ def digests(rows: Sequence[Json]) -> Iterator[str]:
 
 def place_in(marks: Sequence[str], bookmark: Any) -> int:
     """Counts the rows that were done before, if the file still begins with them."""
-    if not isinstance(bookmark, dict) or set(bookmark) != {"registered", "digest"} or bookmark["registered"] >= len(marks):
+    if (
+        not isinstance(bookmark, dict)
+        or set(bookmark) != {"registered", "digest"}
+        or bookmark["registered"] >= len(marks)
+    ):
         return 0
     return int(bookmark["registered"]) if marks[bookmark["registered"]] == bookmark["digest"] else 0
 
 
-def register(counter: Counter, path: Path, progress: Callable[[int, int], None] = lambda done, of: None, *, even_so: bool = False) -> Registered:
+def register(
+    counter: Counter,
+    path: Path,
+    progress: Callable[[int, int], None] = lambda done, of: None,
+    *,
+    even_so: bool = False,
+) -> Registered:
     """Registers the bonds of an inventory file in requests of 500, and continues where an earlier call was stopped. `progress` is called with the rows that are done,
     and with all rows. Raises Implausible, before a row is sent, for rows as Counter.add_bonds does, unless `even_so`. A refusal names the rows of its request (`rows`),
-    and the line of the bond (`line`). A password that isn't accepted ends it at once, also after a good exchange: sent again and again, it would lock this address out."""
+    and the line of the bond (`line`). A password that isn't accepted ends it at once, also after a good exchange: sent again and again, it would lock this address out.
+    """
     bonds = bonds_in(path)
     marks = list(digests(bonds))
     if not even_so:
@@ -100,7 +111,14 @@ def register(counter: Counter, path: Path, progress: Callable[[int, int], None] 
     while place < len(bonds):
         end = min(place + MOST_ROWS, len(bonds))
         try:
-            added = counter._act("/bonds", {"bonds": bonds[place:end]}, {"registered": end, "digest": marks[end]}, None, Added, (SignInRefused,))
+            added = counter._act(
+                "/bonds",
+                {"bonds": bonds[place:end]},
+                {"registered": end, "digest": marks[end]},
+                None,
+                Added,
+                (SignInRefused,),
+            )
         except (Refused, Fault) as refusal:
             refusal.rows = (place + 2, end + 1)
             if isinstance(refusal, Refused):
@@ -116,7 +134,11 @@ def sent_of(counter: Counter, bonds: Sequence[Json], marks: Sequence[str]) -> in
     place = place_in(marks, counter.bookmark)
     request = counter.open_request
     rows = bonds[place : place + MOST_ROWS]
-    return place + len(rows) if request is not None and (request.path, request.fields) == ("/bonds", {"bonds": rows}) else place
+    return (
+        place + len(rows)
+        if request is not None and (request.path, request.fields) == ("/bonds", {"bonds": rows})
+        else place
+    )
 
 
 def doubts_in(bonds: Sequence[Json], sent: int) -> Iterator[str]:
@@ -132,7 +154,10 @@ def line_of(path: Path, serial: object) -> Optional[int]:
         with open(path, encoding="utf-8-sig", newline="") as file:
             reader = csv.reader(file)
             next(reader)
-            return next((reader.line_num for record in reader if record and serial_of(record[0]) == serial), None)
+            return next(
+                (reader.line_num for record in reader if record and serial_of(record[0]) == serial),
+                None,
+            )
     except (csv.Error, ValueError, OSError, StopIteration):
         return None
 
@@ -141,7 +166,11 @@ def finish_other(counter: Counter, bonds: Sequence[Json], marks: Sequence[str]) 
     """Finishes an open request that isn't the next one of this file, as after the file was changed. What it did counts."""
     place = place_in(marks, counter.bookmark)
     request = counter.open_request
-    if request is not None and request.path == "/bonds" and request.fields != {"bonds": list(bonds[place : place + MOST_ROWS])}:
+    if (
+        request is not None
+        and request.path == "/bonds"
+        and request.fields != {"bonds": list(bonds[place : place + MOST_ROWS])}
+    ):
         try:
             counter.finish()
         except Refused as refusal:

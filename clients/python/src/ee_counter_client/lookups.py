@@ -8,11 +8,35 @@ import random
 import time
 from typing import Any, Iterator, Optional, Union
 
-from .answers import NOT_FOUND, Answer, Reader, batch_in, compact, error_of, is_good, is_of_one_sending, row_in, ticket_in, with_its
+from .answers import (
+    NOT_FOUND,
+    Answer,
+    Reader,
+    batch_in,
+    compact,
+    error_of,
+    is_good,
+    is_of_one_sending,
+    row_in,
+    ticket_in,
+    with_its,
+)
 from .errors import BadValue, CounterError, NoAnswer, NoReply, SignInRefused, refusal_of, shown
 from .results import Batch, Request, Row, Sheet, Ticket, batch_of, row_of, ticket_of
 from .sheets import sheet_in
-from .spelling import MOST_NUMBER, DayLike, Json, MonthLike, customer_of, day_of, denom_of, issue_of, month_of, seconds_of, whole
+from .spelling import (
+    MOST_NUMBER,
+    DayLike,
+    Json,
+    MonthLike,
+    customer_of,
+    day_of,
+    denom_of,
+    issue_of,
+    month_of,
+    seconds_of,
+    whole,
+)
 from .version import __version__
 from .way import Deadline, Way
 
@@ -79,7 +103,13 @@ class Lookups:
         self.time_limit = seconds_of(time_limit, "a time limit")
         if self.time_limit == 0:
             raise BadValue("a time limit is more than 0 seconds")
-        self._way = Way(address, user, password, None if certificate is None else path_of(certificate, "a certificate"), f"ee_counter_client/{__version__}")
+        self._way = Way(
+            address,
+            user,
+            password,
+            None if certificate is None else path_of(certificate, "a certificate"),
+            f"ee_counter_client/{__version__}",
+        )
         self._is_known = False
 
     def inventory(self, customer: int, month: MonthLike) -> Sheet:
@@ -91,7 +121,9 @@ class Lookups:
     def ticket(self, number: int) -> Optional[Ticket]:
         """Returns a ticket by its number. None if there is none."""
         wanted = whole(number, 1, MOST_NUMBER, "a ticket")
-        found = self._asked(f"/ticket/{wanted}", lambda text: with_its(ticket_in(text), ticket=wanted))
+        found = self._asked(
+            f"/ticket/{wanted}", lambda text: with_its(ticket_in(text), ticket=wanted)
+        )
         return None if found is None else ticket_of(found, compact(found))
 
     def batch(self, day: DayLike) -> Optional[Batch]:
@@ -103,7 +135,10 @@ class Lookups:
     def value(self, denom: int, issued: MonthLike, month: MonthLike) -> Row:
         """Returns the row of a bond that isn't registered, in a month. `denom` is in dollars. Refused as NoRate."""
         wanted = {"denom": denom_of(denom), "issued": issue_of(issued)}
-        found = self._asked(f"/value/{wanted['denom']}/{wanted['issued']}/{month_of(month)}", lambda text: with_its(row_in(text), **wanted))
+        found = self._asked(
+            f"/value/{wanted['denom']}/{wanted['issued']}/{month_of(month)}",
+            lambda text: with_its(row_in(text), **wanted),
+        )
         return row_of(found, compact(found))
 
     @contextlib.contextmanager
@@ -111,7 +146,9 @@ class Lookups:
         """One call, with its deadline."""
         yield Deadline(self.patience)
 
-    def _exchanged(self, method: str, path: str, value: Optional[Json], read: Reader, deadline: Deadline) -> Answer:
+    def _exchanged(
+        self, method: str, path: str, value: Optional[Json], read: Reader, deadline: Deadline
+    ) -> Answer:
         answer = self._way.exchange(method, path, value, read, deadline.within(self.time_limit))
         self._is_known = self._is_known or is_good(answer)
         return answer
@@ -134,7 +171,9 @@ class Lookups:
                 return None
             if is_of_one_sending(answer):
                 raise error_of(answer, path)
-            if answer.setup is not None and (not self._is_known or isinstance(answer.setup, SignInRefused)):
+            if answer.setup is not None and (
+                not self._is_known or isinstance(answer.setup, SignInRefused)
+            ):
                 raise answer.setup
             trials.failed(answer)
             LOG.warning("no reply: %s", trials.met)

@@ -55,7 +55,19 @@ class Pool:
             for desk in numbers:
                 journal = os.path.join(path, f"desk{desk}.journal")
                 beside = os.path.join(path, f"desk{desk}.archive") if archive else None
-                self._counters.append(Counter(journal, address, desk=desk, user=user, password=password, certificate=certificate, patience=patience, time_limit=time_limit, archive=beside))
+                self._counters.append(
+                    Counter(
+                        journal,
+                        address,
+                        desk=desk,
+                        user=user,
+                        password=password,
+                        certificate=certificate,
+                        patience=patience,
+                        time_limit=time_limit,
+                        archive=beside,
+                    )
+                )
         except BaseException:
             self.close()
             raise
@@ -63,7 +75,12 @@ class Pool:
     def __enter__(self) -> "Pool":
         return self
 
-    def __exit__(self, kind: Optional[Type[BaseException]], error: Optional[BaseException], trace: Optional[TracebackType]) -> None:
+    def __exit__(
+        self,
+        kind: Optional[Type[BaseException]],
+        error: Optional[BaseException],
+        trace: Optional[TracebackType],
+    ) -> None:
         self.close()
 
     def close(self) -> None:
@@ -82,11 +99,15 @@ class Pool:
     @property
     def open_requests(self) -> Tuple[Request, ...]:
         """The requests that have no reply yet."""
-        return tuple(request for counter in self._counters if (request := counter.open_request) is not None)
+        return tuple(
+            request for counter in self._counters if (request := counter.open_request) is not None
+        )
 
     def find(self, key: str) -> Optional[Finished]:
         """Returns the request of a key, with its reply. None if no request with this key was done at any of these desks."""
-        return next((found for counter in self._counters if (found := counter.find(key)) is not None), None)
+        return next(
+            (found for counter in self._counters if (found := counter.find(key)) is not None), None
+        )
 
     @contextlib.contextmanager
     def desk(self, key: Optional[str] = None) -> Iterator[Counter]:
@@ -121,7 +142,9 @@ class Pool:
         if known is not None:
             return None if known.desk in self._taken else known
         free = [counter for counter in self._counters if counter.desk not in self._taken]
-        return next((counter for counter in free if counter.open_request is None), free[0] if free else None)
+        return next(
+            (counter for counter in free if counter.open_request is None), free[0] if free else None
+        )
 
     def _knowing(self, key: str) -> Optional[Counter]:
         if key in self._keys:
@@ -142,7 +165,9 @@ class Pool:
         except CounterError as failure:
             if counter.open_request is None:
                 return
-            raise Busy(f"desk {counter.desk} can't take another request: {request} has no reply yet ({failure})") from failure
+            raise Busy(
+                f"desk {counter.desk} can't take another request: {request} has no reply yet ({failure})"
+            ) from failure
 
     def _give_back(self, counter: Counter, key: Optional[str]) -> None:
         with self._changed:
@@ -162,12 +187,20 @@ class Pool:
 
     # The calls of a Counter.
 
-    def add_rates(self, rates: ListOf[Union[Rates, Mapping[str, Any]]], *, key: Optional[str] = None) -> Added:
+    def add_rates(
+        self, rates: ListOf[Union[Rates, Mapping[str, Any]]], *, key: Optional[str] = None
+    ) -> Added:
         """Enters up to 500 rows of rates, as Counter.add_rates does."""
         with self.desk(key) as counter:
             return counter.add_rates(rates, key=key)
 
-    def add_bonds(self, bonds: ListOf[Union[Bond, Mapping[str, Any]]], *, key: Optional[str] = None, even_so: bool = False) -> Added:
+    def add_bonds(
+        self,
+        bonds: ListOf[Union[Bond, Mapping[str, Any]]],
+        *,
+        key: Optional[str] = None,
+        even_so: bool = False,
+    ) -> Added:
         """Registers up to 500 bonds, as Counter.add_bonds does."""
         with self.desk(key) as counter:
             return counter.add_bonds(bonds, key=key, even_so=even_so)
@@ -182,7 +215,9 @@ class Pool:
         with self.desk(key) as counter:
             return counter.close_day(day, key=key)
 
-    def redeem(self, day: DayLike, payee: int, serials: ListOf[str], *, key: Optional[str] = None) -> Ticket:
+    def redeem(
+        self, day: DayLike, payee: int, serials: ListOf[str], *, key: Optional[str] = None
+    ) -> Ticket:
         """Pays bonds, as Counter.redeem does."""
         with self.desk(key) as counter:
             return counter.redeem(day, payee, serials, key=key)

@@ -87,16 +87,30 @@ class TimedSocket(io.RawIOBase):
 class Way:
     """Sends one message at a time, each on its own connection: a kept one would hold the counter."""
 
-    def __init__(self, address: str, user: Optional[str], password: Optional[str], certificate: Optional[str], name: str) -> None:
+    def __init__(
+        self,
+        address: str,
+        user: Optional[str],
+        password: Optional[str],
+        certificate: Optional[str],
+        name: str,
+    ) -> None:
         self.is_encrypted, self.host, self.port = parts_of(address)
         self.context = context_of(certificate) if self.is_encrypted else None
         host = f"[{self.host}]" if ":" in self.host else self.host
-        self.headers = {"Host": host if self.port in (80, 443) else f"{host}:{self.port}", "Connection": "close", "Accept-Encoding": "identity", CLIENT: name}
+        self.headers = {
+            "Host": host if self.port in (80, 443) else f"{host}:{self.port}",
+            "Connection": "close",
+            "Accept-Encoding": "identity",
+            CLIENT: name,
+        }
         authorization = authorization_of(user, password)
         if authorization is not None:
             self.headers["Authorization"] = authorization
 
-    def exchange(self, method: str, path: str, value: Optional[Json], read: Reader, deadline: Deadline) -> Answer:
+    def exchange(
+        self, method: str, path: str, value: Optional[Json], read: Reader, deadline: Deadline
+    ) -> Answer:
         """Sends a message and reads its answer. Failures of the network are answers too, of the kind "none"."""
         try:
             status, text = self.sent(method, path, value, deadline)
@@ -106,17 +120,27 @@ class Way:
         except ssl.SSLCertVerificationError as failure:
             met = f"the certificate of {self.host!r} isn't trusted: {failure.verify_message}"
             return Answer("none", met=met, setup=UntrustedCertificate(met))
-        except (OSError, http.client.HTTPException, ValueError) as failure:  # http.client lets a ValueError out, as for a chunk of size -5
+        except (
+            OSError,
+            http.client.HTTPException,
+            ValueError,
+        ) as failure:  # http.client lets a ValueError out, as for a chunk of size -5
             return Answer("none", met=shown(str(failure)) or type(failure).__name__)
         return answer_of(status, text, read)
 
-    def sent(self, method: str, path: str, value: Optional[Json], deadline: Deadline) -> Tuple[int, str]:
+    def sent(
+        self, method: str, path: str, value: Optional[Json], deadline: Deadline
+    ) -> Tuple[int, str]:
         """Sends a message. Returns the status and the text of its response."""
         body = b"" if value is None else compact(value).encode()
         headers: Dict[str, str] = dict(self.headers)
         if value is not None:
             headers.update({"Content-Type": "application/json", "Content-Length": str(len(body))})
-        head = f"{method} {path} HTTP/1.1\r\n" + "".join(f"{name}: {text}\r\n" for name, text in headers.items()) + "\r\n"
+        head = (
+            f"{method} {path} HTTP/1.1\r\n"
+            + "".join(f"{name}: {text}\r\n" for name, text in headers.items())
+            + "\r\n"
+        )
         connection = self.connected(deadline)
         try:
             timed = TimedSocket(connection, deadline)
@@ -150,22 +174,40 @@ class Way:
 def parts_of(address: object) -> Tuple[bool, str, int]:
     """Reads an address: whether it is https, the host and the port."""
     wrong = BadValue(f"{address!r} is no address, as http://127.0.0.1:8377")
-    if not isinstance(address, str) or not address.isascii() or not address.isprintable() or " " in address:
+    if (
+        not isinstance(address, str)
+        or not address.isascii()
+        or not address.isprintable()
+        or " " in address
+    ):
         raise wrong
     try:
         parts = urllib.parse.urlsplit(address)
         port = parts.port
     except ValueError:
         raise wrong from None
-    is_whole = parts.scheme in ("http", "https") and parts.hostname and parts.path in ("", "/") and not (parts.query or parts.fragment)
+    is_whole = (
+        parts.scheme in ("http", "https")
+        and parts.hostname
+        and parts.path in ("", "/")
+        and not (parts.query or parts.fragment)
+    )
     if not is_whole or parts.username is not None or port == 0:
         raise wrong
-    return parts.scheme == "https", str(parts.hostname), port or (443 if parts.scheme == "https" else 80)
+    return (
+        parts.scheme == "https",
+        str(parts.hostname),
+        port or (443 if parts.scheme == "https" else 80),
+    )
 
 
 def context_of(certificate: object) -> ssl.SSLContext:
     """The context that trusts the certificate of a file, or the system's."""
-    if certificate is not None and not isinstance(certificate, (str, bytes)) and not hasattr(certificate, "__fspath__"):
+    if (
+        certificate is not None
+        and not isinstance(certificate, (str, bytes))
+        and not hasattr(certificate, "__fspath__")
+    ):
         raise BadValue(f"a certificate is the path of a file, and not {certificate!r}")
     try:
         return ssl.create_default_context(cafile=cast(Optional[str], certificate))
@@ -178,7 +220,11 @@ def authorization_of(user: object, password: object) -> Optional[str]:
     if user is None and password is None:
         return None
     if not isinstance(user, str) or ":" in user or not user.isprintable():
-        raise BadValue("a password needs a user" if user is None else f"a user is a text without a colon, and not {user!r}")
+        raise BadValue(
+            "a password needs a user"
+            if user is None
+            else f"a user is a text without a colon, and not {user!r}"
+        )
     if password is not None and (not isinstance(password, str) or not password.isprintable()):
         raise BadValue("a password is a text of printable characters")
     return "Basic " + base64.b64encode(f"{user}:{password or ''}".encode()).decode()
@@ -187,7 +233,10 @@ def authorization_of(user: object, password: object) -> Optional[str]:
 def addresses_of(host: str, port: int, deadline: Deadline) -> List[Address]:
     """Resolves a host. A name is resolved in a thread of its own, since the system's resolver takes no time limit."""
     try:
-        return cast(List[Address], socket.getaddrinfo(host, port, type=socket.SOCK_STREAM, flags=socket.AI_NUMERICHOST))
+        return cast(
+            List[Address],
+            socket.getaddrinfo(host, port, type=socket.SOCK_STREAM, flags=socket.AI_NUMERICHOST),
+        )
     except socket.gaierror:
         pass
     found: "queue.Queue[Union[List[Address], OSError]]" = queue.Queue()
@@ -196,7 +245,11 @@ def addresses_of(host: str, port: int, deadline: Deadline) -> List[Address]:
         try:
             found.put(cast(List[Address], socket.getaddrinfo(host, port, type=socket.SOCK_STREAM)))
         except (OSError, UnicodeError) as failure:
-            found.put(failure if isinstance(failure, OSError) else socket.gaierror(socket.EAI_NONAME, str(failure)))
+            found.put(
+                failure
+                if isinstance(failure, OSError)
+                else socket.gaierror(socket.EAI_NONAME, str(failure))
+            )
 
     threading.Thread(target=resolve, daemon=True).start()
     try:

@@ -39,19 +39,30 @@ PAGE = b"<html><body>Please sign in to this network.</body></html>"
 
 def response(status: bytes, kind: bytes, body: bytes, more: bytes = b"") -> bytes:
     """The bytes of a response."""
-    return b"HTTP/1.1 %s\r\nContent-Type: %s\r\nContent-Length: %d\r\nConnection: close\r\n%s\r\n%s" % (status, kind, len(body), more, body)
+    return (
+        b"HTTP/1.1 %s\r\nContent-Type: %s\r\nContent-Length: %d\r\nConnection: close\r\n%s\r\n%s"
+        % (status, kind, len(body), more, body)
+    )
 
 
 JSON, HTML = b"application/json", b"text/html"
 STANDING = {
-    "failed after": response(b"503 Service Unavailable", JSON, b'{"code":2,"unserved":"StoreFailed"}'),
-    "failed before": response(b"503 Service Unavailable", JSON, b'{"code":1,"unserved":"NoMemory"}'),
+    "failed after": response(
+        b"503 Service Unavailable", JSON, b'{"code":2,"unserved":"StoreFailed"}'
+    ),
+    "failed before": response(
+        b"503 Service Unavailable", JSON, b'{"code":1,"unserved":"NoMemory"}'
+    ),
     "other page": response(b"200 OK", HTML, PAGE),
     "no gateway": response(b"502 Bad Gateway", HTML, PAGE),
-    "redirect": response(b"302 Found", HTML, PAGE, b"Location: https://elsewhere.example/login\r\n"),
+    "redirect": response(
+        b"302 Found", HTML, PAGE, b"Location: https://elsewhere.example/login\r\n"
+    ),
     "too many": response(b"429 Too Many Requests", HTML, PAGE),
     "signed out": response(b"403 Forbidden", HTML, PAGE),
-    "no password": response(b"401 Unauthorized", HTML, PAGE, b'WWW-Authenticate: Basic realm="counter"\r\n'),
+    "no password": response(
+        b"401 Unauthorized", HTML, PAGE, b'WWW-Authenticate: Basic realm="counter"\r\n'
+    ),
     "damaged": response(b"400 Bad Request", JSON, b'{"code":68,"fault":"Truncated"}'),
     "not json": response(b"400 Bad Request", JSON, b'{"code":64,"fault":"BadJson"}'),
     "forbidden": response(b"403 Forbidden", JSON, b'{"forbidden":"group"}'),
@@ -59,7 +70,18 @@ STANDING = {
 #: Those under which the counter commits the request.
 AFTER = ("killed after", "lost answer", "cut answer", "failed after", "silent", "dripping")
 #: Those under which the request doesn't reach the counter.
-BEFORE = ("lost request", "killed before", "failed before", "other page", "no gateway", "redirect", "too many", "signed out", "no password", "damaged")
+BEFORE = (
+    "lost request",
+    "killed before",
+    "failed before",
+    "other page",
+    "no gateway",
+    "redirect",
+    "too many",
+    "signed out",
+    "no password",
+    "damaged",
+)
 #: Those that are final on a first sending. The request doesn't reach the counter either.
 OF_ONE_SENDING = ("not json", "forbidden")
 FAULTS = AFTER + BEFORE + OF_ONE_SENDING
@@ -74,7 +96,11 @@ def whole_message(client: socket.socket) -> bytes:
             return b""
         text += more
     head, _, body = text.partition(b"\r\n\r\n")
-    lengths = [line.split(b":")[1] for line in head.split(b"\r\n") if line.lower().startswith(b"content-length:")]
+    lengths = [
+        line.split(b":")[1]
+        for line in head.split(b"\r\n")
+        if line.lower().startswith(b"content-length:")
+    ]
     while len(body) < (int(lengths[0]) if lengths else 0):
         more = client.recv(65536)
         if not more:
@@ -97,7 +123,9 @@ class Gate:
     `faults` are done to the next POSTs, one to each. If `is_wide`, they are done to GETs too. `met` are those that were done; `heads` and `bodies` what came.
     `kill` is called by the two faults that kill."""
 
-    def __init__(self, counter: Union[FakeCounter, int], kill: Optional[Callable[[], None]] = None) -> None:
+    def __init__(
+        self, counter: Union[FakeCounter, int], kill: Optional[Callable[[], None]] = None
+    ) -> None:
         self.to = counter if isinstance(counter, int) else counter.port
         self.kill: Callable[[], None] = kill or (lambda: None)
         self.faults: List[str] = []
@@ -115,7 +143,12 @@ class Gate:
     def __enter__(self) -> "Gate":
         return self
 
-    def __exit__(self, kind: Optional[Type[BaseException]], error: Optional[BaseException], trace: Optional[TracebackType]) -> None:
+    def __exit__(
+        self,
+        kind: Optional[Type[BaseException]],
+        error: Optional[BaseException],
+        trace: Optional[TracebackType],
+    ) -> None:
         self.close()
 
     def close(self) -> None:
