@@ -1,0 +1,233 @@
+"""What the tests of the fence share: the built program, a site over a counter, the packages, and a fresh Debian that has them."""
+
+from __future__ import annotations
+
+import os
+import re
+import shutil
+import subprocess
+import sys
+import tempfile
+import time
+from pathlib import Path
+from typing import Iterator, Mapping, Protocol
+
+import pytest
+
+from tests.fence.site import Site, free_port
+
+TOP = Path(__file__).resolve().parents[2]
+sys.path.insert(0, str(TOP / "tests/samples/package_parts"))
+
+from fresh import INCLUDED, Fresh, bootstrap  # noqa: E402
+
+#: Groups of the people of docs/INSTALL.md.
+GROUPS = {"anna": "teller", "bert": "supervisor", "cleo": "registrar", "dora": "office"}
+#: In memory if possible: a store waits for the disk at each sync.
+MEMORY = Path("/dev/shm") if os.path.isdir("/dev/shm") else Path(tempfile.gettempdir())
+
+
+@pytest.fixture(scope="session")
+def program() -> Path:
+    """The built ee_cli, as $EE_CLI or ./ee_cli has it."""
+    path = Path(os.environ.get("EE_CLI", TOP / "crates/ee_cli/out/ee_cli"))
+    if not path.exists():
+        pytest.skip(f"{path} isn't built: ./ee_cli, or name one by EE_CLI")
+    return path
+
+
+@pytest.fixture
+def folder() -> Iterator[Path]:
+    """An empty folder in memory, which everybody may enter."""
+    with tempfile.TemporaryDirectory(prefix="fence.", dir=MEMORY) as made:
+        os.chmod(made, 0o755)
+        yield Path(made)
+
+
+class Counter:
+    """`ee_cli serve` over a store with the rates of the paper periods and some bonds: those of samples/inventory.csv and B1EE, B2EE .. of customer 7."""
+
+    def __init__(self, program: Path, folder: Path, bonds: int = 50) -> None:
+        folder.mkdir()
+        self.program, self.store, self.port = program, folder / "day.db", free_port()
+        self.url = f"http://127.0.0.1:{self.port}"
+        rows = [f"B{nth}EE,50,2010-11,7,\n" for nth in range(1, bonds + 1)]
+        more = folder / "more.csv"
+        more.write_text("serial,denom,issued,owner,coowner\n" + "".join(rows))
+        files = (TOP / "samples/rates.csv", TOP / "samples/inventory.csv", more)
+        for nth, file in enumerate(files, 1):
+            words = ["rates" if nth == 1 else "inventory", str(file), "--db", str(self.store)]
+            words += ["--desk", "999", "--number", str(nth)]
+            subprocess.run([program, "import", *words], check=True, stdout=subprocess.DEVNULL)
+        self.start()
+
+    def start(self) -> None:
+        """Serves, and returns once it listens. /proc/net/tcp is asked: a connection would be a request."""
+        words = ["serve", "--db", str(self.store), "--port", str(self.port)]
+        self.process = subprocess.Popen([self.program, *words], stdout=subprocess.DEVNULL)
+        listening = f" 0100007F:{self.port:04X} 00000000:0000 0A "
+        for _ in range(600):
+            if listening in Path("/proc/net/tcp").read_text():
+                return
+            assert self.process.poll() is None, "the counter ended"
+            time.sleep(0.1)
+        raise AssertionError("the counter doesn't listen")
+
+    def end(self) -> None:
+        self.process.kill()
+        self.process.wait()
+
+
+@pytest.fixture
+def counter(program: Path, folder: Path) -> Iterator[Counter]:
+    made = Counter(program, folder / "store")
+    yield made
+    made.end()
+
+
+class MakeSite(Protocol):
+    def __call__(
+        self,
+        groups: Mapping[str, str] = ...,
+        *,
+        counter: str | None = ...,
+        changed: Mapping[str, str] | None = ...,
+        replies: bool = ...,
+    ) -> Site:
+        ...
+
+
+@pytest.fixture
+def site(request: pytest.FixtureRequest, folder: Path) -> Iterator[MakeSite]:
+    """Makes sites, which end with the test. Each is in front of the fixture `counter`, if `counter=` names no other, such as http://127.0.0.1:PORT."""
+    made: list[Site] = []
+
+    def make(
+        groups: Mapping[str, str] = GROUPS,
+        *,
+        counter: str | None = None,
+        changed: Mapping[str, str] | None = None,
+        replies: bool = False,
+    ) -> Site:
+        url = counter or request.getfixturevalue("counter").url
+        where = folder / f"site{len(made)}"
+        made.append(Site(where, url, groups, changed=changed, replies=replies))
+        return made[-1]
+
+    yield make
+    for one in made:
+        one.end()
+
+
+class Release:
+    """A folder of packages that packaging/build made with a program."""
+
+    def __init__(self, program: Path, folder: Path) -> None:
+        self.folder = folder / "packages"
+        # The library of values isn't installed here: empty files take its place.
+        (folder / "library").mkdir()
+        for name in ("libee_value.a", "libee_value.so.1"):
+            (folder / "library" / name).touch()
+        words = (TOP / "packaging/build", "--program", program, "--library", folder / "library")
+        ran = subprocess.run(
+            [*words, "--to", self.folder],
+            stdout=subprocess.PIPE,
+            stderr=subprocess.STDOUT,
+            text=True,
+            env={**os.environ, "TMPDIR": str(folder)},
+        )
+        assert ran.returncode == 0, ran.stdout
+
+    def deb(self, name: str = "ladwenpik") -> Path:
+        (found,) = self.folder.glob(f"{name}_*.deb")
+        return found
+
+
+@pytest.fixture(scope="session")
+def release(program: Path) -> Iterator[Release]:
+    with tempfile.TemporaryDirectory(prefix="fence.", dir=MEMORY) as made:
+        yield Release(program, Path(made))
+
+
+@pytest.fixture(scope="session")
+def root() -> Iterator[Path]:
+    """A root of debootstrap, which is only read: $FRESH_ROOT, or one that is made here."""
+    if os.getuid() != 0:
+        pytest.skip("it needs root")
+    if "FRESH_ROOT" in os.environ:
+        yield Path(os.environ["FRESH_ROOT"])
+        return
+    with tempfile.TemporaryDirectory(prefix="fence.", dir=MEMORY) as made:
+        yield Path(bootstrap(made, included=f"{INCLUDED},easy-rsa"))
+
+
+def blocks(page: str, heading: str) -> list[str]:
+    """The blocks of commands below a heading of a page in docs."""
+    text = (TOP / "docs" / f"{page}.md").read_text()
+    found = re.search(rf"^#+ {re.escape(heading)}\n(.*?)(?=^#+ |\Z)", text, re.M | re.S)
+    assert found, f"docs/{page}.md has no heading {heading}"
+    return re.findall(r"^```\n(.*?)^```$", found[1], re.M | re.S)
+
+
+class Machine(Fresh):
+    """A fresh Debian under a systemd of its own. Its network has a loopback alone."""
+
+    def deliver(self, release: Release, to: str = "/root/release") -> None:
+        shutil.copytree(release.folder, self.path(to))
+
+    def prepare(self) -> None:
+        """The counter's name leads to this machine, and apt doesn't ask."""
+        self.shell("echo 127.0.0.1 counter.bank.example >> /etc/hosts")
+        self.shell("echo 'APT::Get::Assume-Yes true;' > /etc/apt/apt.conf.d/yes")
+
+    def install(self, release: Release) -> None:
+        """Installs the release by docs/INSTALL.md, to the end of the trial: the bank's store is served."""
+        self.deliver(release)
+        self.prepare()
+        self.shell("cd release\n" + blocks("INSTALL", "Install it")[0])
+        # One shell, since blocks use the functions of earlier ones.
+        self.shell("\n".join(blocks("INSTALL", "The first day")))
+        self.shell(blocks("INSTALL", "End the trial")[0])
+
+    def ask(self, name: str, path: str, body: str = "") -> str:
+        """What the page's `ask` prints."""
+        found = re.search(
+            r"^ask\(\) \{\n.*?^\}\n", "".join(blocks("INSTALL", "The first day")), re.M | re.S
+        )
+        assert found
+        return self.shell(f"{found[0]}ask {name} {path} '{body}'").strip()
+
+    def write(self, path: str, text: str, mode: int = 0o644) -> None:
+        file = Path(self.path(path))
+        file.parent.mkdir(parents=True, exist_ok=True)
+        file.write_text(text)
+        file.chmod(mode)
+
+
+class MakeMachine(Protocol):
+    def __call__(self) -> Machine:
+        ...
+
+
+@pytest.fixture(scope="session")
+def machines(root: Path) -> Iterator[MakeMachine]:
+    """Makes fresh machines, which end with the session."""
+    made: list[Machine] = []
+    with tempfile.TemporaryDirectory(prefix="fence.", dir=MEMORY) as folder:
+
+        def make() -> Machine:
+            made.append(Machine(str(root), tempfile.mkdtemp(dir=folder)))
+            return made[-1]
+
+        yield make
+        for machine in made:
+            machine.end()
+
+
+@pytest.fixture(scope="module")
+def machine(machines: MakeMachine, release: Release) -> Iterator[Machine]:
+    """A machine with the packages, installed by docs/INSTALL.md, that serves the bank's store."""
+    made = machines()
+    made.install(release)
+    yield made
+    made.end()
