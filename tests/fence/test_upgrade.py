@@ -1,0 +1,126 @@
+"""An upgrade from each release with passwords, by docs/UPGRADE.md to the letter: it asks nothing, and nobody can answer in the counter's place."""
+
+from __future__ import annotations
+
+import tempfile
+from pathlib import Path
+from typing import Iterator
+
+import pytest
+
+from tests.fence.before import COMMITS, Before
+from tests.fence.conftest import MEMORY, Machine, MakeMachine, Release, blocks
+
+pytestmark = [pytest.mark.root, pytest.mark.machine, pytest.mark.slow]
+
+#: The steps of docs/UPGRADE.md. The archive's lines need its disks.
+STEPS = ("1. Stop", "2. Copy", "3. Install", "4. Try the new program on a copy", "5. Go on")
+NEW_TICKET = '{"desk":999,"number":90,"day":"2026-12-01","payee":9,"serials":["R6EE"]}'
+#: A local user who listens where the counter of e30226db listened.
+IMPOSTOR = """
+import socket
+server = socket.create_server(("127.0.0.1", 8377))
+while True:
+    server.accept()[0].sendall(b"HTTP/1.1 200 OK\\r\\nContent-Length: 7\\r\\n\\r\\n9999.99")
+"""
+
+
+@pytest.fixture(scope="module", params=sorted(COMMITS))
+def before(request: pytest.FixtureRequest, program: Path) -> Iterator[Before]:
+    with tempfile.TemporaryDirectory(prefix="before.", dir=MEMORY) as folder:
+        yield Before(request.param, program, Path(folder))
+
+
+@pytest.fixture
+def old(machines: MakeMachine, before: Before) -> Iterator[Machine]:
+    """A machine that serves by the release from before."""
+    machine = machines()
+    before.install(machine)
+    yield machine
+    machine.end()
+
+
+def make_certificates(machine: Machine) -> None:
+    """What docs/UPGRADE.md has done before the day."""
+    _, _, authority, people, *_ = blocks("INSTALL", "The first day")
+    machine.shell(f"{authority}\n{people}")
+
+
+def upgrade(machine: Machine, release: Release) -> None:
+    machine.deliver(release)
+    for step in STEPS:
+        machine.shell("cd release\n" + blocks("UPGRADE", step)[0])
+
+
+def test_an_upgrade_asks_nothing_and_serves_by_certificates(old: Machine, release: Release) -> None:
+    tickets = old.shell("grep -c redeem /var/log/nginx/counter.log").strip()
+    make_certificates(old)
+    upgrade(old, release)
+    assert old.shell("cat /etc/counter/name.conf") == "server_name counter.bank.example;\n"
+    assert 'BANK = "Old Bank"' in old.shell("cat /etc/counter/page/bank.js")
+    states = [old.shown(unit, "ActiveState") for unit in ("nginx.service", "counter-nginx.service")]
+    assert states == ["inactive", "active"]
+    assert old.shown("nginx.service", "UnitFileState") == "disabled"
+    assert old.shell("grep -c redeem /var/log/counter/counter.log").strip() == tickets
+    assert old.ask("bert", "/day/open", '{"desk":999,"number":80,"day":"2026-12-01"}') == (
+        '{"opened":"2026-12-01"}'
+    )
+    assert old.ask("cleo", "/user") == '{"user":"cleo","groups":"registrar"}'
+    old.shell(blocks("UPGRADE", "5. Go on")[1])
+    ran = old.on("sh", "-c", "cd /root; " + blocks("UPGRADE", "5. Go on")[2])
+    assert ran.returncode == 3, ran.stdout
+
+
+def test_a_local_user_cannot_answer_after_an_upgrade(old: Machine, release: Release) -> None:
+    make_certificates(old)
+    upgrade(old, release)
+    old.write("/tmp/impostor.py", IMPOSTOR)
+    old.shell("systemctl stop counter.service")
+    old.shell("systemd-run -q --uid=nobody --unit=impostor python3 /tmp/impostor.py; sleep 1")
+    assert "9999" in old.shell("curl -s http://127.0.0.1:8377/")
+    assert old.ask("anna", "/ticket/1") == '{"unavailable":"counter"}'
+
+
+def test_without_certificates_nobody_signs_in(old: Machine, release: Release) -> None:
+    upgrade(old, release)
+    states = [old.shown(unit, "ActiveState") for unit in ("nginx.service", "counter-nginx.service")]
+    assert states == ["inactive", "inactive"]
+    refused = old.on(
+        "curl", "-s", "--connect-to", "::127.0.0.1:443", "https://counter.bank.example/"
+    )
+    assert refused.returncode == 7
+
+
+def test_back_to_the_release_before(old: Machine, before: Before, release: Release) -> None:
+    if before.commit == "e30226db":
+        pytest.skip("that release wasn't packed for banks")
+    asked = before.blocks("The first day")[-1].replace("ask bert", ": ask bert")
+    make_certificates(old)
+    upgrade(old, release)
+    old.shell("cp -r before release/before")
+    old.shell("cd release\n" + blocks("UPGRADE", "If it goes wrong")[1])
+    assert old.shell("dpkg-query -W -f '${Version}' ladwenpik") == COMMITS[before.commit]
+    assert '"fault":"NotFound"' in old.shell(
+        asked.replace(": ask", ":").replace("ask anna /redeem", ":")
+    )
+
+
+def test_removed_reinstalled_and_purged(machines: MakeMachine, release: Release) -> None:
+    machine = machines()
+    machine.install(release)
+    machine.shell("systemctl stop counter.service")
+    books = "cd /var/lib/counter; sha256sum day.db day.db-wal; stat -c '%U %a' . day.db"
+    before = machine.shell(books)
+    machine.shell("apt-get remove ladwenpik")
+    machine.shell("nginx -t && systemctl start nginx.service && systemctl stop nginx.service")
+    machine.shell("cd release\n" + blocks("INSTALL", "Install it")[0])
+    assert machine.shell(books) == before
+    machine.shell("systemctl enable --now counter.service counter-nginx.service")
+    assert machine.ask("anna", "/user") == '{"user":"anna","groups":"teller"}'
+    machine.shell("systemctl stop counter.service")
+    before = machine.shell(books)
+    machine.shell("apt-get purge ladwenpik")
+    assert machine.shell(books) == before
+    left = machine.shell("ls /etc/counter").split()
+    assert left == ["certificate.pem", "key.pem", "staff"]
+    machine.shell("nginx -t && systemctl start nginx.service && systemctl is-active nginx.service")
