@@ -32,7 +32,7 @@ class Before:
         library.mkdir()
         for name in ("libee_value.a", "libee_value.so.1"):
             (library / name).touch()
-        words = [tree / "packaging/build", "--program", old, "--library", library]
+        words: list[str | Path] = [tree / "packaging/build", "--program", old, "--library", library]
         ran_build = subprocess.run(
             [*words, "--to", self.folder],
             stdout=subprocess.PIPE,
