@@ -1,0 +1,74 @@
+"""Servers in the counter's place, at a Unix socket as on a bank's machine: one that records what reaches it, and the program with its books."""
+
+from __future__ import annotations
+
+import contextlib
+import dataclasses
+import re
+import socketserver
+import threading
+from pathlib import Path
+
+ANSWER = b'{"recorded":true}'
+
+
+@dataclasses.dataclass
+class Message:
+    """A message as it came; `rest` has the bytes behind it on its connection."""
+
+    head: bytes
+    body: bytes
+    rest: bytes = b""
+
+    @property
+    def words(self) -> tuple[bytes, bytes]:
+        """Method and target."""
+        method, _, rest = self.head.partition(b" ")
+        return method, rest.split(b"\r\n")[0].rpartition(b" ")[0]
+
+
+class Recorder(socketserver.ThreadingUnixStreamServer):
+    """Answers each message 200, as many of a connection as come."""
+
+    daemon_threads, request_queue_size = True, 512
+
+    def __init__(self, path: Path) -> None:
+        self.messages: list[Message] = []
+        self.at = f"http://unix:{path}"
+        super().__init__(str(path), Conversation)
+        threading.Thread(target=self.serve_forever, daemon=True).start()
+
+    def take(self) -> list[Message]:
+        """The messages since the last call."""
+        taken, self.messages = self.messages, []
+        return taken
+
+
+class Conversation(socketserver.StreamRequestHandler):
+    timeout = 5
+
+    def handle(self) -> None:
+        with contextlib.suppress(OSError, OverflowError):
+            while self.answer():
+                pass
+
+    def answer(self) -> bool:
+        """Answers one message. Returns whether another may come."""
+        head = b""
+        while not head.endswith(b"\r\n\r\n"):
+            if not (line := self.rfile.readline()):
+                return False
+            head += line
+        length = re.search(rb"(?i)\r\ncontent-length: *(\d+)", head)
+        body = self.rfile.read(int(length[1])) if length else b""
+        message = Message(head, body)
+        assert isinstance(self.server, Recorder)
+        self.server.messages.append(message)
+        self.wfile.write(
+            b"HTTP/1.1 200 OK\r\nContent-Type: application/json\r\nContent-Length: %d\r\n\r\n"
+            % len(ANSWER)
+            + ANSWER
+        )
+        is_last = re.search(rb"(?i)\r\nconnection: *close", head) is not None
+        message.rest = self.rfile.read() if is_last else b""
+        return not is_last

@@ -1,0 +1,283 @@
+"""Certificates that aren't of the staff, or not any more, and subjects that look like another person's."""
+
+from __future__ import annotations
+
+import datetime
+import ssl
+from pathlib import Path
+from typing import Callable, Iterator
+
+import pytest
+from cryptography import x509
+from cryptography.hazmat.primitives import hashes, serialization
+from cryptography.hazmat.primitives.asymmetric import ec
+from cryptography.x509.oid import ExtendedKeyUsageOID, NameOID
+
+from tests.fence.counter import ANSWER, Recorder
+from tests.fence.site import Answer, Site
+from tests.fence.wire import answer_in, connected, everything, message
+
+GROUPS = {"anna": "teller", "bert": "supervisor"}
+KEY = ec.generate_private_key(ec.SECP256R1())
+DAY = datetime.timedelta(days=1)
+NAME, UNIT, BANK, SERIAL, USER_ID = (
+    NameOID.COMMON_NAME,
+    NameOID.ORGANIZATIONAL_UNIT_NAME,
+    NameOID.ORGANIZATION_NAME,
+    NameOID.SERIAL_NUMBER,
+    NameOID.USER_ID,
+)
+Part = tuple[x509.ObjectIdentifier, str]
+
+
+def subject(*parts: Part | list[Part]) -> x509.Name:
+    """A subject of these parts, the most general first. A part may have several kinds."""
+    each = [part if isinstance(part, list) else [part] for part in parts]
+    sets = [
+        [x509.NameAttribute(kind, text, _validate=False) for kind, text in part] for part in each
+    ]
+    return x509.Name([x509.RelativeDistinguishedName(those) for those in sets])
+
+
+def named(name: str) -> x509.Name:
+    return subject((NAME, name))
+
+
+class Authority:
+    """Signs any certificate for the one key of this test's clients."""
+
+    def __init__(self, name: x509.Name, key: ec.EllipticCurvePrivateKey) -> None:
+        self.name, self.key = name, key
+
+    def certificate(
+        self,
+        name: x509.Name,
+        since: int = -1,
+        until: int = 1,
+        usage: x509.ObjectIdentifier = ExtendedKeyUsageOID.CLIENT_AUTH,
+    ) -> str:
+        now = datetime.datetime.utcnow()
+        made = x509.CertificateBuilder(
+            self.name,
+            name,
+            KEY.public_key(),
+            x509.random_serial_number(),
+            now + since * DAY,
+            now + until * DAY,
+        )
+        made = made.add_extension(x509.ExtendedKeyUsage([usage]), False)
+        return (
+            made.sign(self.key, hashes.SHA256()).public_bytes(serialization.Encoding.PEM).decode()
+        )
+
+
+class Scene:
+    def __init__(self, folder: Path, **changed: str) -> None:
+        folder.chmod(0o755)
+        self.recorder, self.client = Recorder(folder / "counter.sock"), folder / "client.pem"
+        self.site = Site(folder / "site", self.recorder.at, GROUPS, changed=changed)
+        staff = self.site.folder / "staff"
+        key = serialization.load_pem_private_key((staff / "private/ca.key").read_bytes(), None)
+        assert isinstance(key, ec.EllipticCurvePrivateKey)
+        self.staff = Authority(
+            x509.load_pem_x509_certificate((staff / "ca.crt").read_bytes()).subject, key
+        )
+
+    def end(self) -> None:
+        self.site.end()
+        self.recorder.shutdown()
+
+    def context(self, certificate: str) -> ssl.SSLContext:
+        key = KEY.private_bytes(
+            serialization.Encoding.PEM,
+            serialization.PrivateFormat.PKCS8,
+            serialization.NoEncryption(),
+        )
+        self.client.write_text(certificate + key.decode())
+        made = self.site.context(None)
+        made.load_cert_chain(self.client)
+        return made
+
+    def asked(self, context: ssl.SSLContext, line: bytes) -> Answer:
+        with connected(self.site, context, 10) as wire:
+            wire.sendall(message(line))
+            return answer_in(everything(wire))
+
+    def groups(self, context: ssl.SSLContext) -> tuple[str | None, str, bool, bool]:
+        """What a client has: the name and groups that /user says, and whether it is served as a teller and as a supervisor."""
+        user = self.asked(context, b"GET /user HTTP/1.1").json()
+        served = [
+            self.asked(context, b"POST %s HTTP/1.1" % path).text == ANSWER.decode()
+            for path in (b"/redeem", b"/day/close")
+        ]
+        return user.get("user"), user.get("groups", ""), served[0], served[1]
+
+
+@pytest.fixture(scope="module")
+def scene(tmp_path_factory: pytest.TempPathFactory) -> Iterator[Scene]:
+    made = Scene(tmp_path_factory.mktemp("certificates"))
+    yield made
+    made.end()
+
+
+NOBODY = (None, "", False, False)
+ANNA = named("anna")
+#: Certificates that get nothing. A chain may have more than one.
+KEPT_OUT: dict[str, Callable[[Scene], str]] = {
+    "another authority": lambda scene: Authority(named("other"), KEY).certificate(ANNA),
+    "another authority of the same name": lambda scene: Authority(
+        scene.staff.name, KEY
+    ).certificate(ANNA),
+    "signed for itself": lambda scene: Authority(ANNA, KEY).certificate(ANNA),
+    "signed by a teller": lambda scene: Authority(ANNA, KEY).certificate(named("bert"))
+    + scene.staff.certificate(ANNA),
+    "ended yesterday": lambda scene: scene.staff.certificate(ANNA, -2, -1),
+    "from tomorrow": lambda scene: scene.staff.certificate(ANNA, 1, 2),
+    "a server's": lambda scene: scene.staff.certificate(
+        ANNA, usage=ExtendedKeyUsageOID.SERVER_AUTH
+    ),
+    "for signing programs": lambda scene: scene.staff.certificate(
+        ANNA, usage=ExtendedKeyUsageOID.CODE_SIGNING
+    ),
+}
+
+
+@pytest.mark.parametrize("made", KEPT_OUT.values(), ids=KEPT_OUT)
+def test_who_is_kept_out(scene: Scene, made: Callable[[Scene], str]) -> None:
+    context = scene.context(made(scene))
+    before = scene.site.log()
+    assert scene.groups(context) == NOBODY
+    for line in (b"GET /teller/ HTTP/1.1", b"GET /user HTTP/1.1", b"POST /redeem HTTP/1.1"):
+        answer = scene.asked(context, line)
+        assert (answer.status, answer.json()["forbidden"]) == (400, "certificate")
+    assert scene.site.log() == before, "nor does the log name anybody"
+
+
+def test_control_a_teller_is_let_in(scene: Scene) -> None:
+    assert scene.groups(scene.context(scene.staff.certificate(ANNA))) == (
+        "anna",
+        "teller",
+        True,
+        False,
+    )
+    assert scene.groups(scene.site.context("bert")) == ("bert", "supervisor", False, True)
+
+
+def test_control_without_the_test_of_certificates_anybody_is_let_in(tmp_path: Path) -> None:
+    changed = {"ssl_verify_client on": "ssl_verify_client optional_no_ca"}
+    scene = Scene(tmp_path, **changed, **{"$ssl_client_verify ": "SUCCESS "})
+    assert scene.groups(scene.context(KEPT_OUT["another authority"](scene)))[2]
+    scene.end()
+
+
+#: Subjects that look like bert's, and the name of each. None but his own is bert.
+SUBJECTS = {
+    "a unit with a comma": (subject((UNIT, "x,CN=bert")), ""),
+    "a name with a comma": (named("x,CN=bert"), ""),
+    "a name and a comma behind it": (named("bert,O=Bank"), ""),
+    "a unit behind the name": (subject((NAME, "bert"), (UNIT, "x")), ""),
+    "two names in one part": (subject([(NAME, "anna"), (NAME, "bert")]), ""),
+    "a name and a unit in one part": (subject([(NAME, "bert"), (UNIT, "x")]), ""),
+    "two names, anna last": (subject((NAME, "bert"), (NAME, "anna")), "anna"),
+    "a blank within": (named("bert x"), ""),
+    "a blank before": (named(" bert"), ""),
+    "a blank behind": (named("bert "), ""),
+    "an empty name": (named(""), ""),
+    "an empty name behind bert's": (subject((NAME, "bert"), (NAME, "")), ""),
+    "no subject": (subject(), ""),
+    "NUL behind": (named("bert\0"), ""),
+    "the end of a line behind": (named("bert\n"), ""),
+    "the end of a line before": (named("x\nCN=bert"), ""),
+    "a plus": (named("bert+CN=anna"), ""),
+    "a slash": (named("x/CN=bert"), ""),
+    "quotes": (named('"bert"'), ""),
+    "a backslash": (named("x\\,CN=bert"), ""),
+    "a value in hexadecimal": (named("#0c0462657274"), ""),
+    "letters that look the same": (named("b\u0435rt"), ""),
+    "wide letters": (named("\uff42ert"), ""),
+    "a space of no width": (named("bert\u200b"), ""),
+    "65 letters": (named("b" * 65), ""),
+    "a serial number": (subject((SERIAL, "1,CN=bert")), ""),
+    "a user's id": (subject((USER_ID, "bert")), ""),
+    "a group's name": (named("supervisor"), "supervisor"),
+    "capitals": (named("BERT"), ""),
+    "a capital": (named("Bert"), ""),
+}
+
+
+def test_no_subject_is_taken_for_another_person(scene: Scene) -> None:
+    for kind, (name, user) in SUBJECTS.items():
+        found = scene.groups(scene.context(scene.staff.certificate(name)))
+        assert found == (user, GROUPS.get(user, ""), user == "anna", False), kind
+        assert not user or scene.site.log()[-1]["user"] == user, kind
+    with_bank = subject((BANK, "Bank"), (UNIT, "desk 3"), (NAME, "bert"))
+    assert scene.groups(scene.context(scene.staff.certificate(with_bank)))[0] == "bert"
+
+
+LOOSE = {
+    '"~^SUCCESS CN=(?<cn>[a-z0-9._@-]{1,64})(,|$)" $cn;': '"~*CN=(?<cn>[a-z0-9._@-]{1,64})" $cn;',
+}
+
+
+def test_control_by_a_looser_pattern_others_are_bert(tmp_path: Path) -> None:
+    scene = Scene(tmp_path, **LOOSE)
+    let_in = [
+        kind
+        for kind, (name, _) in SUBJECTS.items()
+        if scene.groups(scene.context(scene.staff.certificate(name)))[3]
+    ]
+    assert {"a unit with a comma", "capitals", "a blank behind", "two names in one part"} <= set(
+        let_in
+    )
+    scene.end()
+
+
+def resumed(scene: Scene, version: ssl.TLSVersion) -> int:
+    """The status for a client that resumes a session from before its certificate was revoked."""
+    scene.site.staff.hire("carl")
+    context = scene.site.context("carl")
+    context.minimum_version = context.maximum_version = version
+    session: ssl.SSLSession | None = None
+    for nth in range(2):
+        with connected(scene.site, context, 10, session) as wire:
+            wire.sendall(message(b"GET /user HTTP/1.1"))
+            status, session = answer_in(everything(wire)).status, wire.session
+        if nth == 0:
+            assert status == 200
+            scene.site.staff.dismiss("carl")
+            scene.site.reload()
+    return status
+
+
+VERSIONS = (ssl.TLSVersion.TLSv1_2, ssl.TLSVersion.TLSv1_3)
+
+
+@pytest.mark.parametrize("version", VERSIONS)
+def test_a_revoked_certificate_is_refused_though_its_session_is_resumed(
+    scene: Scene, version: ssl.TLSVersion
+) -> None:
+    assert resumed(scene, version) == 400
+
+
+def test_control_with_a_cache_of_sessions_it_is_let_in(tmp_path: Path) -> None:
+    scene = Scene(tmp_path, **{"ssl_session_cache off": "ssl_session_cache shared:test:1m"})
+    assert [resumed(scene, version) for version in VERSIONS] == [200, 200]
+    scene.end()
+
+
+def renewed(scene: Scene, days: int) -> None:
+    """Puts a list of revoked certificates with this last day into its place, and reloads."""
+    now = datetime.datetime.utcnow()
+    made = x509.CertificateRevocationListBuilder(scene.staff.name, now - 3 * DAY, now + days * DAY)
+    text = made.sign(scene.staff.key, hashes.SHA256()).public_bytes(serialization.Encoding.PEM)
+    (scene.site.folder / "staff/crl.pem").write_bytes(text)
+    scene.site.reload()
+
+
+def test_a_list_of_revoked_certificates_past_its_date_keeps_everybody_out(scene: Scene) -> None:
+    renewed(scene, -1)
+    answer = scene.site.ask("anna", "GET", "/user")
+    assert (answer.status, answer.json()["forbidden"]) == (400, "certificate")
+    scene.site.staff.easyrsa("gen-crl")
+    scene.site.reload()
+    assert scene.site.ask("anna", "GET", "/user").status == 200, "control: a new list lets them in"

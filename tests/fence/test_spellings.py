@@ -1,0 +1,148 @@
+"""Requests that nginx and the counter may read differently. None gets past its group, and the counter sees none but those that nginx let through."""
+
+from __future__ import annotations
+
+import contextlib
+import socket
+import subprocess
+import time
+from collections import Counter
+from concurrent.futures import ThreadPoolExecutor
+from pathlib import Path
+from typing import Callable, Iterator
+
+from tests.fence.counter import Message, Recorder
+from tests.fence.shapes import shapes
+from tests.fence.site import Site
+from tests.fence.spellings import spellings
+from tests.fence.wire import HEADERS, everything, message, sent, statuses
+
+GROUPS = {"anna": "teller", "bert": "supervisor", "cleo": "office", "rita": "registrar", "erik": ""}
+ROUTES = {
+    b"/redeem": "teller",
+    b"/day/open": "supervisor",
+    b"/day/close": "supervisor",
+    b"/rates": "office",
+    b"/bonds": "registrar",
+}
+METHODS = b"POST GET PUT HEAD post DELETE PATCH OPTIONS TRACE CONNECT PROPFIND MKCOL LOCK P\xc3\x96ST".split()
+#: All is logged, so that what reached the counter can be compared with it, and no request is too many.
+LOGGED = {"$is_post { default 0;": "$is_post { default 1;", "rate=10r/s": "rate=100000r/s"}
+NO_GROUPS = {"default                                       0;": "default 1;"}
+
+
+@contextlib.contextmanager
+def recorded(folder: Path, changed: dict[str, str]) -> Iterator[tuple[Site, Recorder]]:
+    folder.chmod(0o755)
+    recorder = Recorder(folder / "counter.sock")
+    site = Site(folder / "site", recorder.at, GROUPS, changed={**LOGGED, **changed})
+    yield site, recorder
+    site.end()
+    recorder.shutdown()
+
+
+def spelled(site: Site, user: str, words: list[tuple[bytes, bytes]]) -> Counter[int]:
+    """Sends requests of these methods and targets. Counts the statuses."""
+    context = site.context(user)
+    with ThreadPoolExecutor(8) as pool:
+        lines = [message(b"%s %s HTTP/1.1" % pair, b"{}") for pair in words]
+        answers = pool.map(lambda line: statuses(sent(site, context, [line])), lines)
+        return Counter(status for found in answers for status in found)
+
+
+def of_others(messages: list[Message], groups: str) -> set[tuple[bytes, bytes]]:
+    """Those that the counter takes for a request of another group: it knows a route by one spelling and one method."""
+    return {
+        words
+        for words in (one.words for one in messages)
+        if words[0] == b"POST" and ROUTES.get(words[1], groups) != groups
+    }
+
+
+def all_spellings(port: int) -> list[bytes]:
+    return [target for route in ROUTES for target in spellings(route, port).values()]
+
+
+def test_no_spelling_reaches_a_route_of_another_group(tmp_path: Path) -> None:
+    with recorded(tmp_path, {}) as (site, recorder):
+        words = [(b"POST", target) for target in all_spellings(site.port)]
+        words += [(method, route) for method in METHODS for route in ROUTES]
+        assert len(words) > 350
+        for user, groups in GROUPS.items():
+            came = spelled(site, user, words)
+            reached = recorder.take()
+            assert of_others(reached, groups) == set()
+            own = {b"POST %s" % route for route, group in ROUTES.items() if group == groups}
+            assert {
+                b" ".join(one.words)
+                for one in reached
+                if one.words[1] in ROUTES and one.words[0] == b"POST"
+            } == own
+            assert not [one for one in reached if one.rest], "bytes behind a request"
+        assert reached == [], "nothing of a user without a group"
+
+
+def test_control_without_groups_each_route_is_reached(tmp_path: Path) -> None:
+    with recorded(tmp_path, NO_GROUPS) as (site, recorder):
+        for user, groups in GROUPS.items():
+            spelled(site, user, [(b"POST", route) for route in ROUTES])
+            others = {route for route, group in ROUTES.items() if group != groups}
+            assert {words[1] for words in of_others(recorder.take(), groups)} == others
+
+
+def test_the_program_knows_a_route_by_one_spelling(program: str, tmp_path: Path) -> None:
+    """What `of_others` says of the counter is true of the program."""
+    targets = [
+        target for target in all_spellings(443) if b" " not in target and target not in ROUTES
+    ]
+    lines = [b"POST %s HTTP/1.1\r\nContent-Length: 2\r\n\r\n{}" % target for target in targets]
+    ran = subprocess.run(
+        [program, "apply", "--db", tmp_path / "day.db"], input=b"".join(lines), capture_output=True
+    )
+    assert statuses(ran.stdout) == [404] * len(lines)
+
+
+def smuggled(send: Callable[[list[bytes]], object]) -> dict[bytes, str]:
+    """Sends each shape, with a supervisor's request inside and with a redemption. Returns the names of the shapes by the bodies of the requests inside."""
+    inside: dict[bytes, str] = {}
+    found: list[list[bytes]] = []
+    for target in (b"/day/close", b"/redeem"):
+        for name in shapes([], b""):
+            body = b'{"number":%d}' % (1000 + len(found))
+            inside[body] = name
+            found.append(shapes(HEADERS, message(b"POST %s HTTP/1.1" % target, body))[name])
+    with ThreadPoolExecutor(16) as pool:
+        list(pool.map(send, found))
+    time.sleep(0.5)
+    return inside
+
+
+def test_no_request_within_a_request_reaches_the_counter(tmp_path: Path) -> None:
+    with recorded(tmp_path, {}) as (site, recorder):
+        context = site.context("anna")
+        inside = smuggled(lambda pieces: sent(site, context, pieces, pause=0.05, patience=2))
+        assert len(set(inside.values())) >= 37
+        reached = recorder.take()
+        assert [inside[one.body] for one in reached if one.body in inside] == []
+        assert {one.words[0] + b" " + one.words[1][:8] for one in reached} <= {
+            b"POST /redeem",
+            b"GET /ticket/",
+        }
+        assert [one for one in reached if one.rest] == []
+        passed = [entry for entry in site.log() if entry["counter"] == "200"]
+        assert len(reached) == len(passed) > 0 and {entry["user"] for entry in passed} == {"anna"}
+
+
+def test_control_straight_to_the_counter_requests_within_requests_arrive(tmp_path: Path) -> None:
+    recorder = Recorder(tmp_path / "counter.sock")
+
+    def send(pieces: list[bytes]) -> None:
+        with socket.socket(socket.AF_UNIX) as line, contextlib.suppress(OSError):
+            line.settimeout(1)
+            line.connect(str(tmp_path / "counter.sock"))
+            line.sendall(b"".join(pieces))
+            everything(line)
+
+    inside = smuggled(send)
+    assert len({inside[one.body] for one in recorder.take() if one.body in inside}) > 10
+    recorder.shutdown()
