@@ -6,7 +6,6 @@ import os
 import re
 import shutil
 import subprocess
-import sys
 import tempfile
 import time
 from pathlib import Path
@@ -14,13 +13,10 @@ from typing import Iterator, Mapping, Protocol
 
 import pytest
 
+from tests.fence.fresh import INCLUDED, Fresh, bootstrap
 from tests.fence.site import Site, free_port
 
 TOP = Path(__file__).resolve().parents[2]
-sys.path.insert(0, str(TOP / "tests/samples/package_parts"))
-
-from fresh import INCLUDED, Fresh, bootstrap  # noqa: E402
-
 #: Groups of the people of docs/INSTALL.md.
 GROUPS = {"anna": "teller", "bert": "supervisor", "cleo": "registrar", "dora": "office"}
 #: In memory if possible: a store waits for the disk at each sync.
@@ -158,7 +154,7 @@ def root() -> Iterator[Path]:
         yield Path(os.environ["FRESH_ROOT"])
         return
     with tempfile.TemporaryDirectory(prefix="fence.", dir=MEMORY) as made:
-        yield Path(bootstrap(made, included=f"{INCLUDED},easy-rsa"))
+        yield Path(bootstrap(made))
 
 
 def blocks(page: str, heading: str) -> list[str]:

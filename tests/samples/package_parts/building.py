@@ -262,21 +262,3 @@ def evident(release: Release, program: str | Path) -> None:
     right(lacking == [], "the evidence has the sum of the program and of each package", lacking)
     lines = ["rattle-kit-13f logic dac8208d650f15bf", "50 of the 128 that `libc` declares", "13 of the 22 that `os` declares"]
     right(all(line in said for line in lines), "it names the toolchain and the axioms", said)
-
-
-def repacked(folder: Path, release: Release, name: str, old: str, new: str) -> Path:
-    """A package with a changed maintainer script or file, for a control."""
-    tree = folder / "repacked"
-    done("dpkg-deb", "-R", str(release.deb("ladwenpik")), str(tree))
-    change(tree / name, old, new)
-    done("dpkg-deb", "--root-owner-group", "-b", str(tree), str(folder / "wrong.deb"))
-    shutil.rmtree(tree)
-    return folder / "wrong.deb"
-
-
-def release_before(folder: Path, words: Sequence[str | Path]) -> Release:
-    """A release of a lower version, which differs in a file of settings too."""
-    tree = folder / "before"
-    change(tree / "packaging" / "debian" / "changelog", "(1.0.0-1)", "(1.0.0-0)")
-    change(tree / "samples" / "nginx" / "pass_to_counter.conf", "# Passes", "# As it was before. Passes")
-    return Release(tree, folder / "packages-before", words)
