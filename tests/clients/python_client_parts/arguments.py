@@ -88,18 +88,19 @@ def check_openings() -> None:
             "desk": (-1, 1000, True, 1.5, "x"),
             "patience": (-1, "x", True, float("nan"), float("inf")),
             "time_limit": (0, -1, None, "x"),
-            "user": (7, "a:b", "a\nb"),
-            "password": (7, "a\nb", "alone"),
-            "certificate": (7, b"bytes"),
+            "certificate": (7, b"bytes", "no.pem"),
+            "key": (7, b"bytes", "alone.pem"),
+            "ca": (7, b"bytes"),
             "archive": (7, "", "a\0b"),
         }
         for name, values in wrong.items():
             for value in values:
-                words: dict[str, Any] = {"journal": place / "a.journal", "address": "http://127.0.0.1:9", "desk": 3, **({"user": "u"} if name == "password" and value != "alone" else {}), name: value}
+                words: dict[str, Any] = {"journal": place / "a.journal", "address": "http://127.0.0.1:9", "desk": 3, name: value}
                 raises(client.BadValue, lambda: client.Counter(words.pop("journal"), words.pop("address"), **words))
             right(not (place / "a.journal").exists(), f"{name}: {len(values)} wrong ones, and no journal is made")
-        for certificate in (place / "no.pem", place / "missing.pem"):
-            raises(client.BadValue, lambda: client.Counter(place / "a.journal", "https://127.0.0.1:9", desk=3, certificate=certificate))
+        for file in (place / "no.pem", place / "missing.pem"):
+            raises(client.BadValue, lambda: client.Counter(place / "a.journal", "https://127.0.0.1:9", desk=3, certificate=file))
+            raises(client.BadValue, lambda: client.Counter(place / "a.journal", "https://127.0.0.1:9", desk=3, ca=file))
         lists: tuple[Any, ...] = ((), [1, 1], [1000], "12", None, 7)
         for desks_of in lists:
             raises(client.BadValue, lambda: client.Pool(place, desks=desks_of))

@@ -6,9 +6,8 @@ import json
 from typing import Any, Iterator, Optional, Tuple
 from unittest import mock
 
-import ee_counter_client.counter as counter_module
-from bench import DAY, client, control, desks, folder, right, there, true_counter
-from ee_counter_client.testing import AFTER, BEFORE, FAULTS, OF_ONE_SENDING, FakeCounter, fake as fake_module
+from bench import DAY, client, control, desks, folder, raises, right, there, true_counter
+from ee_counter_client.testing import ENDING, FAULTS, OF_ONE_SENDING, FakeCounter, fake as fake_module
 
 #: The method, the path and the body of a message.
 Message = Tuple[str, str, Optional[str]]
@@ -96,7 +95,7 @@ def gate_faults() -> None:
     """Each fault of the gate over the fake counter: the request is done once, and the client says how often it was sent."""
     for fault in FAULTS:
         kills: list[str] = []
-        with desks("L1EE") as (place, fake, gate), client.Counter(place / "a.journal", gate.address, desk=3, time_limit=1) as counter, mock.patch.object(counter_module, "SIGN_IN_PAUSE", 0.1):
+        with desks("L1EE") as (place, fake, gate), client.Counter(place / "a.journal", gate.address, desk=3, time_limit=1) as counter:
             gate.kill = lambda: kills.append(fault)
             gate.faults = [fault]
             if fault in OF_ONE_SENDING:
@@ -105,8 +104,10 @@ def gate_faults() -> None:
                 except (client.Fault, client.Forbidden) as error:
                     right(fake.tickets == [] and counter.open_request is None, f"{fault}: {error}")
                     continue
+            if fault in ENDING:
+                raises(client.CertificateRefused, lambda: counter.redeem(DAY, 7, ["L1EE"]))
             ticket = counter.redeem(DAY, 7, ["L1EE"])
-            wanted = 2 if fault in BEFORE + AFTER else 1
+            wanted = 1 if fault in OF_ONE_SENDING else 2
             right((len(fake.tickets), there(ticket.request).sent, gate.met) == (1, wanted, [fault]) and len(kills) == ("killed" in fault), f"{fault}: sent {wanted} times, done once")
 
 

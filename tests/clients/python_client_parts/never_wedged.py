@@ -14,7 +14,7 @@ import ee_counter_client.lookups as lookups_module
 import ee_counter_client.spelling as spelling
 import ee_counter_client.way as way
 from bench import DAY, client, control, desks, encrypted, folder, journal_text, listener, raises, right, there, timed
-from ee_counter_client.testing import Gate
+from ee_counter_client.testing import ENDING, Gate
 
 BOND = {"serial": "L1EE", "denom": 50, "issued": "2010-11", "owner": 7}
 
@@ -51,14 +51,14 @@ def check_limits() -> None:
 PAGES: tuple[tuple[str, type[client.CounterError], type[client.CounterError]], ...] = (
     ("other page", client.ForeignAnswer, client.WrongSetup),
     ("redirect", client.ForeignAnswer, client.WrongSetup),
-    ("signed out", client.ForeignAnswer, client.WrongSetup),
-    ("no password", client.SignInRefused, client.WrongSetup),
+    ("proxy page", client.ForeignAnswer, client.WrongSetup),
+    ("no certificate", client.CertificateRefused, client.WrongSetup),
     ("no gateway", client.NotReady, client.Retryable),
 )
 
 
 def set_up() -> None:
-    """Before the first good exchange a page that no counter wrote, a wrong password, host or certificate end a call at once, with nothing in the journal."""
+    """Before the first good exchange a page that no counter wrote, a wrong host or certificate end a call at once, with nothing in the journal."""
     check_pages()
     control("a client that takes the first answer for granted goes on trying", check_pages, mock.patch.object(client.Counter, "_try_the_way", lambda *_: None), mock.patch.object(client.Counter, "_is_known", property(lambda _: True, lambda *_: None), create=True))
     check_ways()
@@ -90,16 +90,16 @@ def check_ways() -> None:
         with client.Counter(place / "a.journal", f"https://127.0.0.1:{port}") as counter, timed(2):
             untrusted = raises(client.UntrustedCertificate, lambda: counter.redeem(DAY, 7, ["L1EE"]))
             right(counter.open_request is None and fake.tickets == [], f"a certificate: {untrusted}")
-        with client.Counter(place / "a.journal", f"https://127.0.0.1:{port}", certificate=place / "certificate.pem") as counter:
+        with client.Counter(place / "a.journal", f"https://127.0.0.1:{port}", ca=place / "certificate.pem") as counter:
             right(counter.redeem(DAY, 7, ["L1EE"]).number == 1, "control: with the certificate named, the same call pays")
 
 
 def after_good() -> None:
     """After the first good exchange the same pages are met on the way, and the request is sent again."""
-    with desks("L1EE", "L2EE") as (place, _, gate), client.Counter(place / "a.journal", gate.address, desk=3) as counter, mock.patch.object(counter_module, "SIGN_IN_PAUSE", 0.1):
-        gate.faults = [fault for fault, _, _ in PAGES]
+    with desks("L1EE", "L2EE") as (place, _, gate), client.Counter(place / "a.journal", gate.address, desk=3) as counter:
+        gate.faults = [fault for fault, _, _ in PAGES if fault not in ENDING]
         ticket = counter.redeem(DAY, 7, ["L1EE"])
-        right((ticket.number, there(ticket.request).sent) == (1, 6), "after a good exchange each of them is met, and the ticket comes")
+        right((ticket.number, there(ticket.request).sent) == (1, 5), "after a good exchange each of them is met, and the ticket comes")
 
 
 def while_open() -> None:
@@ -108,52 +108,40 @@ def while_open() -> None:
         gate.faults = ["lost answer"] * 50
         with client.Counter(place / "a.journal", gate.address, desk=3, patience=2) as counter:
             raises(client.NoReply, lambda: counter.redeem(DAY, 7, ["L1EE"]))
-        gate.is_wide, gate.faults = True, ["no password"] * 2
+        gate.is_wide, gate.faults = True, ["no certificate"] * 2
         with client.Counter(place / "a.journal", gate.address) as counter:
-            error = raises(client.SignInRefused, counter.finish)
-            right(error.may_be_done and there(counter.open_request).sent > 1, "with a wrong password an open request stays open, and may have been done")
+            error = raises(client.CertificateRefused, counter.finish)
+            right(error.may_be_done and there(counter.open_request).sent > 1, "without a certificate an open request stays open, and may have been done")
             gate.faults = []
             paid = counter.finish()
-            right(isinstance(paid, client.Ticket) and paid.number == 1, "control: with the right one it gets its ticket")
+            right(isinstance(paid, client.Ticket) and paid.number == 1, "control: with one it gets its ticket")
 
 
-# ---- signed out
+# ---- a certificate that is revoked meanwhile
 
 
-def signed_out() -> None:
-    """A password that isn't accepted any more: a look-up ends at once, and an act waits so long that no proxy locks the address out, also over several calls."""
-    right(counter_module.SIGN_IN_PAUSE >= 150, "four sendings in ten minutes at most")
-    check_signed_out()
-    control("without the pause an act is sent again and again", check_signed_out, mock.patch.object(counter_module, "SIGN_IN_PAUSE", 0.0))
-    signed_in_again()
+def revoked() -> None:
+    """A certificate that isn't accepted any more, after a good exchange: a look-up and an act end at once, and the request stays open. With another one the same call gets its reply."""
+    check_revoked()
+    control("a client that goes on trying", check_revoked, mock.patch.object(client.Lookups, "_ends", lambda counter, _: not counter._is_known))
 
 
-def check_signed_out() -> None:
-    with desks("L1EE", "L2EE") as (place, fake, gate), client.Counter(place / "a.journal", gate.address, desk=3, patience=1) as counter:
-        lookups = client.Lookups(gate.address)
+def check_revoked() -> None:
+    with desks("L1EE", "L2EE") as (place, fake, gate), client.Counter(place / "a.journal", gate.address, desk=3, patience=2) as counter:
+        lookups = client.Lookups(gate.address, patience=2)
         right(counter.ticket(1) is None and lookups.ticket(1) is None, "a good exchange")
-        gate.is_wide, gate.faults = True, ["no password"] * 50
+        gate.is_wide, gate.faults = True, ["no certificate"] * 50
         for asked in (counter, lookups):
             before = len(gate.heads)
             with timed(0.9):
-                error = raises(client.SignInRefused, lambda: asked.ticket(1))
+                error = raises(client.CertificateRefused, lambda: asked.ticket(1))
             right(len(gate.heads) == before + 1 and not error.may_be_done, f"a look-up of a {type(asked).__name__} ends at once: {error}")
-        before = len(gate.heads)
-        for _ in range(3):
-            with timed(2, 0.99):
-                unsure = raises(client.NoReply, lambda: counter.redeem(DAY, 7, ["L1EE"], key="a"))
-        right(len(gate.heads) <= before + 2 and unsure.may_be_done, f"three calls of an act don't ask again and again: {unsure}", gate.heads[before:])
-
-
-def signed_in_again() -> None:
-    with desks("L1EE", "L2EE") as (place, fake, gate), client.Counter(place / "a.journal", gate.address, desk=3, patience=60) as counter, mock.patch.object(counter_module, "SIGN_IN_PAUSE", 0.7):
-        counter.ticket(1)
-        gate.faults = ["no password"]
-        with timed(5, 0.69):
-            ticket = counter.redeem(DAY, 7, ["L1EE"])
-        right((ticket.number, there(ticket.request).sent) == (1, 2), "with the password accepted again, the act is done after the pause")
-        with timed(0.6):
-            right(counter.redeem(DAY, 7, ["L2EE"]).number == 2, "and the next one without any")
+        with timed(0.9):
+            error = raises(client.CertificateRefused, lambda: counter.redeem(DAY, 7, ["L1EE"], key="a"))
+        right(error.may_be_done and there(counter.open_request).sent == 1 and fake.tickets == [], "an act too, and its request stays open")
+        gate.faults = []
+        ticket = counter.redeem(DAY, 7, ["L1EE"], key="a")
+        right((ticket.number, there(ticket.request).sent) == (1, 2), "with a certificate that is accepted, the same call pays, once")
 
 
 # ---- patience
@@ -267,5 +255,5 @@ def full_disk() -> None:
         right(there(counter.redeem(DAY, 7, ["L1EE"]).request).sent == 1, "control: with room the same call pays")
 
 
-CASES = (limits, set_up, signed_out, patience, abandoning, full_disk)
+CASES = (limits, set_up, revoked, patience, abandoning, full_disk)
 __all__ = ["CASES", "Gate"]

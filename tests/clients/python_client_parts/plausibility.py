@@ -8,7 +8,6 @@ from pathlib import Path
 from typing import Callable, ContextManager, Iterable, Sequence
 from unittest import mock
 
-import ee_counter_client.counter as counter_module
 import ee_counter_client.plausible as plausible
 from bench import DAY, client, control, desks, folder, journal_text, raises, right, there, timed
 from ee_counter_client.testing import FakeCounter, Gate
@@ -154,14 +153,12 @@ def not_answered() -> None:
         with timed(2, 0.99):
             error = raises(client.NoAnswer, lambda: counter.open_day(after(0)))
         right(counter.open_request is None and not error.may_be_done and gate.bodies == [], f"a counter that doesn't answer: {error}")
-        gate.faults = ["no password"] * 90
+        gate.faults = ["no certificate"] * 90
         with timed(0.9):
-            raises(client.SignInRefused, lambda: counter.open_day(after(0)))
-        before = len(gate.heads)
-        raises(client.NoAnswer, lambda: counter.open_day(after(0)))
-        right(len(gate.heads) == before and counter.open_request is None, "a password that isn't accepted ends it, and the next call waits")
+            raises(client.CertificateRefused, lambda: counter.open_day(after(0)))
+        right(gate.bodies == [] and counter.open_request is None, "a certificate that isn't accepted ends it")
         gate.faults = []
-    with folder() as place, FakeCounter() as fake, Gate(fake) as gate, on(), client.Counter(place / "b.journal", gate.address, desk=3) as counter, mock.patch.object(counter_module, "SIGN_IN_PAUSE", 0.1):
+    with folder() as place, FakeCounter() as fake, Gate(fake) as gate, on(), client.Counter(place / "b.journal", gate.address, desk=3) as counter:
         right(counter.open_day(after(0)).day == TODAY, "control: answered, it is opened")
 
 

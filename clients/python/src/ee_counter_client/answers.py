@@ -6,12 +6,13 @@ import re
 from typing import Any, Callable, NamedTuple, Optional, Sequence, TypeVar
 
 from .errors import (
+    REASONS,
+    CertificateRefused,
     CounterError,
     Fault,
     Forbidden,
     ForeignAnswer,
     NotReady,
-    SignInRefused,
     is_known_shape,
     shown,
 )
@@ -24,8 +25,6 @@ NUMBER_REUSED = 10
 NOT_FOUND = 69
 #: Faults of the way, not of what was sent: the same request is sent again.
 DAMAGED = (60, 61, 63, 68)
-#: The body of an answer 403 by which a proxy says that the user's group may not make the request. It passed nothing to the counter.
-FORBIDDEN = '{"forbidden":"group"}'
 #: Statuses of a proxy whose counter doesn't answer it.
 GATEWAY = (502, 503, 504)
 #: How much of a foreign page an error quotes, in characters.
@@ -165,8 +164,9 @@ def reply_in(path: str, fields: Json, text: str) -> Optional[Json]:
 
 
 class Answer(NamedTuple):
-    """What came: a `reply`, a "refused" request, a "fault", an "unserved" request, one that the user may not make ("forbidden"), or no answer of the counter ("none"),
-    with what was met instead. `setup` is the error that it is before the first good exchange."""
+    """What came: a `reply`, a "refused" request, a "fault", an "unserved" request, one that the proxy didn't pass on ("forbidden", for the reason `value`), or no
+    answer of the counter ("none"), with what was met instead. `setup` is the error that it is before the first good exchange.
+    """
 
     kind: str
     value: Any = None
@@ -174,25 +174,30 @@ class Answer(NamedTuple):
     setup: Optional[CounterError] = None
 
 
+def reason_in(status: int, text: str) -> Optional[str]:
+    """Why a proxy didn't pass a request on, by its name for it. None if it says no reason."""
+    try:
+        value = json.loads(text) if 400 <= status < 500 else None
+    except (ValueError, RecursionError):
+        return None
+    reason = value.get("forbidden") if isinstance(value, dict) else None
+    return reason if isinstance(reason, str) else None
+
+
 def foreign(status: int, text: str) -> Answer:
     """What a proxy, or another program, says in the counter's place."""
-    if status == 403 and text == FORBIDDEN:
-        return Answer("forbidden", met="the proxy says that this user may not do this")
+    reason = reason_in(status, text)
+    if reason == "certificate":
+        error = CertificateRefused()
+        return Answer("none", met=str(error), setup=error)
+    if reason in REASONS:
+        return Answer("forbidden", reason, met=REASONS[reason])
     if status == 429:
         return Answer("none", met="too many requests (status 429)")
     met = f"an answer of status {status} that isn't the counter's"
-    if status in (401, 407):
-        return Answer(
-            "none",
-            met=met,
-            setup=SignInRefused(f"the user and the password aren't accepted (status {status})"),
-        )
     if status in GATEWAY:
-        return Answer(
-            "none",
-            met=met,
-            setup=NotReady(f"a proxy answers, and the counter behind it doesn't (status {status})"),
-        )
+        behind = f"a proxy answers, and the counter behind it doesn't (status {status})"
+        return Answer("none", met=behind, setup=NotReady(behind))
     begins = " ".join(text[: 4 * QUOTED].split())[:QUOTED]
     return Answer("none", met=met, setup=ForeignAnswer(status, f"{met}: {begins!r}"))
 
@@ -236,4 +241,4 @@ def is_of_one_sending(answer: Answer) -> bool:
 
 def error_of(answer: Answer, path: str) -> CounterError:
     """The error of an answer to one sending."""
-    return Forbidden(path) if answer.kind == "forbidden" else Fault(answer.value)
+    return Forbidden(path, answer.value) if answer.kind == "forbidden" else Fault(answer.value)

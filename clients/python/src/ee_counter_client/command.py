@@ -10,7 +10,6 @@ from .answers import compact
 from .counter import Counter
 from .errors import (
     BadCall,
-    BadValue,
     CounterError,
     Fault,
     Forbidden,
@@ -236,7 +235,7 @@ ARGUMENTS = {
 }
 STATUSES = """statuses:
   0  done
-  1  refused or forbidden, or there is no such thing, or not all of the interest can be given
+  1  refused, or this user may not do it, or there is no such thing, or not all of the interest can be given
   2  the command line, a value or a file is wrong, or a value isn't plausible; nothing was sent
   3  no reply yet (the journal keeps the request open), the set-up is wrong, or the journal can't be used"""
 
@@ -261,14 +260,16 @@ def words_of(line: Optional[Sequence[str]]) -> argparse.Namespace:
     parser.add_argument(
         "--at", default=ADDRESS, metavar="ADDRESS", help="the counter's address (%(default)s)"
     )
-    parser.add_argument("--user", help="the user, if a proxy asks for a password")
-    parser.add_argument(
-        "--password-file", metavar="FILE", help="a file whose first line is the password"
-    )
     parser.add_argument(
         "--certificate",
         metavar="FILE",
-        help="a file with the certificate to trust, instead of the system's",
+        help="the user's certificate, with which nginx is asked; the file may have its key too",
+    )
+    parser.add_argument(
+        "--key", metavar="FILE", dest="certificate_key", help="the key of the certificate"
+    )
+    parser.add_argument(
+        "--ca", metavar="FILE", help="the certificates to trust, instead of the system's"
     )
     parser.add_argument(
         "--archive",
@@ -324,32 +325,21 @@ def parser_of(
     )
 
 
-def password_of(words: argparse.Namespace) -> Optional[str]:
-    """Reads the password of a file."""
-    if words.password_file is None:
-        return None
-    try:
-        with open(words.password_file, encoding="utf-8") as file:
-            return file.readline().rstrip("\r\n")
-    except (OSError, ValueError) as failure:
-        raise BadValue(f"the password can't be read: {failure}") from None
-
-
 def run(words: argparse.Namespace) -> int:
     """Runs a command."""
-    user, password, certificate = words.user, password_of(words), words.certificate
+    certificate, key, ca = words.certificate, words.certificate_key, words.ca
     if words.journal is None:
         lookups = Lookups(
-            words.at, user=user, password=password, certificate=certificate, patience=words.patience
+            words.at, certificate=certificate, key=key, ca=ca, patience=words.patience
         )
         return next(run for name, _, _, run in LOOK_UPS if name == words.command)(lookups, words)
     with Counter(
         words.journal,
         words.at,
         desk=words.desk,
-        user=user,
-        password=password,
         certificate=certificate,
+        key=key,
+        ca=ca,
         patience=words.patience,
         archive=words.archive,
     ) as counter:
@@ -360,7 +350,7 @@ def run(words: argparse.Namespace) -> int:
 
 def status_of(error: CounterError) -> int:
     """The exit status of an error."""
-    if isinstance(error, (Refused, Forbidden)):
+    if isinstance(error, Refused) or (isinstance(error, Forbidden) and error.reason == "group"):
         return 1
     return 2 if isinstance(error, BadCall) and not isinstance(error, Fault) else 3
 

@@ -7,7 +7,6 @@ import json
 import logging
 import os
 import threading
-import time
 from types import TracebackType
 from typing import Any, Iterator, Mapping, Optional, Tuple, Type, TypeVar, Union
 
@@ -34,7 +33,6 @@ from .errors import (
     Implausible,
     KeyReused,
     Refused,
-    SignInRefused,
     StillOpen,
     printable,
 )
@@ -65,8 +63,6 @@ from .way import Deadline
 
 LOG = logging.getLogger("ee_counter_client")
 
-#: Seconds between one sending of a request whose password wasn't accepted and the next. A proxy that locks an address out counts attempts in ten minutes, mostly five.
-SIGN_IN_PAUSE = 180.0
 #: A look-up that names no customer and no ticket. It tells whether a counter is at the address.
 TRIAL = "/batch/2005-05-01"
 Kind = TypeVar("Kind")
@@ -84,9 +80,8 @@ OUTCOMES = {
 class Counter(Lookups):
     """Sends requests to a counter, for the desk of a journal. Every request gets its one reply, whatever is stopped or lost.
 
-    `journal` is the path of the journal, which is created if `desk` (0 to 999) is given. `address` is as http://127.0.0.1:8377, or https://.. with `user`, `password`
-    and `certificate` (a file that is trusted instead of the system's). `patience` is how many seconds a call may take (300; None without an end); `time_limit` how many
-    seconds one sending may take. `archive` names a file for every request and its reply.
+    `journal` is the path of the journal, which is created if `desk` (0 to 999) is given. `address`, `certificate`, `key` and `ca` are
+    as in Lookups. `patience` is how many seconds a call may take (300; None without an end); `time_limit` how many seconds one sending may take. `archive` names a file for every request and its reply.
 
     Threads may share it: their calls wait for one another. A process that is forked from this one may not use it (Closed).
 
@@ -98,18 +93,18 @@ class Counter(Lookups):
         address: str = ADDRESS,
         *,
         desk: Optional[int] = None,
-        user: Optional[str] = None,
-        password: Optional[str] = None,
         certificate: Optional[Path] = None,
+        key: Optional[Path] = None,
+        ca: Optional[Path] = None,
         patience: Optional[float] = PATIENCE,
         time_limit: float = TIME_LIMIT,
         archive: Optional[Path] = None,
     ) -> None:
         super().__init__(
             address,
-            user=user,
-            password=password,
             certificate=certificate,
+            key=key,
+            ca=ca,
             patience=patience,
             time_limit=time_limit,
         )
@@ -123,8 +118,6 @@ class Counter(Lookups):
             self._journal.close()
             raise
         self._lock, self._process, self._is_closed = threading.RLock(), os.getpid(), False
-        #: When a password wasn't accepted last, by the monotonic clock.
-        self._signed_out: Optional[float] = None
 
     def __enter__(self) -> "Counter":
         return self
@@ -329,11 +322,9 @@ class Counter(Lookups):
         bookmark: Any,
         key: Optional[str],
         kind: Type[Kind],
-        final: Tuple[Type[CounterError], ...] = (),
         is_questioned: bool = False,
     ) -> Kind:
-        """Sends a new request, or the same one that is still open, until its reply has come. An error of the set-up that is `final` ends it whenever it comes. A new
-        request that `is_questioned` has to be plausible."""
+        """Sends a new request, or the same one that is still open, until its reply has come. A new request that `is_questioned` has to be plausible."""
         key, bookmark = key_of(key), bookmark_of(bookmark)
         with self._turn() as deadline:
             self._journal.mend()
@@ -347,26 +338,22 @@ class Counter(Lookups):
                 if is_questioned and path == "/day/open":
                     self._question_gap(fields["day"], deadline)
                 self._opened(path, fields, bookmark, key)
-                result = self._settled(deadline, final)
+                result = self._settled(deadline)
             assert isinstance(result, kind)
             return result
 
     def _question_gap(self, day: str, deadline: Deadline) -> None:
         """Raises Implausible if none of the seven days before was closed, and the counter has a ticket: its last day is longer ago. No look-up names the last day."""
-        try:
-            is_near = any(
-                self._asked_within(deadline, f"/batch/{before}", batch_in)
-                for before in days_before(day)
+        is_near = any(
+            self._asked_within(deadline, f"/batch/{before}", batch_in)
+            for before in days_before(day)
+        )
+        if not is_near and self._asked_within(deadline, "/ticket/1", ticket_in) is not None:
+            raise Implausible(
+                [
+                    f"{day} is more than {MOST_DAYS} days after the last day that was opened: none of the {MOST_DAYS} days before it has a batch"
+                ]
             )
-            if not is_near and self._asked_within(deadline, "/ticket/1", ticket_in) is not None:
-                raise Implausible(
-                    [
-                        f"{day} is more than {MOST_DAYS} days after the last day that was opened: none of the {MOST_DAYS} days before it has a batch"
-                    ]
-                )
-        except SignInRefused:
-            self._signed_out = time.monotonic()
-            raise
 
     def _kept(self, path: str, fields: Json, key: Optional[str]) -> Optional[Result]:
         """The result of a key whose request has its reply. None if there is none."""
@@ -429,7 +416,6 @@ class Counter(Lookups):
     def _try_the_way(self, deadline: Deadline) -> None:
         """Before the first good exchange: asks for something that changes nothing. A wrong set-up ends the call before its request is in the journal. A counter that
         doesn't answer doesn't: the request is sent as often as the patience allows."""
-        self._wait_signed_out(Trials(deadline))
         if not self._is_known:
             answer = self._exchanged(
                 "GET", TRIAL, None, lambda text: with_its(batch_in(text), day=TRIAL[-10:]), deadline
@@ -449,13 +435,12 @@ class Counter(Lookups):
         error.may_be_done = still is not None and still["sent"] > 0
         return error
 
-    def _settled(self, deadline: Deadline, final: Tuple[Type[CounterError], ...] = ()) -> Result:
+    def _settled(self, deadline: Deadline) -> Result:
         """Sends what is open until its reply has come. NumberReused means that another request of this desk has the number: this one was never done under it,
         and continues under a higher one. A fault, or Forbidden, ends only a request that was sent once.
         """
         trials = Trials(deadline)
         while True:
-            self._wait_signed_out(trials)
             answer = self._sent_once(deadline)
             if answer.kind == "reply" or (
                 answer.kind == "refused" and answer.value["code"] != NUMBER_REUSED
@@ -468,9 +453,8 @@ class Counter(Lookups):
                 path = self._journal.record["open"]["path"]
                 self._journal.change(open=None)
                 raise error_of(answer, path)
-            if answer.setup is not None and (not self._is_known or isinstance(answer.setup, final)):
+            if answer.setup is not None and self._ends(answer.setup):
                 raise self._as_open(answer.setup)
-            self._signed_out = time.monotonic() if isinstance(answer.setup, SignInRefused) else None
             trials.failed(answer)
             LOG.warning(
                 "no reply: %s%s",
@@ -480,20 +464,6 @@ class Counter(Lookups):
                 else "",
             )
             if not trials.pause():
-                raise trials.over(self.open_request)
-
-    def _wait_signed_out(self, trials: Trials) -> None:
-        """Waits after a password that wasn't accepted, also in the next call, so that no proxy locks the address out."""
-        rest = (
-            0.0 if self._signed_out is None else self._signed_out + SIGN_IN_PAUSE - time.monotonic()
-        )
-        if rest > 0:
-            trials.met = trials.met or "the user and the password weren't accepted"
-            LOG.warning(
-                "the user and the password weren't accepted; the request is sent again in %.0f seconds",
-                rest,
-            )
-            if not trials.wait(rest):
                 raise trials.over(self.open_request)
 
     def _sent_once(self, deadline: Deadline) -> Answer:

@@ -4,7 +4,7 @@
       BadCall          the program or its data must be corrected; nothing was changed
         BadValue, BadFile, Implausible, Incomplete, KeyReused, Closed, Fault
       WrongSetup       a person must correct the set-up
-        UnknownHost, UntrustedCertificate, SignInRefused, Forbidden, ForeignAnswer, BadJournal, BadArchive, FileFailed
+        UnknownHost, UntrustedCertificate, CertificateRefused, Forbidden, ForeignAnswer, BadJournal, BadArchive, FileFailed
       Retryable        nothing was changed; the same call may succeed later
         NotReady, NoAnswer, JournalInUse, Busy
       UnknownOutcome   a request may have been done, and has no reply yet
@@ -157,16 +157,36 @@ class UntrustedCertificate(WrongSetup):
     """The certificate of the server isn't trusted, or is for another name. No request was sent to it."""
 
 
-class SignInRefused(WrongSetup):
-    """A proxy doesn't accept the user and the password (status 401 or 407)."""
+class CertificateRefused(WrongSetup):
+    """The proxy got no certificate of the staff, or one that has ended or was revoked. It passed nothing on: give the client a valid `certificate` and its `key`.
+    It ends a call at once, whenever it comes. A request that was open stays open."""
+
+    def __init__(self) -> None:
+        super().__init__(
+            "the proxy got no certificate of the staff, or one that has ended or was revoked: give a valid certificate and its key"
+        )
+
+
+#: Why a proxy doesn't pass a request on, and what to do about it, by its name for it.
+REASONS = {
+    "group": "this user may not do this",
+    "origin": "the proxy took this for a request of another site's page",
+    "client": "the proxy didn't find the header X-Counter-Client",
+    "type": "the proxy didn't find the type application/json",
+    "request": "the proxy can't read the request",
+    "chunks": "the request reached the proxy in chunks",
+    "size": "the request is too long for the proxy: send fewer rows in one request",
+    "host": "the address isn't under the counter's own name: correct it",
+}
 
 
 class Forbidden(WrongSetup):
-    """A proxy says that this user may not make the request (`path`), which was sent once. Nothing was done, and the journal keeps nothing of it."""
+    """A proxy didn't pass the request (`path`) on, which was sent once, for a `reason` of REASONS: "group" if this user may not make it. Nothing was done, and
+    the journal keeps nothing of it."""
 
-    def __init__(self, path: str) -> None:
-        self.path = path
-        super().__init__(f"this user may not do this ({path}); nothing was done")
+    def __init__(self, path: str, reason: str = "group") -> None:
+        self.path, self.reason = path, reason
+        super().__init__(f"{REASONS[reason]} ({path}); nothing was done")
 
 
 class ForeignAnswer(WrongSetup):

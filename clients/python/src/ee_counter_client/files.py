@@ -8,7 +8,7 @@ from typing import Any, Callable, Dict, Iterator, List, NamedTuple, Optional, Se
 
 from .answers import compact
 from .counter import Counter
-from .errors import BadFile, BadValue, Fault, Refused, SignInRefused
+from .errors import BadFile, BadValue, Fault, Refused
 from .lookups import Path, path_of
 from .plausible import doubts_of_bond, question
 from .results import Added
@@ -98,7 +98,7 @@ def register(
 ) -> Registered:
     """Registers the bonds of an inventory file in requests of 500, and continues where an earlier call was stopped. `progress` is called with the rows that are done,
     and with all rows. Raises Implausible, before a row is sent, for rows as Counter.add_bonds does, unless `even_so`. A refusal names the rows of its request (`rows`),
-    and the line of the bond (`line`). A password that isn't accepted ends it at once, also after a good exchange: sent again and again, it would lock this address out.
+    and the line of the bond (`line`).
     """
     bonds = bonds_in(path)
     marks = list(digests(bonds))
@@ -117,7 +117,6 @@ def register(
                 {"registered": end, "digest": marks[end]},
                 None,
                 Added,
-                (SignInRefused,),
             )
         except (Refused, Fault) as refusal:
             refusal.rows = (place + 2, end + 1)

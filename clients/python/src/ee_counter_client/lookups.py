@@ -21,7 +21,7 @@ from .answers import (
     ticket_in,
     with_its,
 )
-from .errors import BadValue, CounterError, NoAnswer, NoReply, SignInRefused, refusal_of, shown
+from .errors import BadValue, CertificateRefused, CounterError, NoAnswer, NoReply, refusal_of, shown
 from .results import Batch, Request, Row, Sheet, Ticket, batch_of, row_of, ticket_of
 from .sheets import sheet_in
 from .spelling import (
@@ -83,8 +83,8 @@ class Trials:
 class Lookups:
     """Looks things up at a counter: sheets, tickets, batches and values. It changes nothing, has no files, and takes no desk.
 
-    `address` is as http://127.0.0.1:8377, or https://.. with `user`, `password` and `certificate` (a file that is trusted instead of the system's). `patience` is how
-    many seconds a call may take, None without an end; `time_limit` how many seconds one sending may take. Threads may share it, and look things up at once.
+    `address` is as http://127.0.0.1:8377, or https://.. with `certificate` and `key`, the files by which the user signs in (the certificate's file may have its key
+    too), and `ca`, a file of certificates that are trusted instead of the system's. `patience` is how many seconds a call may take, None without an end; `time_limit` how many seconds one sending may take. Threads may share it, and look things up at once.
 
     Raises BadValue. Nothing is sent."""
 
@@ -92,9 +92,9 @@ class Lookups:
         self,
         address: str = ADDRESS,
         *,
-        user: Optional[str] = None,
-        password: Optional[str] = None,
         certificate: Optional[Path] = None,
+        key: Optional[Path] = None,
+        ca: Optional[Path] = None,
         patience: Optional[float] = PATIENCE,
         time_limit: float = TIME_LIMIT,
     ) -> None:
@@ -105,9 +105,9 @@ class Lookups:
             raise BadValue("a time limit is more than 0 seconds")
         self._way = Way(
             address,
-            user,
-            password,
             None if certificate is None else path_of(certificate, "a certificate"),
+            None if key is None else path_of(key, "a key"),
+            None if ca is None else path_of(ca, "a list of trusted certificates"),
             f"ee_counter_client/{__version__}",
         )
         self._is_known = False
@@ -153,13 +153,17 @@ class Lookups:
         self._is_known = self._is_known or is_good(answer)
         return answer
 
+    def _ends(self, error: CounterError) -> bool:
+        """Whether an error of the set-up ends a call: before the first good exchange, and at any time if the certificate isn't valid."""
+        return not self._is_known or isinstance(error, CertificateRefused)
+
     def _asked(self, path: str, read: Reader) -> Any:
         """Asks until an answer has come. None if there is no such thing."""
         with self._turn() as deadline:
             return self._asked_within(deadline, path, read)
 
     def _asked_within(self, deadline: Deadline, path: str, read: Reader) -> Any:
-        """As `_asked`, in the turn of a call. A password that isn't accepted ends it at once: every attempt counts with a proxy that locks out."""
+        """As `_asked`, in the turn of a call."""
         trials = Trials(deadline)
         while True:
             answer = self._exchanged("GET", path, None, read, deadline)
@@ -171,9 +175,7 @@ class Lookups:
                 return None
             if is_of_one_sending(answer):
                 raise error_of(answer, path)
-            if answer.setup is not None and (
-                not self._is_known or isinstance(answer.setup, SignInRefused)
-            ):
+            if answer.setup is not None and self._ends(answer.setup):
                 raise answer.setup
             trials.failed(answer)
             LOG.warning("no reply: %s", trials.met)

@@ -1,7 +1,6 @@
 """The way to the counter: one message at a time, each on a connection of its own, within a time that the caller gives."""
 from __future__ import annotations
 
-import base64
 import http.client
 import io
 import queue
@@ -90,13 +89,17 @@ class Way:
     def __init__(
         self,
         address: str,
-        user: Optional[str],
-        password: Optional[str],
         certificate: Optional[str],
+        key: Optional[str],
+        ca: Optional[str],
         name: str,
     ) -> None:
         self.is_encrypted, self.host, self.port = parts_of(address)
-        self.context = context_of(certificate) if self.is_encrypted else None
+        if key is not None and certificate is None:
+            raise BadValue("a key needs its certificate")
+        if certificate is not None and not self.is_encrypted:
+            raise BadValue(f"a certificate needs an address of https, and not {address!r}")
+        self.context = context_of(ca, certificate, key) if self.is_encrypted else None
         host = f"[{self.host}]" if ":" in self.host else self.host
         self.headers = {
             "Host": host if self.port in (80, 443) else f"{host}:{self.port}",
@@ -104,9 +107,6 @@ class Way:
             "Accept-Encoding": "identity",
             CLIENT: name,
         }
-        authorization = authorization_of(user, password)
-        if authorization is not None:
-            self.headers["Authorization"] = authorization
 
     def exchange(
         self, method: str, path: str, value: Optional[Json], read: Reader, deadline: Deadline
@@ -201,33 +201,20 @@ def parts_of(address: object) -> Tuple[bool, str, int]:
     )
 
 
-def context_of(certificate: object) -> ssl.SSLContext:
-    """The context that trusts the certificate of a file, or the system's."""
-    if (
-        certificate is not None
-        and not isinstance(certificate, (str, bytes))
-        and not hasattr(certificate, "__fspath__")
-    ):
-        raise BadValue(f"a certificate is the path of a file, and not {certificate!r}")
+def context_of(ca: Optional[str], certificate: Optional[str], key: Optional[str]) -> ssl.SSLContext:
+    """The context that trusts the certificates of the file `ca`, or the system's, and sends the client's certificate."""
     try:
-        return ssl.create_default_context(cafile=cast(Optional[str], certificate))
+        context = ssl.create_default_context(cafile=ca)
     except (OSError, ValueError) as failure:
-        raise BadValue(f"the certificate {certificate!r} can't be read: {failure}") from None
-
-
-def authorization_of(user: object, password: object) -> Optional[str]:
-    """The header of a user and a password. None without a user."""
-    if user is None and password is None:
-        return None
-    if not isinstance(user, str) or ":" in user or not user.isprintable():
-        raise BadValue(
-            "a password needs a user"
-            if user is None
-            else f"a user is a text without a colon, and not {user!r}"
-        )
-    if password is not None and (not isinstance(password, str) or not password.isprintable()):
-        raise BadValue("a password is a text of printable characters")
-    return "Basic " + base64.b64encode(f"{user}:{password or ''}".encode()).decode()
+        raise BadValue(f"the certificates of {ca!r} can't be read: {failure}") from None
+    if certificate is not None:
+        try:
+            context.load_cert_chain(certificate, key, lambda: "")
+        except (OSError, ValueError) as failure:
+            raise BadValue(
+                f"the certificate {certificate!r} and the key {key or certificate!r} can't be used (a key belongs to its certificate, and has no passphrase): {failure}"
+            ) from None
+    return context
 
 
 def addresses_of(host: str, port: int, deadline: Deadline) -> List[Address]:

@@ -11,6 +11,6 @@
 The fake counter is no bank's books: it pays every bond its issue price, without interest, unless a test gives it values.
 """
 from .fake import FakeCounter
-from .gate import AFTER, BEFORE, FAULTS, OF_ONE_SENDING, Gate
+from .gate import AFTER, BEFORE, ENDING, FAULTS, OF_ONE_SENDING, Gate
 
-__all__ = ["AFTER", "BEFORE", "FAULTS", "FakeCounter", "Gate", "OF_ONE_SENDING"]
+__all__ = ["AFTER", "BEFORE", "ENDING", "FAULTS", "FakeCounter", "Gate", "OF_ONE_SENDING"]

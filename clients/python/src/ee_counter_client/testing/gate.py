@@ -10,19 +10,22 @@ A fault is done to the next POST:
   failed after    the counter has committed, and 503 StoreFailed is answered
   failed before   503 NoMemory is answered, and nothing reaches the counter
   other page      the message is dropped, and another program answers with its own page
-  no gateway      the message is dropped, and 502 is answered, as by a proxy without its counter
+  no gateway      the message is dropped, and 502 is answered, as by nginx without its counter
   redirect        the message is dropped, and 302 to another address is answered
-  too many        the message is dropped, and 429 is answered, as by a proxy that limits requests
-  signed out      the message is dropped, and 403 is answered with a page of a proxy
-  no password     the message is dropped, and 401 is answered, as by a proxy that doesn't know the user
+  too many        the message is dropped, and 429 is answered, as by nginx, which limits requests
+  proxy page      the message is dropped, and 403 is answered with a page of another proxy
   damaged         the message is dropped, and answered as one that was cut
   silent          the counter has committed, and no answer comes until the client goes
   dripping        the counter has committed, and its answer comes a byte in every `drip` seconds
 
+One ends the call, and the request stays open:
+
+  no certificate  the message is dropped, and 400 is answered, as by nginx without a valid certificate of the staff
+
 Two more answer one sending alone. They are final on the first sending of a request, and tell nothing on a later one:
 
   not json        the message is dropped, and 400 BadJson is answered, as if something had emptied it
-  forbidden       the message is dropped, and 403 is answered, as by a proxy whose user may not do this
+  forbidden       the message is dropped, and 403 is answered, as by nginx if this user may not do it
 """
 from __future__ import annotations
 
@@ -54,14 +57,14 @@ STANDING = {
         b"503 Service Unavailable", JSON, b'{"code":1,"unserved":"NoMemory"}'
     ),
     "other page": response(b"200 OK", HTML, PAGE),
-    "no gateway": response(b"502 Bad Gateway", HTML, PAGE),
+    "no gateway": response(b"502 Bad Gateway", JSON, b'{"unavailable":"counter"}'),
     "redirect": response(
         b"302 Found", HTML, PAGE, b"Location: https://elsewhere.example/login\r\n"
     ),
-    "too many": response(b"429 Too Many Requests", HTML, PAGE),
-    "signed out": response(b"403 Forbidden", HTML, PAGE),
-    "no password": response(
-        b"401 Unauthorized", HTML, PAGE, b'WWW-Authenticate: Basic realm="counter"\r\n'
+    "too many": response(b"429 Too Many Requests", JSON, b'{"forbidden":"rate"}'),
+    "proxy page": response(b"403 Forbidden", HTML, PAGE),
+    "no certificate": response(
+        b"400 Bad Request", JSON, b'{"forbidden":"certificate","message":"No certificate."}'
     ),
     "damaged": response(b"400 Bad Request", JSON, b'{"code":68,"fault":"Truncated"}'),
     "not json": response(b"400 Bad Request", JSON, b'{"code":64,"fault":"BadJson"}'),
@@ -78,13 +81,14 @@ BEFORE = (
     "no gateway",
     "redirect",
     "too many",
-    "signed out",
-    "no password",
+    "proxy page",
     "damaged",
 )
+#: The one that ends a call, and leaves its request open. The request doesn't reach the counter.
+ENDING = ("no certificate",)
 #: Those that are final on a first sending. The request doesn't reach the counter either.
 OF_ONE_SENDING = ("not json", "forbidden")
-FAULTS = AFTER + BEFORE + OF_ONE_SENDING
+FAULTS = AFTER + BEFORE + ENDING + OF_ONE_SENDING
 
 
 def whole_message(client: socket.socket) -> bytes:
@@ -199,7 +203,7 @@ class Gate:
         fault = self.fault_of(message)
         if fault == "killed before":
             self.kill()
-        if fault in BEFORE + OF_ONE_SENDING:
+        if fault in BEFORE + ENDING + OF_ONE_SENDING:
             client.sendall(STANDING.get(str(fault), b""))
             return
         text = self.answered(message)
