@@ -50,6 +50,11 @@ export const FORMATS = {
     const date = new Date(moment);
     return `${FORMATS.months[date.getMonth()]} ${date.getDate()}, ${date.getFullYear()}, ${clockInWords(date)}`;
   },
+  // A moment of the server's clock, in this machine's time zone, which it names.
+  server_time: (moment) => {
+    const zone = new Intl.DateTimeFormat(FORMATS.language, { timeZoneName: "short" }).formatToParts(moment).find((part) => part.type === "timeZoneName").value;
+    return `${timeInWords(moment)} ${zone}`;
+  },
   number: (number) => number.toLocaleString("en-US"),
   // Money as tellers read it, with a comma after each three digits.
   money: (cents) => `$${printMoney(cents).replace(/\B(?=([0-9]{3})+\.)/g, ",")}`,
@@ -64,17 +69,12 @@ export const monthInWords = (month) => FORMATS.month(month);
 export const dayInWords = (day) => FORMATS.day(day);
 export const weekdayInWords = (day) => FORMATS.weekday(day);
 export const timeInWords = (moment) => FORMATS.time(moment);
+export const serverTimeInWords = (moment) => FORMATS.server_time(moment);
 export const numberInWords = (number) => FORMATS.number(number);
 export const moneyInWords = (cents) => FORMATS.money(cents);
 export const amountInWords = (cents) => FORMATS.amount(cents);
 const bonds = (count) => FORMATS.bonds(count);
 const tickets = (count) => FORMATS.tickets(count);
-
-// A moment of the server's clock, in this machine's time zone, which it names.
-export function serverTimeInWords(moment) {
-  const zone = new Intl.DateTimeFormat(FORMATS.language, { timeZoneName: "short" }).formatToParts(moment).find((part) => part.type === "timeZoneName").value;
-  return `${timeInWords(moment)} ${zone}`;
-}
 
 // The number of a month by its name, or by the first three letters or more of it; null if there is none.
 export function monthNamed(name) {
