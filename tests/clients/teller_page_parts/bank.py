@@ -5,24 +5,27 @@ import http.client
 import json
 import shutil
 import socket
-import ssl
 import subprocess
 import sys
 import tempfile
 import threading
 import time
 from pathlib import Path
-from typing import Any, Protocol
+from typing import Any, Mapping, Protocol
 
 from gate import Gate
 
 TOP = Path(__file__).resolve().parents[3]
-sys.path.insert(0, str(TOP / "tests" / "shared"))
+sys.path[:0] = [str(TOP / "tests" / "shared"), str(TOP)]
 
 from counter_calls import free_port  # noqa: E402
-from nginx_sample import PAGE, Nginx  # noqa: E402
+from tests.fence.site import Site  # noqa: E402
 
-USER, PASSWORD = "nora", "a password of the test"
+PAGE = TOP / "clients" / "teller"
+#: The limit of a user's requests, and one that a test doesn't meet.
+RATE = {"zone=staff:10m rate=10r/s": "zone=staff:10m rate=1000r/s", "burst=200": "burst=100000"}
+
+USER, GROUPS = "nora", "teller supervisor office registrar"
 BANK, BRANCH = "First Bank of Testing", "Main Street"
 
 
@@ -84,6 +87,36 @@ class Server:
         subprocess.run([self.program, "export", "1", "--db", self.store], stdout=subprocess.DEVNULL, check=True)
 
 
+class Front(Site):
+    """nginx over samples/nginx, with the page of a folder and a log of each request."""
+
+    def __init__(self, folder: Path, port: int, groups: Mapping[str, str], page: Path, changed: Mapping[str, str]) -> None:
+        self.page = page
+        super().__init__(folder, f"http://127.0.0.1:{port}", groups, changed=changed)
+
+    def placed(self, text: str, counter: str) -> str:
+        logged = "include /etc/counter/extra/*/server.conf;"
+        own = {"/opt/counter/teller/": f"{self.page}/", "/etc/counter/page/": f"{self.page}/", logged: f"access_log {self.folder}/log/access.log combined;"}
+        for old, new in own.items():
+            text = text.replace(old, new)
+        return super().placed(text, counter)
+
+    def exported(self, user: str) -> Path:
+        """The user's certificate and key, as a browser imports them."""
+        self.staff.easyrsa("export-p12", user, "nopass")
+        return self.staff.folder / "private" / f"{user}.p12"
+
+    def regroup(self, user: str, groups: str) -> None:
+        """Gives the user other groups, and waits until nginx has them."""
+        self.write_groups({user: groups})
+        self.reload()
+        for _ in range(600):
+            if self.ask(user, "GET", "/user").json()["groups"] == groups:
+                return
+            time.sleep(0.1)
+        raise SystemExit(f"WRONG: nginx doesn't take the groups {groups} over")
+
+
 class Bank:
     """All of it, in a folder of its own."""
 
@@ -97,18 +130,29 @@ class Bank:
         self.store = self.folder / "day.db"
         self.server = Server(program, str(self.store))
         self.gate = Gate(self.server)
-        self.users = {USER: (PASSWORD, "teller supervisor office")}
+        self.users = {USER: GROUPS}
         self.teller = self.page_of_bank()
-        self.nginx = Nginx(self.folder / "nginx", self.gate.port, self.users, rate=100_000, page=self.teller)
+        self.nginx = Front(self.folder / "nginx", self.gate.port, self.users, self.teller, RATE)
         self.port = self.nginx.port
+        self.certificate = self.nginx.exported(USER)
+
+    def renew(self) -> None:
+        """Another certificate for the user, in place of a revoked one."""
+        self.nginx.staff.hire(USER)
+        self.certificate = self.nginx.exported(USER)
 
     def page_of_bank(self) -> Path:
         """The page as a bank sets it up, in a folder that a test may change."""
         shutil.copytree(PAGE, self.folder / "teller")
-        own = self.folder / "teller" / "bank.js"
-        branches = f'[{{ name: "{BRANCH}", from: 1, to: 9 }}]'
-        own.write_text(own.read_text().replace('BANK = ""', f'BANK = "{BANK}"').replace("BRANCHES = []", f"BRANCHES = {branches}"))
+        self.write_own({})
         return self.folder / "teller"
+
+    def write_own(self, words: Mapping[str, object] | None) -> None:
+        """The bank's own file of the page, with these words. Without any it is one of release 1.0.0."""
+        branches = json.dumps([{"name": BRANCH, "from": 1, "to": 9}])
+        lines = [f"export const BANK = {json.dumps(BANK)};", f"export const BRANCHES = {branches};"]
+        lines += ["export function branchOf(desk) {}"] if words is None else [f"export const WORDS = {json.dumps(words)};"]
+        (self.folder / "teller" / "bank.js").write_text("\n".join(lines) + "\n")
 
     def ask(self, method: str, path: str, value: object = None) -> tuple[int, str]:
         """Straight to the counter, past nginx and the gate: the status and the answer."""
@@ -127,10 +171,6 @@ class Bank:
             raise SystemExit(f"WRONG: {path} was answered {found} {text}")
         reply: dict[str, Any] = json.loads(text)
         return reply
-
-    def trust(self) -> ssl.SSLContext:
-        """For clients in Python: they trust just this bank's certificate."""
-        return self.nginx.trust()
 
     def end(self) -> None:
         for page in self.pages:

@@ -13,7 +13,7 @@ from selenium.webdriver.common.keys import Keys
 from selenium.webdriver.remote.webelement import WebElement
 from selenium.webdriver.support.ui import WebDriverWait
 
-from bank import PASSWORD, USER, Quits
+from bank import Quits
 from engines import ENGINES
 
 PATIENCE = 60
@@ -26,6 +26,8 @@ class Place(Protocol):
 
     folder: Path
     port: int
+    #: The certificate of the user, with its key, as a browser imports it.
+    certificate: Path
     #: The browsers that were started.
     pages: list[Quits]
     #: The folder for pictures, if any are wanted.
@@ -41,24 +43,19 @@ class Page:
     def __init__(self, bank: Place, profile: str | None = None, size: tuple[int, int] = (1100, 820)) -> None:
         self.bank = bank
         self.profile = profile or tempfile.mkdtemp(dir=bank.folder)
-        self.engine = ENGINES[self.browser](self.profile, size)
+        self.engine = ENGINES[self.browser](self.profile, size, bank.certificate)
         self.driver = self.engine.driver
         self.asked: list[list[str]] = []
         bank.pages.append(self)
-        self.log_in()
+        self.load(lambda: self.driver.get(self.address()))
 
     def resize(self, width: float, height: float) -> None:
         """Firefox zooms in steps, so its narrow windows are up to five pixels narrower."""
         self.engine.resize(width, height)
         self.until(lambda: width - 5 <= self.run("return innerWidth") <= width, f"the window is {width} wide, and not {self.run('return innerWidth')}")
 
-    def log_in(self) -> None:
-        credentials = f"{USER}:{PASSWORD.replace(' ', '%20')}@"
-        self.load(lambda: self.driver.get(self.address(credentials) + "icon.svg"))
-        self.load(lambda: self.driver.get(self.address("")))
-
-    def address(self, credentials: str) -> str:
-        return f"https://{credentials}127.0.0.1:{self.bank.port}/teller/"
+    def address(self) -> str:
+        return f"https://127.0.0.1:{self.bank.port}/teller/"
 
     def load(self, action: Callable[[], Any]) -> None:
         """Once more where the machine's network was changed meanwhile, by something else than this test."""

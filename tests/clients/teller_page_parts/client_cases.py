@@ -12,10 +12,9 @@ import sys
 import time
 from pathlib import Path
 from typing import Any, Callable
-from unittest import mock
 
 import ee_counter_client as client
-from bank import PASSWORD, TOP, USER, Bank
+from bank import TOP, USER, Bank
 from books import Books
 from counter_calls import matched, piped
 from ee_counter_client.results import Result
@@ -43,11 +42,11 @@ def books_of(bank: Bank) -> Books:
 
 
 def command(bank: Bank, *words: str, journal: str = "desk3.journal", proxied: bool = True) -> tuple[int, str, str]:
-    """The client's command, by nginx with its password, or straight to the gate; its status, output and faults."""
+    """The client's command, by nginx with a certificate, or straight to the gate; its status, output and faults."""
     line: list[str | Path] = [sys.executable, "-W", "error", "-B", TOP / "clients" / "counter.py", "--journal", bank.folder / journal, "--desk", "3"]
     if proxied:
-        (bank.folder / "password").write_text(PASSWORD + "\n")
-        line += ["--at", f"https://127.0.0.1:{bank.port}", "--user", USER, "--password-file", bank.folder / "password", "--certificate", bank.nginx.folder / "certificate.pem"]
+        staff = bank.nginx.staff
+        line += ["--at", f"https://127.0.0.1:{bank.port}", "--certificate", staff.certificate(USER), "--ca", bank.nginx.folder / "certificate.pem"]
     else:
         line += ["--at", f"http://127.0.0.1:{bank.gate.port}"]
     ran = subprocess.run([*line, *words], capture_output=True, text=True, timeout=600)
@@ -82,7 +81,7 @@ def ticket_in(result: Result | None) -> client.Ticket:
 
 
 def a_day(bank: Bank) -> None:
-    """By the command, through TLS and a password."""
+    """By the command, through TLS and with a certificate of the staff."""
     sheet = "Total" + " " * 52
     steps = (
         (("rates", "samples/rates.csv"), '{"new":14,"same":0}\n'),
@@ -113,7 +112,7 @@ def each_fault(bank: Bank) -> None:
     faults = [fault for fault in AFTER + BEFORE if fault != "silent"]
     begin(bank, [])
     met = Told().texts
-    with at_gate(bank) as counter, mock.patch.object(client.counter, "SIGN_IN_PAUSE", 0.1):
+    with at_gate(bank) as counter:
         for place, fault in enumerate(faults):
             day, owner = f"2012-02-{6 + place:02}", 1000 + place
             bonds = bonds_of(owner)
@@ -198,7 +197,7 @@ def fault_on_resend(bank: Bank) -> None:
     begin(bank, [7], DAY)
     met = Told().texts
     with at_gate(bank) as counter:
-        for serial, fault, words in (("K7EE", "not json", "no reply: BadJson (code 64); "), ("L7EE", "forbidden", "no reply: the proxy says that this user may not do this; ")):
+        for serial, fault, words in (("K7EE", "not json", "no reply: BadJson (code 64); "), ("L7EE", "forbidden", "no reply: this user may not do this; ")):
             sent = len(bank.gate.bodies)
             bank.gate.faults = ["lost answer", fault, fault]
             ticket = counter.redeem(DAY, 7, [serial])
@@ -241,11 +240,29 @@ def first_sendings(bank: Bank) -> None:
     right((status, out, told) == (1, "", "this user may not do this (/day/close); nothing was done\n"), "by the command it has status 1", (status, out, told))
 
 
+def revoked(bank: Bank) -> None:
+    """A certificate that is revoked: a command ends at once with status 3, the open request stays, and with another certificate of the user it is done once."""
+    begin(bank, [7], DAY)
+    bank.gate.faults = ["lost answer"] * 9
+    status, out, told = command(bank, "--patience", "2", "redeem", "--key", "a", DAY, "7", "L7EE")
+    right((status, out) == (3, ""), "a payment whose answers are lost is open", told)
+    bank.gate.faults = []
+    bank.nginx.staff.dismiss(USER)
+    bank.nginx.reload()
+    for words in (("redeem", "--key", "a", DAY, "7", "L7EE"), ("ticket", "1")):
+        status, out, told = command(bank, *words)
+        right((status, out) == (3, "") and told.startswith("the proxy got no certificate of the staff, or one that has ended or was revoked"), f"{words[0]}: {told.strip()}", (status, out, told))
+    bank.nginx.staff.hire(USER)
+    status, out, told = command(bank, "redeem", "--key", "a", DAY, "7", "L7EE")
+    right(status == 0 and json.loads(out)["ticket"] == 1, "with a new certificate the same command gets its ticket", (status, out, told))
+    right(books_of(bank).one("SELECT count(*) FROM tickets") == 1, "one ticket")
+
+
 def many_requests(bank: Bank) -> None:
     begin(bank, [7], DAY)
     met = Told().texts
     with at_gate(bank) as counter:
-        bank.gate.faults = ["too many", "signed out"]
+        bank.gate.faults = ["too many", "proxy page"]
         right(counter.redeem(DAY, 7, ["L7EE"]).number == 1, "too many requests: sent again")
         right(met[:2] == ["no reply: too many requests (status 429)", "no reply: an answer of status 403 that isn't the counter's"], "and the client says so", met)
         counter.ticket(1)

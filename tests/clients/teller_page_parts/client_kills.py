@@ -17,8 +17,8 @@ from samples import rates, right
 
 BONDS = 100_000
 INTERRUPTIONS = 20
-#: Faults after which the client waits for minutes.
-LONG = ("silent", "no password")
+#: The fault after which the client waits for its time limit.
+LONG = ("silent",)
 
 
 # ---- an inventory of 100,000 bonds

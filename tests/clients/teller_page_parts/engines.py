@@ -2,6 +2,7 @@
 from __future__ import annotations
 
 import base64
+import json
 import os
 import signal
 import subprocess
@@ -9,7 +10,6 @@ from pathlib import Path
 from typing import Any, Iterator
 
 from selenium import webdriver
-from selenium.common.exceptions import NoAlertPresentException
 from selenium.webdriver.chrome.service import Service
 
 from marionette import Firefox as FirefoxProcess
@@ -35,11 +35,28 @@ def below(nodes: dict[str, Node], node: Node) -> Iterator[Node]:
             yield from below(nodes, nodes[name])
 
 
+def take(database: Path, certificate: Path | None) -> None:
+    """Makes a database of NSS, and imports a certificate with its key, by the commands of docs/TELLERS.md. One that was there goes."""
+    database.mkdir(parents=True, exist_ok=True)
+    for file in ("cert9.db", "key4.db", "pkcs11.txt"):
+        (database / file).unlink(missing_ok=True)
+    subprocess.run(["certutil", "-d", f"sql:{database}", "-N", "--empty-password"], check=True)
+    if certificate is not None:
+        subprocess.run(["pk12util", "-d", f"sql:{database}", "-i", certificate, "-W", ""], check=True, stdout=subprocess.DEVNULL)
+
+
+#: Starts chromedriver with a folder in place of /etc/chromium, which has the policies of the machine. No root is needed, and the machine's own folder stays as it is.
+DRIVER = """#!/bin/sh
+exec unshare --user --map-root-user --mount sh -c 'mount --bind "$0" /etc/chromium && exec chromedriver "$@"' {folder} "$@"
+"""
+
+
 class Chromium:
     name = "chromium"
 
-    def __init__(self, profile: str, size: tuple[int, int]) -> None:
+    def __init__(self, profile: str, size: tuple[int, int], certificate: Path | None = None) -> None:
         self.profile = profile
+        service = self.service_with(certificate)
         options = webdriver.ChromeOptions()
         options.binary_location = "/usr/bin/chromium"
         options.accept_insecure_certs = True
@@ -47,9 +64,21 @@ class Chromium:
         for word in ("--headless=new", "--no-sandbox", "--disable-dev-shm-usage", "--force-device-scale-factor=1", "--hide-scrollbars", "--lang=en-US", *own):
             options.add_argument(word)
         options.set_capability("goog:loggingPrefs", {"browser": "ALL"})
-        self.driver = webdriver.Chrome(service=Service("/usr/bin/chromedriver"), options=options)
+        self.driver = webdriver.Chrome(service=service, options=options)
         # As in a browser that keeps the page's data.
         self.driver.execute_cdp_cmd("Browser.grantPermissions", {"permissions": ["durableStorage"]})
+
+    def service_with(self, certificate: Path | None) -> Service:
+        """The driver of a browser that sends the certificate without a question: a home of its own, and the policy of docs/TELLERS.md."""
+        home, policies = Path(self.profile, "home"), Path(self.profile, "etc", "policies", "managed")
+        take(home / ".pki" / "nssdb", certificate)
+        policies.mkdir(parents=True, exist_ok=True)
+        choice = json.dumps({"pattern": "https://127.0.0.1", "filter": {}})
+        (policies / "counter.json").write_text(json.dumps({"AutoSelectCertificateForUrls": [choice]}))
+        driver = Path(self.profile, "driver")
+        driver.write_text(DRIVER.format(folder=policies.parents[1]))
+        driver.chmod(0o755)
+        return Service(str(driver), env={**os.environ, "HOME": str(home)})
 
     def resize(self, width: float, height: float) -> None:
         self.driver.execute_cdp_cmd("Emulation.setDeviceMetricsOverride", {"width": width, "height": height, "deviceScaleFactor": 1, "mobile": False})
@@ -90,9 +119,6 @@ class Chromium:
         """How many rows a screen reader is given, or None if the browser doesn't tell."""
         nodes: list[Node] = self.driver.execute_cdp_cmd("Accessibility.getFullAXTree", {})["nodes"]
         return sum(told(node)[0] == "row" for node in nodes)
-
-    def leave_box(self) -> None:
-        """Without a screen Chromium shows nobody its box for a password, and no test can press its buttons."""
 
     def kill(self) -> None:
         """All processes of that browser, by the folder of its profile."""
@@ -136,7 +162,8 @@ LEAST_WIDTH = 500
 class Firefox:
     name = "firefox"
 
-    def __init__(self, profile: str, size: tuple[int, int]) -> None:
+    def __init__(self, profile: str, size: tuple[int, int], certificate: Path | None = None) -> None:
+        take(Path(profile), certificate)
         self.process = FirefoxProcess(profile)
         options = webdriver.FirefoxOptions()
         options.accept_insecure_certs = True
@@ -182,13 +209,6 @@ class Firefox:
     def rows(self) -> int | None:
         """Nor for this."""
         return None
-
-    def leave_box(self) -> None:
-        """Presses Cancel in the browser's own box for a password, if it is there."""
-        try:
-            self.driver.switch_to.alert.dismiss()
-        except NoAlertPresentException:
-            pass
 
     def kill(self) -> None:
         os.killpg(self.process.process.pid, signal.SIGKILL)

@@ -10,18 +10,22 @@ A fault is done to the next POST:
   failed after    the counter has committed, and 503 StoreFailed is answered
   failed before   503 NoMemory is answered, and nothing reaches the counter
   other page      the message is dropped, and another program answers with its own page
-  no gateway      the message is dropped, and 502 is answered, as by a proxy without its counter
+  no gateway      the message is dropped, and 502 is answered, as by nginx without its counter
   redirect        the message is dropped, and 302 to another address is answered
-  too many        the message is dropped, and 429 is answered, as by a proxy that limits requests
-  signed out      the message is dropped, and 403 is answered with a page of a proxy
+  too many        the message is dropped, and 429 is answered, as by nginx, which limits requests
+  proxy page      the message is dropped, and 403 is answered with a page of another proxy
   damaged         the message is dropped, and answered as one that was cut
   silent          the counter has committed, and no answer comes until the client goes
   reset           the counter has committed, `cut` is called, and the answer is dropped
 
+One leaves the request open, whatever is sent after it:
+
+  no certificate  the message is dropped, and 400 is answered, as by nginx without a valid certificate of the staff
+
 Two more answer one sending alone. They are final on the first sending of a request, and tell nothing on a later one:
 
   not json        the message is dropped, and 400 BadJson is answered, as if something had emptied it
-  forbidden       the message is dropped, and 403 is answered, as by a proxy whose user may not do this
+  forbidden       the message is dropped, and 403 is answered, as by nginx if this user may not do it
 
 A test that sets `changed` gets a function of each GET's path and answer, which returns the answer that the client is given.
 """
@@ -36,6 +40,7 @@ UNSERVED_STORE = b'{"code":2,"unserved":"StoreFailed"}'
 TRUNCATED = b'{"code":68,"fault":"Truncated"}'
 NOT_JSON = b'{"code":64,"fault":"BadJson"}'
 FORBIDDEN = b'{"forbidden":"group"}'
+NO_CERTIFICATE = b'{"forbidden":"certificate","message":"No certificate of the staff was sent."}'
 #: As the proxy names its log's entry. With a proxy in between, its own name stands behind this one.
 ENTRY = "0123456789abcdef" * 2
 PAGE = b"<html><body>Please sign in to this network.</body></html>"
@@ -50,10 +55,11 @@ STANDING = {
     "failed after": answer(b"503 Service Unavailable", b"application/json", UNSERVED_STORE),
     "failed before": answer(b"503 Service Unavailable", b"application/json", UNSERVED_MEMORY),
     "other page": answer(b"200 OK", b"text/html", PAGE),
-    "no gateway": answer(b"502 Bad Gateway", b"text/html", PAGE),
+    "no gateway": answer(b"502 Bad Gateway", b"application/json", b'{"unavailable":"counter"}'),
     "redirect": answer(b"302 Found", b"text/html", PAGE, b"Location: https://elsewhere.example/login\r\n"),
-    "too many": answer(b"429 Too Many Requests", b"text/html", PAGE),
-    "signed out": answer(b"403 Forbidden", b"text/html", PAGE),
+    "too many": answer(b"429 Too Many Requests", b"application/json", b'{"forbidden":"rate"}'),
+    "no certificate": answer(b"400 Bad Request", b"application/json", NO_CERTIFICATE),
+    "proxy page": answer(b"403 Forbidden", b"text/html", PAGE),
     "damaged": answer(b"400 Bad Request", b"application/json", TRUNCATED),
     "not json": answer(b"400 Bad Request", b"application/json", NOT_JSON),
     "forbidden": answer(b"403 Forbidden", b"application/json", FORBIDDEN),
@@ -61,7 +67,9 @@ STANDING = {
 #: Those under which the counter commits the request.
 AFTER = ("killed after", "lost answer", "cut answer", "failed after", "silent")
 #: Those under which the request doesn't reach the counter.
-BEFORE = ("lost request", "killed before", "failed before", "other page", "no gateway", "redirect", "too many", "signed out", "damaged")
+BEFORE = ("lost request", "killed before", "failed before", "other page", "no gateway", "redirect", "too many", "proxy page", "damaged")
+#: The one that leaves a request open.
+ENDING = ("no certificate",)
 #: Those that are final on a first sending. The request doesn't reach the counter either.
 OF_ONE_SENDING = ("not json", "forbidden")
 
@@ -149,7 +157,7 @@ class Gate:
         fault = self.fault_of(message)
         if fault == "killed before":
             self.counter.kill()
-        if fault is not None and fault in BEFORE + OF_ONE_SENDING:
+        if fault is not None and fault in BEFORE + ENDING + OF_ONE_SENDING:
             client.sendall(STANDING.get(fault, b""))
             return
         text = self.answered(message)

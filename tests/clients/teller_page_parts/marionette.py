@@ -54,7 +54,7 @@ COMMANDS = [
     ("POST", r"print", "WebDriver:Print"),
     ("POST", r"timeouts", "WebDriver:SetTimeouts"),
 ]
-#: No page of Mozilla's is asked for, a name and a password in an address need no question, a page's data is kept without one, and the WebDriver element keeps its name.
+#: No page of Mozilla's is asked for, a certificate is sent and a page's data kept without a question, and the WebDriver element keeps its name.
 PREFERENCES = {
     "marionette.port": 0,
     "app.update.enabled": False,
@@ -68,11 +68,9 @@ PREFERENCES = {
     "dom.storageManager.prompt.testing.allow": True,
     "network.captive-portal-service.enabled": False,
     "network.connectivity-service.enabled": False,
-    "network.http.phishy-userpass-length": 255,
-    "network.auth.confirmAuth.enabled": False,
+    "security.default_personal_cert": "Select Automatically",
     "intl.accept_languages": "en-US",
     "toolkit.startup.max_resumed_crashes": -1,
-    "signon.rememberSignons": False,
 }
 
 

@@ -3,12 +3,10 @@ from __future__ import annotations
 
 import threading
 import time
-from typing import Iterable
+from typing import Mapping
 
-from bank import Bank
+from bank import PAGE, USER, Bank, Front
 from browser import Page
-from counter_calls import replaced
-from nginx_sample import PAGE, SAMPLE, Nginx
 from page_cases import dollars
 from page_guards import DAY
 from samples import VALUES, begin, right
@@ -16,15 +14,15 @@ from samples import VALUES, begin, right
 TICKETS = 900
 #: The pace of clients/teller/latest.js: the number of look-ups at once, and then the seconds between two. After a 429 a look-up waits.
 AT_ONCE, SPACE, BUSY = 100, 0.125, 2
-OTHERS = {name: (f"a password of {name}", "teller") for name in ("anna", "dora", "emil")}
-#: The limit of requests of before, by address alone.
-BY_ADDRESS = [('limit_req_zone "$binary_remote_addr $limited_user" zone=counter_requests', "limit_req_zone $binary_remote_addr zone=counter_requests")]
+OTHERS = {name: "teller" for name in ("anna", "dora", "emil")}
+#: A limit of requests by address alone.
+BY_ADDRESS = {"limit_req_zone $staff": "limit_req_zone $binary_remote_addr"}
 
 
 class Desk(threading.Thread):
     """Behaves as the page does: it loads the page's files, counts the tickets, and pays bonds meanwhile. `busy` counts its answers 429, `delays` are the seconds of its payments."""
 
-    def __init__(self, nginx: Nginx, user: str, desk: int, until: float) -> None:
+    def __init__(self, nginx: Front, user: str, desk: int, until: float) -> None:
         super().__init__(daemon=True)
         self.nginx, self.user, self.desk, self.until = nginx, user, desk, until
         self.counted, self.busy, self.begun = 0, 0, time.monotonic()
@@ -33,7 +31,7 @@ class Desk(threading.Thread):
     def ask(self, method: str, path: str, value: object = None) -> int | None:
         """Its status, again after each 429."""
         while time.monotonic() < self.until:
-            status = self.nginx.ask(method, path, value, user=self.user)[0]
+            status = self.nginx.ask(self.user, method, path, value).status
             if status != 429:
                 return status
             self.busy += 1
@@ -60,7 +58,7 @@ class Desk(threading.Thread):
             self.delays.append(time.monotonic() - begun)
 
 
-def busy(nginx: Nginx) -> tuple[int, list[str]]:
+def busy(nginx: Front) -> tuple[int, list[str]]:
     """How many requests nginx answered 429, and the statuses of the payments."""
     lines = (nginx.folder / "log" / "access.log").read_text().splitlines()
     return sum('" 429 ' in line for line in lines), [entry["status"] for entry in nginx.log() if entry["route"] == "/redeem"]
@@ -78,11 +76,9 @@ def paid_before(bank: Bank) -> None:
         bank.expect(200, "/redeem", {"desk": 902, "number": place, "day": DAY, "payee": 60, "serials": [f"S{place}EE"]})
 
 
-def branch(bank: Bank, name: str, seconds: float, changes: Iterable[tuple[str, str]] = ()) -> tuple[Nginx, list[Desk]]:
+def branch(bank: Bank, name: str, seconds: float, changed: Mapping[str, str] = {}) -> tuple[Front, list[Desk]]:
     """nginx with four users, and three of the four desks at work."""
-    conf = bank.folder / f"{name}.conf"
-    conf.write_text(replaced((SAMPLE / "counter.conf").read_text(), changes))
-    nginx = Nginx(bank.folder / name, bank.gate.port, {**bank.users, **OTHERS}, conf=conf, page=bank.teller)
+    nginx = Front(bank.folder / name, bank.gate.port, {**bank.users, **OTHERS}, bank.teller, changed)
     desks = [Desk(nginx, user, 11 + place, time.monotonic() + seconds) for place, user in enumerate(OTHERS)]
     for desk in desks:
         desk.start()
@@ -93,7 +89,7 @@ def four_desks(bank: Bank) -> None:
     """One page in a browser and three clients that behave as it does, from one address: each counts 900 tickets and pays."""
     paid_before(bank)
     nginx, desks = branch(bank, "by_user", 1200)
-    bank.port = nginx.port
+    bank.port, bank.certificate = nginx.port, nginx.exported(USER)
     page = Page(bank)
     page.choose_desk(5)
     page.join_day(DAY)
@@ -123,7 +119,7 @@ def four_desks(bank: Bank) -> None:
     nginx.end()
 
 
-def continues(bank: Bank, nginx: Nginx, page: Page) -> None:
+def continues(bank: Bank, nginx: Front, page: Page) -> None:
     """A count that was broken off, and the tickets of this desk, aren't asked for again."""
     tally = page.journal()["tally"]
     right(tally["through"] >= TICKETS, "what was counted is kept", tally)

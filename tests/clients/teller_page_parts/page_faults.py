@@ -1,14 +1,10 @@
-"""What goes wrong around a request: the browser's storage, signing in, look-ups without an answer, a bond that is chosen twice, a browser that is too old."""
+"""What goes wrong around a request: the browser's storage, a revoked certificate, look-ups without an answer, a bond that is chosen twice, a browser that is too old."""
 from __future__ import annotations
 
 import json
 import threading
-from pathlib import Path
-from typing import Any
 
-from selenium.common.exceptions import WebDriverException
-
-from bank import PASSWORD, USER, Bank
+from bank import USER, Bank
 from browser import Page
 from page_cases import EARLIER, books_of, dollars, is_paid_on
 from page_guards import joined
@@ -34,6 +30,7 @@ UNHANDLED = """
     addEventListener("error", (event) => window.unhandled.push(event.message));
 """
 QUOTA = "This browser has no room left for the journal of this page."
+NO_CERTIFICATE = "This browser sent no certificate of the staff, or it was revoked or has run out."
 
 
 def storage_fails(bank: Bank) -> None:
@@ -114,123 +111,48 @@ def storage_cleared(bank: Bank) -> None:
     right(books_of(bank).one("SELECT count(*) FROM tickets") == 1, "one ticket")
 
 
-def moved_on(bank: Bank, page: Page) -> tuple[Path, str]:
-    """Another password for the user, as after a change: nginx reads the file for each request."""
-    passwords = bank.nginx.folder / "passwords"
-    was = passwords.read_text()
-    passwords.write_text(f"{USER}:{bank.nginx.hashed('another password')}\n")
-    return passwords, was
-
-
-def refused_since(bank: Bank, before: int) -> list[dict[str, Any]]:
-    return [entry for entry in bank.nginx.log()[before:] if entry["status"] == "403"]
-
-
-def signed_out_while_paying(bank: Bank) -> None:
-    """The password changes while a teller works. The page names it, keeps the request and what was typed, sends nothing more by itself, and goes on after signing in in another tab."""
+def revoked_while_paying(bank: Bank) -> None:
+    """The user's certificate is revoked while a teller works: the page says so, and keeps the request and what was typed. With another certificate it is paid, once."""
     page = joined(bank, owners=(7, 9))
-    page.show_sheet(7)
-    page.choose("L7EE")
-    page.type("#serial", "K-9")
-    passwords, was = moved_on(bank, page)
-    before = len(bank.nginx.log())
-    page.pay()
-    page.waits_for("You are signed out, or the password has changed.", "#progress")
-    right("The page waits, and keeps the request and what you typed." in page.find("#progress").text and page.find("#sign-in").is_displayed(), "the page says that it is signed out, with a button, and that it waits", page.find("#progress").text)
-    page.sleep(10)
-    right(len(refused_since(bank, before)) == 1 and bank.gate.bodies == [], "it sends nothing more by itself: each sending would count as a wrong password")
-    right(page.find("#serial").get_attribute("value") == "K-9" and page.find("input[data-serial='L7EE']").is_selected(), "what was typed and chosen stays")
-    right(page.journal()["open"]["fields"]["serials"] == ["L7EE"], "the request is in the journal")
-    passwords.write_text(was)
-    signed_in_elsewhere(page)
-    is_paid_on(page, 1, VALUES["L"])
-    page.settled()
-    right(len(bank.gate.bodies) == 1, "after signing in in another tab it is sent by itself, and paid")
-    page.quit()
-    right(books_of(bank).one("SELECT count(*) FROM tickets") == 1, "one ticket")
-
-
-def signed_in_elsewhere(page: Page) -> None:
-    first = page.driver.current_window_handle
-    page.press("#sign-in")
-    page.until(lambda: len(page.driver.window_handles) == 2, "another tab opens")
-    page.driver.switch_to.window(next(one for one in page.driver.window_handles if one != first))
-    page.load(lambda: page.driver.get(page.address(f"{USER}:{PASSWORD.replace(' ', '%20')}@")))
-    page.waits_for("If you came here to sign in, you are signed in now.")
-    page.driver.close()
-    page.driver.switch_to.window(first)
-
-
-def signed_out_while_looking(bank: Bank) -> None:
-    """A look-up waits for the sign-in too; a login page in place of an answer is named."""
-    page = joined(bank, owners=(7, 9))
-    passwords, was = moved_on(bank, page)
-    page.show_sheet_begun(9)
-    page.waits_for("You are signed out, or the password has changed.", "#notices")
-    right(page.find("#notices a.button").text == "Sign in" and page.find("#customer").get_attribute("value") == "9", "a look-up that needs a sign-in says so, with a button, and what was typed stays")
-    passwords.write_text(was)
-    page.press("#notices a.button")
-    first = page.driver.current_window_handle
-    page.until(lambda: len(page.driver.window_handles) == 2, "another tab opens")
-    page.driver.switch_to.window(next(one for one in page.driver.window_handles if one != first))
-    page.load(lambda: page.driver.get(page.address(f"{USER}:{PASSWORD.replace(' ', '%20')}@")))
-    page.waits_for("you are signed in now")
-    page.driver.close()
-    page.driver.switch_to.window(first)
-    page.waits_for("Unpaid bonds of customer 9", "#sheet")
-    right(True, "and is asked again after the sign-in")
-    for fault, words in (("other page", "a page of something else did (status 200), as for signing in"), ("redirect", "the request was redirected, as to a page for signing in")):
-        page.show_sheet(9)
-        page.choose("L9EE" if fault == "other page" else "K9EE")
-        bank.gate.faults = [fault] * 4
-        page.pay()
-        page.waits_for(words, "#progress")
-        page.until(lambda: page.find("#sign-in").is_displayed(), "the way to sign in")
-        right(True, f"{fault}: named, with a button")
-        page.settled()
-    page.quit()
-
-
-def name_and_sign_out(bank: Bank) -> None:
-    """The teller's name comes from the proxy. Signing out has the browser drop the password; it isn't offered while a request is open."""
-    page = joined(bank)
     page.waits_for(f"Teller {USER}", "#user")
     right(True, "the head has the name of the user")
     page.show_sheet(7)
     page.choose("L7EE")
-    bank.gate.faults = ["lost request"] * 3
+    page.type("#serial", "K-9")
+    bank.nginx.staff.dismiss(USER)
+    bank.nginx.reload()
     page.pay()
-    page.waits_for("no reply yet", "#progress")
-    page.press("#sign-out")
-    page.waits_for("A request has no reply yet. Sign out once its reply is there.", "#notices")
+    page.waits_for("no reply yet. This attempt did nothing.", "#progress")
+    right(NO_CERTIFICATE in page.find("#progress").text, "the page says that the certificate isn't valid, and what to do", page.find("#progress").text)
+    page.waits_for("sent again in 2 seconds", "#progress")
+    right(bank.gate.bodies == [] and page.find("#serial").get_attribute("value") == "K-9" and page.find("input[data-serial='L7EE']").is_selected(), "nothing reaches the counter, and what was typed and chosen stays")
+    right(page.journal()["open"]["fields"]["serials"] == ["L7EE"] and page.journal()["open"]["sent"] > 1, "the request is in the journal")
+    page.press("#ask-sheet button")
+    page.waits_for(NO_CERTIFICATE, "#notices")
+    right("Nothing was done." in page.find("#notices").text, "a look-up says it too", page.find("#notices").text)
+    page.quit()
+    bank.renew()
+    page = Page(bank, page.profile)
     is_paid_on(page, 1, VALUES["L"])
     page.settled()
-    statuses = "return (await fetch('/teller/icon.svg', { cache: 'no-store', signal: AbortSignal.timeout(5000) }).catch(() => ({ status: 0 }))).status"
-    right(page.run_module(statuses) == 200, "control: before, the browser sends the password")
-    page.press("#sign-out")
-    page.sleep(2)
-    page.engine.leave_box()
-    if page.browser == "firefox":
-        page.waits_for("You are signed out in this browser.")
-        right(True, "Cancel in the browser's box leads to a page that says so")
-    asked_anew(bank, page)
+    right(len(bank.gate.bodies) == 1, "in the browser with a new certificate it is sent by itself, and paid")
     page.quit()
-    asked = bank.nginx.ask("GET", "/user")
-    right(asked[0] == 401 and USER not in asked[2], "nobody's name is given without a password")
+    right(books_of(bank).one("SELECT count(*) FROM tickets") == 1, "one ticket")
 
 
-def asked_anew(bank: Bank, page: Page) -> None:
-    """In a tab of its own the page is asked for again: the browser sends no password."""
-    log = bank.nginx.folder / "log" / "access.log"
-    before = len(log.read_text().splitlines())
-    page.driver.switch_to.new_window("tab")
-    page.driver.set_page_load_timeout(5)
-    try:
-        page.driver.get(page.address(""))
-    except WebDriverException:
-        pass
-    lines = [line for line in log.read_text().splitlines()[before:] if '"GET /teller/ HTTP' in line]
-    right(len(lines) >= 1 and all(" - - [" in line and '" 401 ' in line for line in lines), "after it the browser sends no password, and gets no page", lines)
+def no_certificate_met(bank: Bank) -> None:
+    """nginx's word on the certificate, to a first sending and to a later one: each leaves the request open, until the true reply comes."""
+    page = joined(bank, owners=(7,))
+    for serial, faults in (("L7EE", ["no certificate"] * 2), ("K7EE", ["lost answer", "no certificate"])):
+        page.show_sheet(7)
+        page.choose(serial)
+        bank.gate.faults = list(faults)
+        page.pay()
+        page.waits_for(NO_CERTIFICATE, "#progress")
+        is_paid_on(page, 1 if serial == "L7EE" else 2, VALUES[serial[0]])
+        page.settled()
+        right("The connection was interrupted. This was paid once." in page.find("#notices").text, f"{', '.join(faults)}: the request stays open, and is paid once")
+    page.quit()
 
 
 def once_set(hold: threading.Event, seconds: float, text: bytes) -> bytes:

@@ -4,17 +4,13 @@ from __future__ import annotations
 import contextlib
 import itertools
 import json
-import signal
-import time
-from typing import Any, Iterable, Iterator
+from typing import Any, Iterable, Iterator, Mapping
 
 from selenium.webdriver.common.keys import Keys
 
-from bank import USER, Bank
+from bank import RATE, USER, Bank, Front
 from browser import Page
 from gate import ENTRY
-from counter_calls import replaced
-from nginx_sample import SAMPLE, Nginx
 from page_cases import EARLIER, books_of, changed_sheets, dollars, is_paid_on
 from relay import Relay
 from samples import TOO_YOUNG, VALUES, begin, right
@@ -230,15 +226,19 @@ def fault_on_resend(bank: Bank) -> None:
 
 
 def forbidden_on_resend(bank: Bank) -> None:
-    lost_then(bank, "forbidden", "This user may not pay bonds. Ask a teller, or sign in as one. This says nothing about the earlier attempts.")
+    lost_then(bank, "forbidden", "This user may not pay bonds. Ask a teller. This says nothing about the earlier attempts.")
 
 
-def error_page_on_resend(bank: Bank) -> None:
-    lost_then(bank, "no gateway", "The counter didn't answer: something else did (status 502).")
+def unavailable_on_resend(bank: Bank) -> None:
+    lost_then(bank, "no gateway", "The counter didn't answer: it is starting, or has too much to do.")
+
+
+def other_page_on_resend(bank: Bank) -> None:
+    lost_then(bank, "proxy page", "The counter didn't answer: something else did (status 403).")
 
 
 def redirect_on_resend(bank: Bank) -> None:
-    lost_then(bank, "redirect", "The counter didn't answer: the request was redirected, as to a page for signing in.")
+    lost_then(bank, "redirect", "The counter didn't answer: the request was redirected.")
 
 
 def many_requests(bank: Bank) -> None:
@@ -246,16 +246,16 @@ def many_requests(bank: Bank) -> None:
 
 
 #: Connections are kept, and repeats of a POST passed on.
-KEPT = [("keepalive_timeout 0", "keepalive_timeout 60s")]
-REPEATED = [("limit_req zone=counter_sendings;", "")]
+KEPT = {"keepalive_timeout 0": "keepalive_timeout 60s"}
+REPEATED = {"limit_req zone=sendings;": ""}
 
 
 def connection_reset(bank: Bank) -> None:
     """The connection breaks after the commit, and a fault answers what comes next. Over a kept connection, and in Firefox at times over another, that is a repeat of the browser's own, of which the
     page doesn't know."""
     begin(bank, [7], DAY)
-    with changed_nginx(bank, "repeated", KEPT + REPEATED) as nginx:
-        page = reset_while_paying(bank, nginx.port, 5, "L7EE", ["not json"] * 3)
+    with changed_nginx(bank, "repeated", {**KEPT, **REPEATED}) as nginx:
+        page = reset_while_paying(bank, nginx, 5, "L7EE", ["not json"] * 3)
         page.waits_for("The counter can't read the request: it isn't JSON.", "#notices")
         page.settled()
         wrong = (len(bank.gate.bodies) > 1, page.journal()["open"], bank.ask("GET", "/ticket/1")[0])
@@ -269,18 +269,16 @@ def connection_reset(bank: Bank) -> None:
 
 
 @contextlib.contextmanager
-def changed_nginx(bank: Bank, name: str, changes: Iterable[tuple[str, str]]) -> Iterator[Nginx]:
-    conf = bank.folder / f"{name}.conf"
-    conf.write_text(replaced((SAMPLE / "counter.conf").read_text(), changes))
-    nginx = Nginx(bank.folder / name, bank.gate.port, bank.nginx.users, conf=conf, rate=100_000)
+def changed_nginx(bank: Bank, name: str, changes: Mapping[str, str]) -> Iterator[Front]:
+    nginx = Front(bank.folder / name, bank.gate.port, bank.users, bank.teller, {**RATE, **changes})
     try:
         yield nginx
     finally:
         nginx.end()
 
 
-def still_open(bank: Bank, nginx: Nginx, desk: int, serial: str, ticket: int) -> None:
-    page = reset_while_paying(bank, nginx.port, desk, serial, ["not json"])
+def still_open(bank: Bank, nginx: Front, desk: int, serial: str, ticket: int) -> None:
+    page = reset_while_paying(bank, nginx, desk, serial, ["not json"])
     page.waits_for("This says nothing about the earlier attempts.", "#progress")
     right(page.journal()["open"]["sent"] == 2, f"{nginx.folder.name}: each answer is that to a sending of the page's own, and the request stays open", page.journal())
     is_paid_on(page, ticket, VALUES[serial[0]])
@@ -289,9 +287,9 @@ def still_open(bank: Bank, nginx: Nginx, desk: int, serial: str, ticket: int) ->
     page.quit()
 
 
-def reset_while_paying(bank: Bank, port: int, desk: int, serial: str, then: list[str]) -> Page:
-    relay = Relay(port)
-    bank.port, bank.gate.cut = relay.port, relay.cut
+def reset_while_paying(bank: Bank, nginx: Front, desk: int, serial: str, then: list[str]) -> Page:
+    relay = Relay(nginx.port)
+    bank.port, bank.gate.cut, bank.certificate = relay.port, relay.cut, nginx.exported(USER)
     page = Page(bank)
     page.choose_desk(desk)
     page.join_day(DAY)
@@ -332,7 +330,7 @@ def forbidden_days(bank: Bank, page: Page) -> None:
     bank.gate.faults = ["forbidden"]
     page.close_day()
     page.waits_for("This user may not close a day. Nothing was done.", "#notices")
-    page.waits_for("Ask a supervisor, or sign in as one.", "#notices")
+    page.waits_for("Ask a supervisor.", "#notices")
     page.settled()
     right(page.journal()["day"] == DAY, "a day that this user may not close stays open on the page")
     page.press("#leave-day button")
@@ -343,20 +341,35 @@ def forbidden_days(bank: Bank, page: Page) -> None:
     right(page.journal()["day"] is None and page.journal()["open"] is None, "nor is one open that this user may not open")
 
 
+#: nginx's reasons to pass a request on to nobody, with their statuses.
+REASONS = (("certificate", 400), ("request", 400), ("request", 414), ("origin", 403), ("client", 403), ("type", 403), ("group", 403), ("chunks", 411), ("size", 413), ("host", 421))
+FORBIDDEN = """
+    const { forbiddenInWords } = await import(new URL("/teller/words.js", location.origin));
+    const { says, advises } = forbiddenInWords(...given);
+    return [says, advises];
+"""
 ENTRIES = """
     const { readEntry, readAnswer } = await import(new URL("/teller/answers.js", location.origin));
     const one = "0123456789abcdef".repeat(2);
     const other = "fedcba9876543210".repeat(2);
     const read = [null, "", "x", one.slice(1), one + "0", one, other + ", " + one, "<b>" + one].map(readEntry);
-    const kinds = [["{\\"forbidden\\":\\"group\\"}"], ["{\\"forbidden\\":\\"group\\"} "], ["{}"], [""]].map(([text]) => readAnswer(403, text, () => null).kind);
-    return [read, kinds, one];
+    const found = given[0].map(([status, text]) => readAnswer(status, text, () => null)).map(({ kind, why }) => [kind, why]);
+    return [read, found, one];
 """
 
 
 def named_entries(page: Page) -> None:
-    read, kinds, one = page.run_module(ENTRIES)
+    named = [(status, json.dumps({"forbidden": why}), ["forbidden", why]) for why, status in REASONS]
+    other = [(400, '{"forbidden":"certificate","message":"No certificate."}', ["forbidden", "certificate"]), (429, '{"forbidden":"rate"}', ["none", "busy"]), (429, '{"forbidden":"repeated"}', ["none", "busy"])]
+    other += [(status, '{"unavailable":"counter"}', ["none", "unavailable"]) for status in (502, 503, 504)]
+    other += [(403, text, ["none", "status"]) for text in ('{"forbidden":"x"}', '{"forbidden":["group"]}', "{}", "", "null", "[]")]
+    other += [(200, '{"forbidden":"group"}', ["none", "status"]), (404, '{"unavailable":"counter"}', ["none", "status"])]
+    answers = [*named, *other]
+    read, kinds, one = page.run_module(ENTRIES, [answer[:2] for answer in answers])
     right(read == [None, None, None, None, None, one, one, None] and one == ENTRY, "only 32 hex digits are an entry; without a header there is none", read)
-    right(kinds == ["forbidden", "none", "none", "none"], "only the exact body of a 403 says that the user may not", kinds)
+    right(kinds == [answer[2] for answer in answers], f"{len(answers)} answers of nginx and of others are read as what they are", kinds)
+    sentences = [page.run_module(FORBIDDEN, why, "/redeem") for why, _ in REASONS]
+    right(all(len(says) > 10 and len(advises) > 10 for says, advises in sentences) and len({says for says, _ in sentences}) == len(dict(REASONS)), "and each reason of nginx has a sentence, with what to do", sentences)
 
 
 HEARD = """
@@ -594,18 +607,6 @@ def walked(page: Page) -> tuple[list[str], int]:
 # ---- who may
 
 
-def grouped(bank: Bank, groups: str) -> None:
-    """Gives the user other groups, in nginx."""
-    (bank.nginx.folder / "groups").write_text(f'{USER} "{groups}";\n')
-    bank.nginx.process.send_signal(signal.SIGHUP)
-    wanted = json.dumps({"groups": groups}, separators=(",", ":"))
-    for _ in range(600):
-        if bank.nginx.ask("GET", "/groups", user=USER)[2] == wanted:
-            return
-        time.sleep(0.1)
-    raise SystemExit(f"WRONG: nginx doesn't take the groups {groups} over")
-
-
 #: The buttons in the order of the page, each with whether it is a main one.
 DAY_BUTTONS = "return [...document.querySelectorAll('#day button')].filter((one) => one.checkVisibility()).map((one) => [one.textContent, !one.classList.contains('plain')])"
 
@@ -618,7 +619,7 @@ def supervisors_acts(bank: Bank) -> None:
     page.go("day")
     page.until(lambda: page.run(DAY_BUTTONS)[0] == ["Open the day", True], "to open the day is a supervisor's main act")
     right(page.run(DAY_BUTTONS) == [["Open the day", True], ["Join the day", False]] and not page.find("#open-barred").is_displayed(), "to open the day is a supervisor's main act", page.run(DAY_BUTTONS))
-    grouped(bank, "teller")
+    bank.nginx.regroup(USER, "teller")
     page.reload()
     page.until(lambda: page.run(DAY_BUTTONS) == [["Join the day", True], ["Open the day", False]], "to join it is a teller's")
     right("This user may not open a day: ask a supervisor." in page.find("#open-day").text, "to join it is a teller's, and the page says who opens it")

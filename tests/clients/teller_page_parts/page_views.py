@@ -267,9 +267,9 @@ def fields(bank: Bank) -> None:
     page.quit()
 
 
-#: A second language: each text of words.js in brackets. Functions, lists and tables of texts too.
+#: A bank's file that says each word of words.js otherwise: in brackets. Functions, lists and tables of texts too. The name of a code isn't a word.
 OTHER_LANGUAGE = """
-import * as first from "./words_first.js";
+import { OURS } from "./words_first.js";
 const wrap = (value) => {
     if (typeof value === "string") return `\\u27e6${value}\\u27e7`;
     if (typeof value === "function") return (...given) => wrap(value(...given));
@@ -277,7 +277,12 @@ const wrap = (value) => {
     if (value !== null && typeof value === "object") return Object.fromEntries(Object.entries(value).map(([name, one]) => [name, wrap(one)]));
     return value;
 };
-export const LANGUAGE = "xx";
+export const BANK = "First Bank of Testing";
+export const BRANCHES = [{ name: "Main Street", from: 1, to: 9 }];
+export const WORDS = { ...wrap(OURS), FORMATS: { ...wrap(OURS.FORMATS), language: "xx" } };
+for (const kind of ["REFUSALS", "FAULTS", "UNSERVED"]) {
+    for (const [code, [name]] of Object.entries(OURS[kind])) WORDS[kind][code][0] = name;
+}
 """
 LOOSE = """
     const loose = [];
@@ -300,11 +305,11 @@ def outside(text: str) -> re.Match[str] | None:
 
 
 def words_in_one_file(bank: Bank) -> None:
-    """With each text of words.js in brackets, no word of the page stands outside of them."""
+    """With each word of words.js in brackets, by bank.js alone, no word of the page stands outside of them."""
     first = (bank.teller / "words.js").read_text()
-    (bank.teller / "words_first.js").write_text(first)
-    names = [name for name in re.findall(r"^export (?:const|function) (\w+)", first, re.M) if name != "LANGUAGE"]
-    (bank.teller / "words.js").write_text(OTHER_LANGUAGE + "".join(f"export const {name} = wrap(first.{name});\n" for name in names))
+    assert 'import * as bank from "./bank.js";' in first
+    (bank.teller / "words_first.js").write_text(first.replace('import * as bank from "./bank.js";', "const bank = {};").replace("const OURS = ", "export const OURS = "))
+    (bank.teller / "bank.js").write_text(OTHER_LANGUAGE)
     begin(bank, [7, 9], DAY)
     bank.expect(200, "/bonds", {"desk": 900, "number": 60, "bonds": [TOO_YOUNG]})
     page = Page(bank)
@@ -331,8 +336,33 @@ def words_in_one_file(bank: Bank) -> None:
     words_of_papers(page, found)
     loose = sorted({text.strip() for text in found if outside(text)})
     right(loose == [] and len(found) > 300, f"of {len(found)} texts of a second language none stands elsewhere than in words.js", loose)
-    right(page.run("return document.documentElement.lang") == "xx", "and the page names that language")
+    right(page.run("return document.documentElement.lang") == "xx" and page.run_module(UNKNOWN) == [], "and the page names that language, and knows each of the bank's words")
     right(outside("\u27e6Pay\u27e7 more") is not None, "control: a word outside of the brackets is found")
+    page.quit()
+
+
+UNKNOWN = """
+    const { unknownWords } = await import(new URL("/teller/words.js", location.origin));
+    return unknownWords();
+"""
+
+
+def words_of_bank(bank: Bank) -> None:
+    """The bank's own words lie over the page's. A word that the page doesn't have changes nothing, and is named. A file of release 1.0.0 has no words, and serves as it is."""
+    wrong = {"TEXTS": {"pays": "x"}, "PAY": {"paid": "x"}, "FORMATS": {"months": ["x"]}, "SHEET": {"notes": {"XX": "x"}}, "OTHER": {"pay": "x"}, "NOTICES": "x"}
+    named = ["WORDS.TEXTS.pays", "WORDS.PAY.paid", "WORDS.FORMATS.months", "WORDS.SHEET.notes.XX", "WORDS.OTHER", "WORDS.NOTICES"]
+    bank.write_own({**wrong, "TEXTS": {"pays": "x", "name": "Bond window"}})
+    page = Page(bank)
+    page.choose_desk(5)
+    right(page.find(".name").text == "Bond window" and page.find("nav a[href='#pay']").text == "Pay", "a word of the bank's, and the page's own beside it", page.text())
+    right(page.run_module(UNKNOWN) == named, f"{len(named)} words that the page doesn't have, or of another kind, are named", page.run_module(UNKNOWN))
+    if page.browser == "chromium":
+        told = page.complaints()
+        right(all(any(name in line for line in told) for name in named), "in the console too", told)
+    bank.write_own(None)
+    page.reload()
+    page.waits_for("Desk 5,", "#state")
+    right(page.find(".name").text == "Savings bond counter" and page.run_module(UNKNOWN) == [], "control: with a file of release 1.0.0 the words are the page's")
     page.quit()
 
 

@@ -2,17 +2,15 @@
 from __future__ import annotations
 
 import json
-import signal
 import time
 
 from selenium.webdriver.common.keys import Keys
 
-from bank import USER, Bank
+from bank import USER, Bank, Front
 from browser import Page
 from gate import answer
-from counter_calls import replaced
 from page_cases import EARLIER, books_of, is_paid_on
-from page_guards import DAY, DAY_BUTTONS, grouped, joined
+from page_guards import DAY, DAY_BUTTONS, joined
 from page_money import double_click_on
 from page_receipts import lines_of
 from page_paper import sheets
@@ -207,7 +205,7 @@ def walk_in_refused(bank: Bank) -> None:
     right(posts(bank) == ["/bonds"] and len(page.all("#walkin-bonds li")) == 3, "a bond that is registered otherwise: it is named, nothing is paid, and the list stays", text)
     page.press("#walkin-bonds li:nth-child(3) button")
     for fault, place, words in (
-        ("forbidden", 0, ("This user may not register bonds. Nothing was done.", "Ask the back office", "No bond was registered, and nothing was paid.")),
+        ("forbidden", 0, ("This user may not register bonds. Nothing was done.", "Ask a registrar.", "No bond was registered, and nothing was paid.")),
         ("forbidden", 1, ("This user may not pay bonds.", "2 bonds were registered. None of them was paid.")),
     ):
         bank.gate.faults = [None] * place + [fault]
@@ -235,8 +233,6 @@ def walk_in_refused(bank: Bank) -> None:
 
 # ---- who may
 
-#: The answer of another proxy, which doesn't know its users' groups.
-NO_GROUPS = """        return 200 '{"groups":"$shown_groups"}';"""
 BARRED = "This user may not both register and pay bonds: ask a user who may."
 
 
@@ -252,31 +248,33 @@ def walk_in_offered(bank: Bank) -> None:
     begin(bank, [7])
     page = Page(bank)
     page.choose_desk(5)
-    for groups in ("teller supervisor office", "teller supervisor", "office", "", "office teller"):
-        grouped(bank, groups)
+    for groups in ("teller supervisor registrar", "teller supervisor office", "registrar", "", "registrar teller"):
+        bank.nginx.regroup(USER, groups)
         page.reload()
-        offers(page, groups, {"teller", "office"} <= set(groups.split()))
+        offers(page, groups, {"teller", "registrar"} <= set(groups.split()))
     bank.expect(200, "/day/open", {"desk": 900, "number": 100_000, "day": DAY})
     page.join_day(DAY)
     page.waits_for("This desk joined")
     two_typed(page, 7)
-    grouped(bank, "teller")
-    page.run("new BroadcastChannel('ladwenpik-teller').postMessage('signed in')")
-    page.until(lambda: not page.find("nav a[href='#walkin']").is_displayed(), "after another sign-in the page asks again")
-    right(page.find("#walkin-barred").text == BARRED and not page.find("#add-walkin").is_displayed() and not page.find("#pay-walkin").is_displayed(), "after another sign-in the page asks again, and under the view's own address it says so, with no form", page.find("#walkin").text)
+    bank.nginx.regroup(USER, "teller")
+    page.reload()
+    page.until(lambda: page.find("#walkin-barred").is_displayed(), "under the view's own address the page says that the user may not")
+    right(page.find("#walkin-barred").text == BARRED and not page.find("#add-walkin").is_displayed() and not page.find("#pay-walkin").is_displayed(), "under the view's own address the page says that the user may not, with no form", page.find("#walkin").text)
     rows = [{"serial": "C7EE", "denom": 100, "issued": "2010-11", "owner": 7}]
-    refused = bank.nginx.ask("POST", "/bonds", {"desk": 902, "number": 1, "bonds": rows}, user=USER)
-    right((refused[0], refused[2]) == (403, '{"forbidden":"group"}'), "nginx refuses it all the same", refused)
+    refused = bank.nginx.ask(USER, "POST", "/bonds", {"desk": 902, "number": 1, "bonds": rows})
+    right((refused.status, refused.text) == (403, '{"forbidden":"group"}'), "nginx refuses it all the same", refused)
     if bank.pictures is not None:
         page.pictured("walkin_barred")
-    conf = bank.nginx.folder / "conf.d" / "counter.conf"
-    conf.write_text(replaced(conf.read_text(), [(NO_GROUPS, "        return 404;")]))
-    bank.nginx.process.send_signal(signal.SIGHUP)
-    page.until(lambda: bank.nginx.ask("GET", "/groups", user=USER)[0] == 404, "nginx tells no groups")
-    page.reload()
-    page.until(lambda: page.find("nav a[href='#walkin']").is_displayed(), "without groups it is offered")
-    right(page.find("#add-walkin").is_displayed() and not page.find("#walkin-barred").is_displayed(), "control: without groups it is offered to all", page.find("#walkin").text)
     page.quit()
+    other = Front(bank.folder / "other", bank.gate.port, bank.users, bank.teller, {"location = /user {": "location = /other {"})
+    bank.port, bank.certificate = other.port, other.exported(USER)
+    page = Page(bank)
+    page.choose_desk(6)
+    page.join_day(DAY)
+    page.go("walkin")
+    right(page.find("#add-walkin").is_displayed() and not page.find("#walkin-barred").is_displayed() and not page.find("#user").is_displayed(), "control: without a path /user it is offered to all, and no name is shown", page.find("#walkin").text)
+    page.quit()
+    other.end()
 
 
 # ---- typing
