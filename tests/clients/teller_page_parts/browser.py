@@ -14,7 +14,7 @@ from selenium.webdriver.remote.webelement import WebElement
 from selenium.webdriver.support.ui import WebDriverWait
 
 from bank import Quits
-from engines import ENGINES
+from engines import ENGINES, Chromium, Firefox
 
 PATIENCE = 60
 DOUBT = "Do these bonds agree with the paper?"
@@ -40,10 +40,10 @@ class Page:
     #: The name of the browser, of engines.py.
     browser = "chromium"
 
-    def __init__(self, bank: Place, profile: str | None = None, size: tuple[int, int] = (1100, 820)) -> None:
+    def __init__(self, bank: Place, profile: str | None = None, size: tuple[int, int] = (1100, 820), engine: Chromium | Firefox | None = None) -> None:
         self.bank = bank
         self.profile = profile or tempfile.mkdtemp(dir=bank.folder)
-        self.engine = ENGINES[self.browser](self.profile, size, bank.certificate)
+        self.engine = engine or ENGINES[self.browser](self.profile, size, bank.certificate)
         self.driver = self.engine.driver
         self.asked: list[list[str]] = []
         bank.pages.append(self)

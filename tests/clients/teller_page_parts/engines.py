@@ -7,7 +7,7 @@ import os
 import signal
 import subprocess
 from pathlib import Path
-from typing import Any, Iterator
+from typing import Any, Iterator, Sequence
 
 from selenium import webdriver
 from selenium.webdriver.chrome.service import Service
@@ -55,27 +55,32 @@ class Chromium:
     name = "chromium"
 
     def __init__(self, profile: str, size: tuple[int, int], certificate: Path | None = None) -> None:
+        self.begin(profile, size, self.service_with(profile, certificate))
+
+    def begin(self, profile: str, size: tuple[int, int], service: Service, trusting: bool = True, strategy: str = "normal", ways: Sequence[str] = ("--headless=new",)) -> None:
+        """Starts it: `trusting` servers of any certificate, and waiting for a page by a `strategy` of WebDriver."""
         self.profile = profile
-        service = self.service_with(certificate)
         options = webdriver.ChromeOptions()
         options.binary_location = "/usr/bin/chromium"
-        options.accept_insecure_certs = True
-        own = (f"--user-data-dir={profile}", f"--window-size={size[0]},{size[1]}")
-        for word in ("--headless=new", "--no-sandbox", "--disable-dev-shm-usage", "--force-device-scale-factor=1", "--hide-scrollbars", "--lang=en-US", *own):
+        options.accept_insecure_certs = trusting
+        options.page_load_strategy = strategy
+        own = (f"--user-data-dir={profile}", f"--window-size={size[0]},{size[1]}", *ways)
+        for word in ("--no-sandbox", "--disable-dev-shm-usage", "--force-device-scale-factor=1", "--hide-scrollbars", "--lang=en-US", *own):
             options.add_argument(word)
         options.set_capability("goog:loggingPrefs", {"browser": "ALL"})
         self.driver = webdriver.Chrome(service=service, options=options)
         # As in a browser that keeps the page's data.
         self.driver.execute_cdp_cmd("Browser.grantPermissions", {"permissions": ["durableStorage"]})
 
-    def service_with(self, certificate: Path | None) -> Service:
+    @staticmethod
+    def service_with(profile: str, certificate: Path | None) -> Service:
         """The driver of a browser that sends the certificate without a question: a home of its own, and the policy of docs/TELLERS.md."""
-        home, policies = Path(self.profile, "home"), Path(self.profile, "etc", "policies", "managed")
+        home, policies = Path(profile, "home"), Path(profile, "etc", "policies", "managed")
         take(home / ".pki" / "nssdb", certificate)
         policies.mkdir(parents=True, exist_ok=True)
         choice = json.dumps({"pattern": "https://127.0.0.1", "filter": {}})
         (policies / "counter.json").write_text(json.dumps({"AutoSelectCertificateForUrls": [choice]}))
-        driver = Path(self.profile, "driver")
+        driver = Path(profile, "driver")
         driver.write_text(DRIVER.format(folder=policies.parents[1]))
         driver.chmod(0o755)
         return Service(str(driver), env={**os.environ, "HOME": str(home)})
@@ -164,9 +169,13 @@ class Firefox:
 
     def __init__(self, profile: str, size: tuple[int, int], certificate: Path | None = None) -> None:
         take(Path(profile), certificate)
-        self.process = FirefoxProcess(profile)
+        self.begin(FirefoxProcess(profile, more={"security.default_personal_cert": "Select Automatically"}), size)
+
+    def begin(self, process: FirefoxProcess, size: tuple[int, int], trusting: bool = True, strategy: str = "normal") -> None:
+        self.process = process
         options = webdriver.FirefoxOptions()
-        options.accept_insecure_certs = True
+        options.accept_insecure_certs = trusting
+        options.page_load_strategy = strategy
         self.driver = webdriver.Remote(self.process.address, options=options)
         self.resize(*size)
 

@@ -10,7 +10,7 @@ import subprocess
 import threading
 import time
 from pathlib import Path
-from typing import Any
+from typing import Any, Mapping, Sequence
 
 #: An object of the protocol.
 Json = dict[str, Any]
@@ -54,7 +54,7 @@ COMMANDS = [
     ("POST", r"print", "WebDriver:Print"),
     ("POST", r"timeouts", "WebDriver:SetTimeouts"),
 ]
-#: No page of Mozilla's is asked for, a certificate is sent and a page's data kept without a question, and the WebDriver element keeps its name.
+#: No page of Mozilla's is asked for, a page's data is kept without a question, and the WebDriver element keeps its name.
 PREFERENCES = {
     "marionette.port": 0,
     "app.update.enabled": False,
@@ -68,7 +68,6 @@ PREFERENCES = {
     "dom.storageManager.prompt.testing.allow": True,
     "network.captive-portal-service.enabled": False,
     "network.connectivity-service.enabled": False,
-    "security.default_personal_cert": "Select Automatically",
     "intl.accept_languages": "en-US",
     "toolkit.startup.max_resumed_crashes": -1,
 }
@@ -110,14 +109,15 @@ class Server(http.server.ThreadingHTTPServer):
 class Firefox:
     """Debian's firefox-esr with a profile, and the server that selenium speaks to at `address`."""
 
-    def __init__(self, profile: str | Path, scale: float = 1) -> None:
+    def __init__(self, profile: str | Path, scale: float = 1, more: Mapping[str, object] = {}, within: Sequence[str] = (), way: str = "--headless") -> None:
+        """`more` preferences, if any. `within` is the begin of a command that starts Firefox, and `way` an option."""
         self.profile = Path(profile)
-        preferences: dict[str, object] = {**PREFERENCES, "layout.css.devPixelsPerPx": str(scale)}
+        preferences: dict[str, object] = {**PREFERENCES, "layout.css.devPixelsPerPx": str(scale), **more}
         lines = [f"user_pref({json.dumps(name)}, {json.dumps(value)});\n" for name, value in preferences.items()]
         (self.profile / "user.js").write_text("".join(lines))
         active = self.profile / "MarionetteActivePort"
         active.unlink(missing_ok=True)
-        words = ["firefox-esr", "--headless", "--marionette", "--remote-allow-system-access", "--no-remote", "--profile", str(profile)]
+        words = [*within, "firefox-esr", way, "--marionette", "--remote-allow-system-access", "--no-remote", "--profile", str(profile)]
         self.process = subprocess.Popen(words, stdout=subprocess.DEVNULL, stderr=subprocess.DEVNULL, start_new_session=True)
         self.marionette = Marionette(self.port_of(active))
         self.server = Server(("127.0.0.1", 0), self.handler())
