@@ -49,7 +49,7 @@ async function asked({ path, fields, parts, answer }) {
 const kinds = [];
 for (const one of plan.calls) kinds.push((await asked(one)).kind);
 const answers = plan.answers.map((one) => {
-  const { kind, code, name } = read(one) ?? { kind: "none" };
-  return { kind: kind ?? "sheet", code, name };
+  const { kind, code, name, why } = read(one) ?? { kind: "none" };
+  return { kind: kind ?? "sheet", code, name: kind === "forbidden" ? why : name };
 });
 console.log(JSON.stringify({ sent, kinds, answers }));
