@@ -118,7 +118,7 @@ function readUnserved(text) {
   return value !== null && isNumber(value.code) && typeof value.unserved === "string" ? { kind: "unserved", name: value.unserved, ...value } : null;
 }
 
-// The proxy's reasons to pass a request on to nobody.
+// The proxy's reasons not to pass a request on.
 const FORBIDDEN = ["certificate", "request", "origin", "client", "type", "group", "chunks", "size", "host"];
 
 // What isn't the counter's answer: one of the proxy's own, or of something else.
@@ -137,7 +137,7 @@ export function readUser(text) {
   return typeof user === "string" && NAME.test(user) && typeof groups === "string" ? { kind: "user", name: user, groups: groups.split(" ") } : null;
 }
 
-// Reads a response: what `read` makes of a 200, a refusal, a fault, a request that wasn't served, one that the proxy passed on to nobody, or no answer of the counter.
+// Reads a response: what `read` makes of a 200, a refusal, a fault, a request that wasn't served, one that the proxy didn't pass on, or no answer of the counter.
 export function readAnswer(status, text, read) {
   const other = otherAnswer(status, text);
   if (status === 200) return read(text) ?? other;

@@ -106,7 +106,7 @@ export function tellRefused(answer, ...more) {
   notice("refused", says, advises, ...more, ...codeLine(answer, answer.kind === "refused" && !isAfterRegistration(answer) ? NOTICES.nothing_changed : ""));
 }
 
-// A request that the proxy passed on to nobody; `path` is null for a look-up.
+// A request that the proxy didn't pass on; `path` is null for a look-up.
 export function tellForbidden(answer, path, ...more) {
   const { says, advises } = forbiddenInWords(answer.why, path);
   notice("refused", isAfterRegistration(answer) ? says : NOTICES.nothing_done(says), advises, ...more, ...codeLine(answer));

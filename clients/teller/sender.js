@@ -4,7 +4,7 @@
 // NumberReused means that another request of this desk has the number. The same request would have got its own reply, so this one was never done under that number, and no copy of it
 // that is still on its way ever will be. It continues under a higher number, which is written into the journal first.
 //
-// A fault, or the proxy's word that it passed the request on to nobody, answers one sending. On the first sending it is final: nothing was done, and no other sending is on its way, since the proxy passes
+// A fault, or the proxy's word that it didn't pass the request on, answers one sending. On the first sending it is final: nothing was done, and no other sending is on its way, since the proxy passes
 // no repeat of the browser's own on. On a later one it tells nothing about the sendings before it, so the request stays open. A request without a certificate of the staff always does: it is sent again.
 //
 // A registration may have a payment that follows it (`then`). When the registration's reply has come, the payment takes its place in the journal, in one step. So whenever the page is closed or

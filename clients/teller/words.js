@@ -537,7 +537,7 @@ export const RIGHTS = {
 
 const unlike = () => "Reload the page. If this stays, tell your administrator.";
 
-// By the reason that the proxy gives: why it passed a request on to nobody, and what to do about it.
+// By the reason that the proxy gives: why it didn't pass a request on, and what to do about it.
 export const FORBIDDEN = {
   certificate: [() => "This browser sent no certificate of the staff, or it was revoked or has run out.", () => "Put in your card, or close the browser and open it again. If this stays, ask your administrator for a new certificate."],
   group: [([act]) => `This user may not ${act}.`, ([, who]) => `Ask ${who}.`],
@@ -588,7 +588,7 @@ export function inWords(answer) {
   return { says: known[1](answer), advises: known[2](answer) };
 }
 
-// A request that the proxy passed on to nobody, for the reason `why`. `path` is null for a look-up.
+// A request that the proxy didn't pass on, for the reason `why`. `path` is null for a look-up.
 export function forbiddenInWords(why, path) {
   const rights = RIGHTS[path ?? "other"];
   const [says, advises] = FORBIDDEN[why].map((words) => words(rights));
