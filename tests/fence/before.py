@@ -24,7 +24,7 @@ class Before:
         tree = folder / "tree"
         tarfile.open(fileobj=BytesIO(ran.stdout)).extractall(tree)
         old = folder / "ee_cli"
-        old.write_bytes(program.read_bytes().replace(b"ee_cli 1.1.0", b"ee_cli 1.0.0"))
+        old.write_bytes(program.read_bytes().replace(b"1.1.0", b"1.0.0"))
         old.chmod(0o755)
         changelog = tree / "packaging/debian/changelog"
         changelog.write_text(changelog.read_text().replace("(1.0.0-1)", f"({COMMITS[commit]})"))
