@@ -38,7 +38,12 @@ class Before:
             stdout=subprocess.PIPE,
             stderr=subprocess.STDOUT,
             text=True,
-            env={**os.environ, "TMPDIR": str(folder), "SOURCE_DATE_EPOCH": "1795000000"},
+            env={
+                **os.environ,
+                "TMPDIR": str(folder),
+                "SOURCE_DATE_EPOCH": "1795000000",
+                "DPKG_DEB_COMPRESSOR_TYPE": "none",
+            },
         )
         assert ran_build.returncode == 0, ran_build.stdout
 

@@ -130,7 +130,7 @@ class Release:
             stdout=subprocess.PIPE,
             stderr=subprocess.STDOUT,
             text=True,
-            env={**os.environ, "TMPDIR": str(folder)},
+            env={**os.environ, "TMPDIR": str(folder), "DPKG_DEB_COMPRESSOR_TYPE": "none"},
         )
         assert ran.returncode == 0, ran.stdout
 
