@@ -13,8 +13,8 @@ from cryptography.hazmat.primitives import hashes, serialization
 from cryptography.hazmat.primitives.asymmetric import ec
 from cryptography.x509.oid import ExtendedKeyUsageOID, NameOID
 
-from tests.fence.counter import ANSWER, Recorder
-from tests.fence.site import Answer, Site
+from tests.fence.recorder import ANSWER, RecordedSite
+from tests.fence.site import Answer
 from tests.fence.wire import answer_in, connected, everything, message
 
 GROUPS = {"anna": "teller", "bert": "supervisor"}
@@ -71,43 +71,40 @@ class Authority:
         )
 
 
-class Scene:
+class Scene(RecordedSite):
+    """A site whose authority signs what it shouldn't."""
+
     def __init__(self, folder: Path, **changed: str) -> None:
-        folder.chmod(0o755)
-        self.recorder, self.client = Recorder(folder / "counter.sock"), folder / "client.pem"
-        self.site = Site(folder / "site", self.recorder.at, GROUPS, changed=changed)
-        staff = self.site.folder / "staff"
-        key = serialization.load_pem_private_key((staff / "private/ca.key").read_bytes(), None)
-        assert isinstance(key, ec.EllipticCurvePrivateKey)
-        self.staff = Authority(
-            x509.load_pem_x509_certificate((staff / "ca.crt").read_bytes()).subject, key
+        super().__init__(folder, GROUPS, changed)
+        key = serialization.load_pem_private_key(
+            (self.staff.folder / "private/ca.key").read_bytes(), None
         )
+        assert isinstance(key, ec.EllipticCurvePrivateKey)
+        certificate = x509.load_pem_x509_certificate((self.staff.folder / "ca.crt").read_bytes())
+        self.authority = Authority(certificate.subject, key)
 
-    def end(self) -> None:
-        self.site.end()
-        self.recorder.shutdown()
-
-    def context(self, certificate: str) -> ssl.SSLContext:
+    def client(self, certificate: str) -> ssl.SSLContext:
         key = KEY.private_bytes(
             serialization.Encoding.PEM,
             serialization.PrivateFormat.PKCS8,
             serialization.NoEncryption(),
         )
-        self.client.write_text(certificate + key.decode())
-        made = self.site.context(None)
-        made.load_cert_chain(self.client)
+        file = self.folder / "client.pem"
+        file.write_text(certificate + key.decode())
+        made = self.context(None)
+        made.load_cert_chain(file)
         return made
 
-    def asked(self, context: ssl.SSLContext, line: bytes) -> Answer:
-        with connected(self.site, context, 10) as wire:
+    def answer(self, context: ssl.SSLContext, line: bytes) -> Answer:
+        with connected(self, context, 10) as wire:
             wire.sendall(message(line))
             return answer_in(everything(wire))
 
-    def groups(self, context: ssl.SSLContext) -> tuple[str | None, str, bool, bool]:
+    def rights(self, context: ssl.SSLContext) -> tuple[str | None, str, bool, bool]:
         """What a client has: the name and groups that /user says, and whether it is served as a teller and as a supervisor."""
-        user = self.asked(context, b"GET /user HTTP/1.1").json()
+        user = self.answer(context, b"GET /user HTTP/1.1").json()
         served = [
-            self.asked(context, b"POST %s HTTP/1.1" % path).text == ANSWER.decode()
+            self.answer(context, b"POST %s HTTP/1.1" % path).text == ANSWER.decode()
             for path in (b"/redeem", b"/day/close")
         ]
         return user.get("user"), user.get("groups", ""), served[0], served[1]
@@ -115,9 +112,8 @@ class Scene:
 
 @pytest.fixture(scope="module")
 def scene(tmp_path_factory: pytest.TempPathFactory) -> Iterator[Scene]:
-    made = Scene(tmp_path_factory.mktemp("certificates"))
-    yield made
-    made.end()
+    with Scene(tmp_path_factory.mktemp("certificates")) as made:
+        yield made
 
 
 NOBODY = (None, "", False, False)
@@ -126,17 +122,17 @@ ANNA = named("anna")
 KEPT_OUT: dict[str, Callable[[Scene], str]] = {
     "another authority": lambda scene: Authority(named("other"), KEY).certificate(ANNA),
     "another authority of the same name": lambda scene: Authority(
-        scene.staff.name, KEY
+        scene.authority.name, KEY
     ).certificate(ANNA),
     "signed for itself": lambda scene: Authority(ANNA, KEY).certificate(ANNA),
     "signed by a teller": lambda scene: Authority(ANNA, KEY).certificate(named("bert"))
-    + scene.staff.certificate(ANNA),
-    "ended yesterday": lambda scene: scene.staff.certificate(ANNA, -2, -1),
-    "from tomorrow": lambda scene: scene.staff.certificate(ANNA, 1, 2),
-    "a server's": lambda scene: scene.staff.certificate(
+    + scene.authority.certificate(ANNA),
+    "ended yesterday": lambda scene: scene.authority.certificate(ANNA, -2, -1),
+    "from tomorrow": lambda scene: scene.authority.certificate(ANNA, 1, 2),
+    "a server's": lambda scene: scene.authority.certificate(
         ANNA, usage=ExtendedKeyUsageOID.SERVER_AUTH
     ),
-    "for signing programs": lambda scene: scene.staff.certificate(
+    "for signing programs": lambda scene: scene.authority.certificate(
         ANNA, usage=ExtendedKeyUsageOID.CODE_SIGNING
     ),
 }
@@ -144,30 +140,29 @@ KEPT_OUT: dict[str, Callable[[Scene], str]] = {
 
 @pytest.mark.parametrize("made", KEPT_OUT.values(), ids=KEPT_OUT)
 def test_who_is_kept_out(scene: Scene, made: Callable[[Scene], str]) -> None:
-    context = scene.context(made(scene))
-    before = scene.site.log()
-    assert scene.groups(context) == NOBODY
+    context = scene.client(made(scene))
+    before = scene.log()
+    assert scene.rights(context) == NOBODY
     for line in (b"GET /teller/ HTTP/1.1", b"GET /user HTTP/1.1", b"POST /redeem HTTP/1.1"):
-        answer = scene.asked(context, line)
+        answer = scene.answer(context, line)
         assert (answer.status, answer.json()["forbidden"]) == (400, "certificate")
-    assert scene.site.log() == before, "nor does the log name anybody"
+    assert scene.log() == before, "nor does the log name anybody"
 
 
 def test_control_a_teller_is_let_in(scene: Scene) -> None:
-    assert scene.groups(scene.context(scene.staff.certificate(ANNA))) == (
+    assert scene.rights(scene.client(scene.authority.certificate(ANNA))) == (
         "anna",
         "teller",
         True,
         False,
     )
-    assert scene.groups(scene.site.context("bert")) == ("bert", "supervisor", False, True)
+    assert scene.rights(scene.context("bert")) == ("bert", "supervisor", False, True)
 
 
 def test_control_without_the_test_of_certificates_anybody_is_let_in(tmp_path: Path) -> None:
     changed = {"ssl_verify_client on": "ssl_verify_client optional_no_ca"}
-    scene = Scene(tmp_path, **changed, **{"$ssl_client_verify ": "SUCCESS "})
-    assert scene.groups(scene.context(KEPT_OUT["another authority"](scene)))[2]
-    scene.end()
+    with Scene(tmp_path, **changed, **{"$ssl_client_verify ": "SUCCESS "}) as scene:
+        assert scene.rights(scene.client(KEPT_OUT["another authority"](scene)))[2]
 
 
 #: Subjects that look like bert's, and the name of each. None but his own is bert.
@@ -207,11 +202,11 @@ SUBJECTS = {
 
 def test_no_subject_is_taken_for_another_person(scene: Scene) -> None:
     for kind, (name, user) in SUBJECTS.items():
-        found = scene.groups(scene.context(scene.staff.certificate(name)))
+        found = scene.rights(scene.client(scene.authority.certificate(name)))
         assert found == (user, GROUPS.get(user, ""), user == "anna", False), kind
-        assert not user or scene.site.log()[-1]["user"] == user, kind
+        assert not user or scene.log()[-1]["user"] == user, kind
     with_bank = subject((BANK, "Bank"), (UNIT, "desk 3"), (NAME, "bert"))
-    assert scene.groups(scene.context(scene.staff.certificate(with_bank)))[0] == "bert"
+    assert scene.rights(scene.client(scene.authority.certificate(with_bank)))[0] == "bert"
 
 
 LOOSE = {
@@ -220,32 +215,34 @@ LOOSE = {
 
 
 def test_control_by_a_looser_pattern_others_are_bert(tmp_path: Path) -> None:
-    scene = Scene(tmp_path, **LOOSE)
-    let_in = [
-        kind
-        for kind, (name, _) in SUBJECTS.items()
-        if scene.groups(scene.context(scene.staff.certificate(name)))[3]
-    ]
-    assert {"a unit with a comma", "capitals", "a blank behind", "two names in one part"} <= set(
-        let_in
-    )
-    scene.end()
+    with Scene(tmp_path, **LOOSE) as scene:
+        let_in = [
+            kind
+            for kind, (name, _) in SUBJECTS.items()
+            if scene.rights(scene.client(scene.authority.certificate(name)))[3]
+        ]
+        assert {
+            "a unit with a comma",
+            "capitals",
+            "a blank behind",
+            "two names in one part",
+        } <= set(let_in)
 
 
 def resumed(scene: Scene, version: ssl.TLSVersion) -> int:
     """The status for a client that resumes a session from before its certificate was revoked."""
-    scene.site.staff.hire("carl")
-    context = scene.site.context("carl")
+    scene.staff.hire("carl")
+    context = scene.context("carl")
     context.minimum_version = context.maximum_version = version
     session: ssl.SSLSession | None = None
     for nth in range(2):
-        with connected(scene.site, context, 10, session) as wire:
+        with connected(scene, context, 10, session) as wire:
             wire.sendall(message(b"GET /user HTTP/1.1"))
             status, session = answer_in(everything(wire)).status, wire.session
         if nth == 0:
             assert status == 200
-            scene.site.staff.dismiss("carl")
-            scene.site.reload()
+            scene.staff.dismiss("carl")
+            scene.reload()
     return status
 
 
@@ -260,24 +257,25 @@ def test_a_revoked_certificate_is_refused_though_its_session_is_resumed(
 
 
 def test_control_with_a_cache_of_sessions_it_is_let_in(tmp_path: Path) -> None:
-    scene = Scene(tmp_path, **{"ssl_session_cache off": "ssl_session_cache shared:test:1m"})
-    assert [resumed(scene, version) for version in VERSIONS] == [200, 200]
-    scene.end()
+    with Scene(tmp_path, **{"ssl_session_cache off": "ssl_session_cache shared:test:1m"}) as scene:
+        assert [resumed(scene, version) for version in VERSIONS] == [200, 200]
 
 
 def renewed(scene: Scene, days: int) -> None:
     """Puts a list of revoked certificates with this last day into its place, and reloads."""
     now = datetime.datetime.utcnow()
-    made = x509.CertificateRevocationListBuilder(scene.staff.name, now - 3 * DAY, now + days * DAY)
-    text = made.sign(scene.staff.key, hashes.SHA256()).public_bytes(serialization.Encoding.PEM)
-    (scene.site.folder / "staff/crl.pem").write_bytes(text)
-    scene.site.reload()
+    made = x509.CertificateRevocationListBuilder(
+        scene.authority.name, now - 3 * DAY, now + days * DAY
+    )
+    text = made.sign(scene.authority.key, hashes.SHA256()).public_bytes(serialization.Encoding.PEM)
+    (scene.staff.folder / "crl.pem").write_bytes(text)
+    scene.reload()
 
 
 def test_a_list_of_revoked_certificates_past_its_date_keeps_everybody_out(scene: Scene) -> None:
     renewed(scene, -1)
-    answer = scene.site.ask("anna", "GET", "/user")
+    answer = scene.ask("anna", "GET", "/user")
     assert (answer.status, answer.json()["forbidden"]) == (400, "certificate")
-    scene.site.staff.easyrsa("gen-crl")
-    scene.site.reload()
-    assert scene.site.ask("anna", "GET", "/user").status == 200, "control: a new list lets them in"
+    scene.staff.easyrsa("gen-crl")
+    scene.reload()
+    assert scene.ask("anna", "GET", "/user").status == 200, "control: a new list lets them in"

@@ -10,7 +10,7 @@ from typing import Iterator, Mapping
 
 import pytest
 
-from tests.fence.counter import ANSWER, Recorder
+from tests.fence.recorder import ANSWER, UNLIMITED, RecordedSite
 from tests.fence.site import CLIENT, Answer, Site
 from tests.fence.wire import answer_in, connected, everything, message, sent
 
@@ -49,47 +49,32 @@ EIGHT = {
     "Cross-Origin-Opener-Policy": "same-origin",
     "X-Request-Id": None,
 }
-FULL = {"rate=10r/s": "rate=100000r/s"}
-
-
-class Scene:
-    """A site before a counter that records."""
-
-    def __init__(self, folder: Path, changed: Mapping[str, str] = FULL) -> None:
-        folder.chmod(0o755)
-        self.recorder = Recorder(folder / "counter.sock")
-        self.site = Site(folder / "site", self.recorder.at, GROUPS, changed=changed)
-
-    def end(self) -> None:
-        self.site.end()
-        self.recorder.shutdown()
-
-    def asked(self, user: str | None, route: str, **more: str) -> tuple[int, str]:
-        method, path = route.split()
-        value = {"number": 1} if method == "POST" else None
-        answer = self.site.ask(user, method, path, value, {**CLIENT, **more})
-        return answer.status, answer.text
 
 
 @pytest.fixture(scope="module")
-def scene(tmp_path_factory: pytest.TempPathFactory) -> Iterator[Scene]:
-    made = Scene(tmp_path_factory.mktemp("groups"))
-    yield made
-    made.end()
+def recorded(tmp_path_factory: pytest.TempPathFactory) -> Iterator[RecordedSite]:
+    with RecordedSite(tmp_path_factory.mktemp("groups"), GROUPS) as made:
+        yield made
 
 
-def allowed(scene: Scene) -> dict[str, set[str]]:
+def asked(site: Site, user: str, route: str) -> tuple[int, str]:
+    method, path = route.split()
+    answer = site.ask(user, method, path, {"number": 1} if method == "POST" else None)
+    return answer.status, answer.text
+
+
+def allowed(site: Site) -> dict[str, set[str]]:
     """The users who are served on each route. All others must be told that it is for the group."""
     served: dict[str, set[str]] = {}
     for route in ROUTES:
-        answers = {user: scene.asked(user, route) for user in GROUPS}
+        answers = {user: asked(site, user, route) for user in GROUPS}
         served[route] = {user for user, found in answers.items() if found == (200, ANSWER.decode())}
         others = {found for user, found in answers.items() if user not in served[route]}
         assert others <= {(403, '{"forbidden":"group"}')}
     return served
 
 
-def test_each_group_has_its_own_routes(scene: Scene) -> None:
+def test_each_group_has_its_own_routes(recorded: RecordedSite) -> None:
     wanted = {
         route: {
             user
@@ -98,8 +83,8 @@ def test_each_group_has_its_own_routes(scene: Scene) -> None:
         }
         for route, group in ROUTES.items()
     }
-    assert allowed(scene) == wanted
-    entries = {(e["user"], e["route"]) for e in scene.site.log() if e["counter"]}
+    assert allowed(recorded) == wanted
+    entries = {(e["user"], e["route"]) for e in recorded.log() if e["counter"]}
     assert entries == {
         (user, route[5:]) for route, users in wanted.items() for user in users if route[0] == "P"
     }
@@ -107,32 +92,31 @@ def test_each_group_has_its_own_routes(scene: Scene) -> None:
 
 def test_control_without_the_check_of_groups_all_are_served(tmp_path: Path) -> None:
     changed = {"default                                       0;": "default 1;"}
-    scene = Scene(tmp_path, {**FULL, **changed})
-    assert all(users == set(GROUPS) for users in allowed(scene).values())
-    scene.end()
+    with RecordedSite(tmp_path, GROUPS, {**UNLIMITED, **changed}) as site:
+        assert all(users == set(GROUPS) for users in allowed(site).values())
 
 
-def test_user_says_name_and_groups(scene: Scene) -> None:
+def test_user_says_name_and_groups(recorded: RecordedSite) -> None:
     for user, groups in GROUPS.items():
-        assert scene.site.ask(user, "GET", "/user").json() == {"user": user, "groups": groups}
+        assert recorded.ask(user, "GET", "/user").json() == {"user": user, "groups": groups}
     foreign = {**CLIENT, "Sec-Fetch-Site": "cross-site"}
-    assert scene.site.ask("anna", "GET", "/user", headers=foreign).json() == {"forbidden": "origin"}
+    assert recorded.ask("anna", "GET", "/user", headers=foreign).json() == {"forbidden": "origin"}
 
 
-def test_nothing_else_is_there(scene: Scene) -> None:
-    scene.recorder.take()
+def test_nothing_else_is_there(recorded: RecordedSite) -> None:
+    recorded.recorder.take()
     paths = "/groups /sign-out /redeem/1 /ratesX /day /day/opened /refused /other /teller/none"
     for path in [*paths.split(), "/teller/../counter.py", "/teller/..%2f..%2fcounter.py"]:
-        assert scene.site.ask("dora", "GET", path).status in (400, 404), path
+        assert recorded.ask("dora", "GET", path).status in (400, 404), path
     for path in ("/", "/teller"):
-        answer = scene.site.ask("erik", "GET", path)
+        answer = recorded.ask("erik", "GET", path)
         assert (answer.status, answer.headers["Location"]) == (
             302,
-            f"https://127.0.0.1:{scene.site.port}/teller/",
+            f"https://127.0.0.1:{recorded.port}/teller/",
         )
-    assert "<html" in scene.site.ask("erik", "GET", "/teller/").text
-    assert scene.site.ask("erik", "GET", "/teller/bank.js").status == 200
-    assert scene.recorder.take() == []
+    assert "<html" in recorded.ask("erik", "GET", "/teller/").text
+    assert recorded.ask("erik", "GET", "/teller/bank.js").status == 200
+    assert recorded.recorder.take() == []
 
 
 Header = Mapping[str, str]
@@ -202,23 +186,23 @@ def wrong_headers(answer: Answer) -> list[tuple[str, list[str] | None]]:
 
 @pytest.mark.parametrize("user, line, more, body, status, name", NAMED)
 def test_named_answers(
-    scene: Scene, user: str, line: str, more: Header, body: bytes, status: int, name: str
+    recorded: RecordedSite, user: str, line: str, more: Header, body: bytes, status: int, name: str
 ) -> None:
-    scene.recorder.take()
-    answer = answered(scene.site, user, line, more, body)
+    recorded.recorder.take()
+    answer = answered(recorded, user, line, more, body)
     assert is_named(answer, status, name), (answer.status, answer.text, wrong_headers(answer))
-    assert scene.recorder.take() == []
+    assert recorded.recorder.take() == []
 
 
-def test_plain_http_is_answered_by_its_name(scene: Scene) -> None:
-    with socket.create_connection((scene.site.name, scene.site.port)) as line:
+def test_plain_http_is_answered_by_its_name(recorded: RecordedSite) -> None:
+    with socket.create_connection((recorded.name, recorded.port)) as line:
         line.sendall(message(b"GET /ticket/1 HTTP/1.1"))
         assert is_named(answer_in(everything(line)), 400, "request")
 
 
-def test_each_other_answer_has_the_headers_too(scene: Scene) -> None:
+def test_each_other_answer_has_the_headers_too(recorded: RecordedSite) -> None:
     paths = ("/", "/teller/", "/teller/none", "/teller/bank.js", "/user", "/ticket/1", "/other")
-    answers = {path: scene.site.ask("anna", "GET", path) for path in paths}
+    answers = {path: recorded.ask("anna", "GET", path) for path in paths}
     assert {path: wrong_headers(answer) for path, answer in answers.items()} == dict.fromkeys(
         paths, []
     )
@@ -231,22 +215,20 @@ def test_each_other_answer_has_the_headers_too(scene: Scene) -> None:
 
 
 def test_no_counter_repeated_sendings_and_too_many_requests(tmp_path: Path) -> None:
-    scene = Scene(tmp_path, {})
-    named = {"X-Counter-Sending": "one"}
-    line = "POST /redeem HTTP/1.1"
-    assert answered(scene.site, "anna", line, named).status == 200
-    assert is_named(answered(scene.site, "anna", line, named), 429, "repeated")
-    assert answered(scene.site, "anna", line, {"X-Counter-Sending": "two"}).status == 200
-    assert len(scene.recorder.take()) == 2, "the counter never sees the repeat"
-    with ThreadPoolExecutor(8) as pool:
-        found = list(pool.map(lambda _: answered(scene.site, "anna", line, {}), range(400)))
-    late = [answer for answer in found if answer.status != 200]
-    assert len(late) > 20 and all(is_named(answer, 429, "rate") for answer in late)
-    assert answered(scene.site, "dora", line, {}).status == 200, "another user isn't kept out"
-    scene.recorder.server_close()
-    scene.recorder.shutdown()
-    assert is_named(answered(scene.site, "dora", line, {}), 502, "counter", "unavailable")
-    scene.site.end()
+    with RecordedSite(tmp_path, GROUPS, {}) as site:
+        named = {"X-Counter-Sending": "one"}
+        line = "POST /redeem HTTP/1.1"
+        assert answered(site, "anna", line, named).status == 200
+        assert is_named(answered(site, "anna", line, named), 429, "repeated")
+        assert answered(site, "anna", line, {"X-Counter-Sending": "two"}).status == 200
+        assert len(site.recorder.take()) == 2, "the counter never sees the repeat"
+        with ThreadPoolExecutor(8) as pool:
+            found = list(pool.map(lambda _: answered(site, "anna", line, {}), range(400)))
+        late = [answer for answer in found if answer.status != 200]
+        assert len(late) > 20 and all(is_named(answer, 429, "rate") for answer in late)
+        assert answered(site, "dora", line, {}).status == 200, "another user isn't kept out"
+        site.recorder.end()
+        assert is_named(answered(site, "dora", line, {}), 502, "counter", "unavailable")
 
 
 #: What browsers say of a page of another origin, and of pages of the counter's own.
@@ -269,29 +251,28 @@ OWN: list[Header] = [
 ROUTE = "POST /redeem HTTP/1.1"
 
 
-def from_page(scene: Scene, mark: Header, line: str = ROUTE) -> Answer:
-    port = str(scene.site.port)
+def from_page(site: RecordedSite, mark: Header, line: str = ROUTE) -> Answer:
+    port = str(site.port)
     more = {name: value.replace("PORT", port) for name, value in mark.items()}
-    return answered(scene.site, "anna", line, {"Host": f"127.0.0.1:{port}", **more}, b"{}")
+    return answered(site, "anna", line, {"Host": f"127.0.0.1:{port}", **more}, b"{}")
 
 
 @pytest.mark.parametrize("mark", FOREIGN.values(), ids=FOREIGN)
-def test_a_page_of_another_origin_is_refused(scene: Scene, mark: Header) -> None:
-    scene.recorder.take()
+def test_a_page_of_another_origin_is_refused(recorded: RecordedSite, mark: Header) -> None:
+    recorded.recorder.take()
     for line in (ROUTE, "GET /ticket/1 HTTP/1.1", "GET /user HTTP/1.1"):
-        assert is_named(from_page(scene, mark, line), 403, "origin")
-    assert scene.recorder.take() == []
+        assert is_named(from_page(recorded, mark, line), 403, "origin")
+    assert recorded.recorder.take() == []
 
 
-def test_a_page_of_our_own_and_a_program_are_served(scene: Scene) -> None:
-    assert [from_page(scene, mark).status for mark in OWN] == [200] * len(OWN)
+def test_a_page_of_our_own_and_a_program_are_served(recorded: RecordedSite) -> None:
+    assert [from_page(recorded, mark).status for mark in OWN] == [200] * len(OWN)
 
 
 def test_control_without_the_maps_of_origins_such_a_page_is_served(tmp_path: Path) -> None:
     changed = {'default 0; "" 1; same-origin 1;': "default 1;", 'default 0; "~^ " 1;': "default 1;"}
-    scene = Scene(tmp_path, changed)
-    assert [from_page(scene, mark).status for mark in FOREIGN.values()] == [200] * len(FOREIGN)
-    scene.end()
+    with RecordedSite(tmp_path, GROUPS, changed) as site:
+        assert [from_page(site, mark).status for mark in FOREIGN.values()] == [200] * len(FOREIGN)
 
 
 STATIC = ("AES128-SHA", "AES256-SHA256", "AES128-GCM-SHA256", "AES256-GCM-SHA384")
@@ -309,7 +290,7 @@ def cipher(site: Site, names: str) -> str | None:
         return None
 
 
-def test_each_connection_has_a_key_of_its_own(scene: Scene, tmp_path: Path) -> None:
+def test_each_connection_has_a_key_of_its_own(recorded: RecordedSite) -> None:
     """Who gets the server's key later reads nothing of it."""
-    assert [cipher(scene.site, name) for name in STATIC] == [None] * len(STATIC)
-    assert (cipher(scene.site, "ALL") or "").startswith("ECDHE-")
+    assert [cipher(recorded, name) for name in STATIC] == [None] * len(STATIC)
+    assert (cipher(recorded, "ALL") or "").startswith("ECDHE-")

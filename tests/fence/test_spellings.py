@@ -9,9 +9,9 @@ import time
 from collections import Counter
 from concurrent.futures import ThreadPoolExecutor
 from pathlib import Path
-from typing import Callable, Iterator
+from typing import Callable
 
-from tests.fence.counter import Message, Recorder
+from tests.fence.recorder import UNLIMITED, Message, RecordedSite, Recorder
 from tests.fence.shapes import shapes
 from tests.fence.site import Site
 from tests.fence.spellings import spellings
@@ -29,16 +29,6 @@ METHODS = b"POST GET PUT HEAD post DELETE PATCH OPTIONS TRACE CONNECT PROPFIND M
 #: All is logged, so that what reached the counter can be compared with it, and no request is too many.
 LOGGED = {"$is_post { default 0;": "$is_post { default 1;", "rate=10r/s": "rate=100000r/s"}
 NO_GROUPS = {"default                                       0;": "default 1;"}
-
-
-@contextlib.contextmanager
-def recorded(folder: Path, changed: dict[str, str]) -> Iterator[tuple[Site, Recorder]]:
-    folder.chmod(0o755)
-    recorder = Recorder(folder / "counter.sock")
-    site = Site(folder / "site", recorder.at, GROUPS, changed={**LOGGED, **changed})
-    yield site, recorder
-    site.end()
-    recorder.shutdown()
 
 
 def spelled(site: Site, user: str, words: list[tuple[bytes, bytes]]) -> Counter[int]:
@@ -64,13 +54,13 @@ def all_spellings(port: int) -> list[bytes]:
 
 
 def test_no_spelling_reaches_a_route_of_another_group(tmp_path: Path) -> None:
-    with recorded(tmp_path, {}) as (site, recorder):
+    with RecordedSite(tmp_path, GROUPS, LOGGED) as site:
         words = [(b"POST", target) for target in all_spellings(site.port)]
         words += [(method, route) for method in METHODS for route in ROUTES]
         assert len(words) > 350
         for user, groups in GROUPS.items():
             came = spelled(site, user, words)
-            reached = recorder.take()
+            reached = site.recorder.take()
             assert of_others(reached, groups) == set()
             own = {b"POST %s" % route for route, group in ROUTES.items() if group == groups}
             assert {
@@ -83,14 +73,14 @@ def test_no_spelling_reaches_a_route_of_another_group(tmp_path: Path) -> None:
 
 
 def test_control_without_groups_each_route_is_reached(tmp_path: Path) -> None:
-    with recorded(tmp_path, NO_GROUPS) as (site, recorder):
+    with RecordedSite(tmp_path, GROUPS, {**LOGGED, **NO_GROUPS}) as site:
         for user, groups in GROUPS.items():
             spelled(site, user, [(b"POST", route) for route in ROUTES])
             others = {route for route, group in ROUTES.items() if group != groups}
-            assert {words[1] for words in of_others(recorder.take(), groups)} == others
+            assert {words[1] for words in of_others(site.recorder.take(), groups)} == others
 
 
-def test_the_program_knows_a_route_by_one_spelling(program: str, tmp_path: Path) -> None:
+def test_the_program_knows_a_route_by_one_spelling(program: Path, tmp_path: Path) -> None:
     """What `of_others` says of the counter is true of the program."""
     targets = [
         target for target in all_spellings(443) if b" " not in target and target not in ROUTES
@@ -118,11 +108,11 @@ def smuggled(send: Callable[[list[bytes]], object]) -> dict[bytes, str]:
 
 
 def test_no_request_within_a_request_reaches_the_counter(tmp_path: Path) -> None:
-    with recorded(tmp_path, {}) as (site, recorder):
+    with RecordedSite(tmp_path, GROUPS, LOGGED) as site:
         context = site.context("anna")
         inside = smuggled(lambda pieces: sent(site, context, pieces, pause=0.05, patience=2))
         assert len(set(inside.values())) >= 37
-        reached = recorder.take()
+        reached = site.recorder.take()
         assert [inside[one.body] for one in reached if one.body in inside] == []
         assert {one.words[0] + b" " + one.words[1][:8] for one in reached} <= {
             b"POST /redeem",
@@ -145,4 +135,4 @@ def test_control_straight_to_the_counter_requests_within_requests_arrive(tmp_pat
 
     inside = smuggled(send)
     assert len({inside[one.body] for one in recorder.take() if one.body in inside}) > 10
-    recorder.shutdown()
+    recorder.end()

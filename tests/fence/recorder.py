@@ -1,4 +1,4 @@
-"""Servers in the counter's place, at a Unix socket as on a bank's machine: one that records what reaches it, and the program with its books."""
+"""A server in the counter's place, at a Unix socket as on a bank's machine, that records what reaches it."""
 
 from __future__ import annotations
 
@@ -8,6 +8,9 @@ import re
 import socketserver
 import threading
 from pathlib import Path
+from typing import Mapping, TypeVar
+
+from tests.fence.site import Site
 
 ANSWER = b'{"recorded":true}'
 
@@ -28,15 +31,20 @@ class Message:
 
 
 class Recorder(socketserver.ThreadingUnixStreamServer):
-    """Answers each message 200, as many of a connection as come."""
+    """Answers each message with `status`, as many of a connection as come."""
 
     daemon_threads, request_queue_size = True, 512
+    status = 200
 
     def __init__(self, path: Path) -> None:
         self.messages: list[Message] = []
         self.at = f"http://unix:{path}"
         super().__init__(str(path), Conversation)
         threading.Thread(target=self.serve_forever, daemon=True).start()
+
+    def end(self) -> None:
+        self.shutdown()
+        self.server_close()
 
     def take(self) -> list[Message]:
         """The messages since the last call."""
@@ -65,10 +73,35 @@ class Conversation(socketserver.StreamRequestHandler):
         assert isinstance(self.server, Recorder)
         self.server.messages.append(message)
         self.wfile.write(
-            b"HTTP/1.1 200 OK\r\nContent-Type: application/json\r\nContent-Length: %d\r\n\r\n"
-            % len(ANSWER)
+            b"HTTP/1.1 %d OK\r\nContent-Type: application/json\r\nContent-Length: %d\r\n\r\n"
+            % (self.server.status, len(ANSWER))
             + ANSWER
         )
         is_last = re.search(rb"(?i)\r\nconnection: *close", head) is not None
         message.rest = self.rfile.read() if is_last else b""
         return not is_last
+
+
+#: No request is too many.
+UNLIMITED = {"rate=10r/s": "rate=100000r/s"}
+
+
+Self = TypeVar("Self", bound="RecordedSite")
+
+
+class RecordedSite(Site):
+    """A site before a recorder."""
+
+    def __init__(
+        self, folder: Path, groups: Mapping[str, str], changed: Mapping[str, str] = UNLIMITED
+    ) -> None:
+        folder.chmod(0o755)
+        self.recorder = Recorder(folder / "counter.sock")
+        super().__init__(folder / "site", self.recorder.at, groups, changed=changed)
+
+    def __enter__(self: Self) -> Self:
+        return self
+
+    def __exit__(self, *_: object) -> None:
+        self.end()
+        self.recorder.end()
