@@ -2,8 +2,10 @@
 
 from __future__ import annotations
 
+import contextlib
 import datetime
 import ssl
+import time
 from pathlib import Path
 from typing import Callable, Iterator
 
@@ -279,3 +281,32 @@ def test_a_list_of_revoked_certificates_past_its_date_keeps_everybody_out(scene:
     scene.staff.easyrsa("gen-crl")
     scene.reload()
     assert scene.ask("anna", "GET", "/user").status == 200, "control: a new list lets them in"
+
+
+def revoked_in_mid_body(scene: Scene) -> tuple[float, int]:
+    """A teller sends a payment for 15 seconds. Meanwhile her certificate is revoked, and nginx reloaded. How long after that her connection lives, and how many payments the counter gets."""
+    whole = message(b"POST /redeem HTTP/1.1", b"{" + b" " * 28 + b"}")
+    with connected(scene, scene.context("anna"), 30) as wire:
+        wire.sendall(whole[:-30])
+        scene.staff.dismiss("anna")
+        scene.reload()
+        begun = time.monotonic()
+        with contextlib.suppress(OSError):
+            for at in range(len(whole) - 30, len(whole)):
+                wire.sendall(whole[at : at + 1])
+                time.sleep(0.5)
+        everything(wire)
+    return time.monotonic() - begun, len(scene.recorder.take())
+
+
+def test_a_teller_who_is_revoked_in_mid_body_is_cut_off(tmp_path: Path) -> None:
+    with Scene(tmp_path) as scene:
+        lived, paid = revoked_in_mid_body(scene)
+        assert 5 < lived < 12 and paid == 0
+        assert scene.ask("anna", "GET", "/user").status == 400
+
+
+def test_control_without_worker_shutdown_timeout_she_pays(tmp_path: Path) -> None:
+    with Scene(tmp_path, **{"worker_shutdown_timeout 10s;": ""}) as scene:
+        lived, paid = revoked_in_mid_body(scene)
+        assert lived > 14 and paid == 1
