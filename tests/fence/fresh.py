@@ -21,13 +21,17 @@ WAIT = 120
 
 
 def run(*words: str | Path, **more: Any) -> subprocess.CompletedProcess[str]:
-    return subprocess.run(words, stdout=subprocess.PIPE, stderr=subprocess.STDOUT, text=True, **more)
+    return subprocess.run(
+        words, stdout=subprocess.PIPE, stderr=subprocess.STDOUT, text=True, **more
+    )
 
 
 def done(*words: str | Path, **more: Any) -> str:
     ran = run(*words, **more)
     if ran.returncode != 0:
-        sys.exit(f"WRONG: {' '.join(map(str, words))} ended with status {ran.returncode}\n{ran.stdout}")
+        sys.exit(
+            f"WRONG: {' '.join(map(str, words))} ended with status {ran.returncode}\n{ran.stdout}"
+        )
     return ran.stdout
 
 
@@ -46,12 +50,28 @@ def make_root(base: str, memory: str, root: str) -> None:
     for name in ("upper", "work"):
         os.mkdir(f"{memory}/{name}")
     os.mkdir(root)
-    done("mount", "-t", "overlay", "-o", f"lowerdir={base},upperdir={memory}/upper,workdir={memory}/work", "overlay", root)
+    done(
+        "mount",
+        "-t",
+        "overlay",
+        "-o",
+        f"lowerdir={base},upperdir={memory}/upper,workdir={memory}/work",
+        "overlay",
+        root,
+    )
     done("mount", "-t", "proc", "proc", f"{root}/proc")
     done("mount", "-t", "sysfs", "sysfs", f"{root}/sys")
     done("mount", "-t", "cgroup2", "cgroup2", f"{root}/sys/fs/cgroup")
     for path in ("dev", "run", "tmp"):
-        done("mount", "-t", "tmpfs", "-o", "mode=755" if path != "tmp" else "mode=1777", path, f"{root}/{path}")
+        done(
+            "mount",
+            "-t",
+            "tmpfs",
+            "-o",
+            "mode=755" if path != "tmp" else "mode=1777",
+            path,
+            f"{root}/{path}",
+        )
     for name in DEVICES:
         open(f"{root}/dev/{name}", "w").close()
         done("mount", "--bind", f"/dev/{name}", f"{root}/dev/{name}")
@@ -59,7 +79,9 @@ def make_root(base: str, memory: str, root: str) -> None:
     os.mknod(f"{root}/dev/console", stat.S_IFCHR | 0o600, os.makedev(1, 3))
     for name in ("shm", "pts"):
         os.mkdir(f"{root}/dev/{name}")
-    done("mount", "-t", "devpts", "-o", "newinstance,ptmxmode=666,gid=5", "devpts", f"{root}/dev/pts")
+    done(
+        "mount", "-t", "devpts", "-o", "newinstance,ptmxmode=666,gid=5", "devpts", f"{root}/dev/pts"
+    )
     os.symlink("pts/ptmx", f"{root}/dev/ptmx")
     with open(f"{root}/etc/machine-id", "w") as file:
         file.write("0123456789abcdef0123456789abcdef\n")
@@ -75,7 +97,17 @@ def inside(base: str, memory: str) -> NoReturn:
     os.chroot("/")
     os.chdir("/")
     done("umount", "-l", "/before")
-    os.execve("/usr/lib/systemd/systemd", ["systemd", "--system", "--unit=multi-user.target", "--log-target=journal", "--show-status=no"], {"container": "namespaces", "PATH": "/usr/sbin:/usr/bin:/sbin:/bin"})
+    os.execve(
+        "/usr/lib/systemd/systemd",
+        [
+            "systemd",
+            "--system",
+            "--unit=multi-user.target",
+            "--log-target=journal",
+            "--show-status=no",
+        ],
+        {"container": "namespaces", "PATH": "/usr/sbin:/usr/bin:/sbin:/bin"},
+    )
 
 
 # Outside.
@@ -87,9 +119,25 @@ class Fresh:
     def __init__(self, base: str, folder: str) -> None:
         self.group = make_group()
         self.told = f"{folder}.told"
-        words = ["unshare", "--mount", "--pid", "--fork", "--uts", "--ipc", "--net", "--cgroup", "--kill-child", sys.executable, os.path.abspath(__file__), base, folder]
+        words = [
+            "unshare",
+            "--mount",
+            "--pid",
+            "--fork",
+            "--uts",
+            "--ipc",
+            "--net",
+            "--cgroup",
+            "--kill-child",
+            sys.executable,
+            os.path.abspath(__file__),
+            base,
+            folder,
+        ]
         enter = ["sh", "-c", 'echo $$ > "$0/cgroup.procs" && exec "$@"', self.group, *words]
-        self.outer = subprocess.Popen(enter, stdout=subprocess.DEVNULL, stderr=open(self.told, "w"), start_new_session=True)
+        self.outer = subprocess.Popen(
+            enter, stdout=subprocess.DEVNULL, stderr=open(self.told, "w"), start_new_session=True
+        )
         try:
             self.process = self.first_process()
             self.wait_until_up()
@@ -121,10 +169,28 @@ class Fresh:
 
     def words(self, *words: str | Path) -> list[str | Path]:
         """The words by which a command is run on the machine."""
-        return ["nsenter", "-t", str(self.process), "--mount", "--pid", "--net", "--uts", "--ipc", "--cgroup", "--root", "--wd", *words]
+        return [
+            "nsenter",
+            "-t",
+            str(self.process),
+            "--mount",
+            "--pid",
+            "--net",
+            "--uts",
+            "--ipc",
+            "--cgroup",
+            "--root",
+            "--wd",
+            *words,
+        ]
 
     def on(self, *words: str | Path, **more: Any) -> subprocess.CompletedProcess[str]:
-        env = {"PATH": "/usr/sbin:/usr/bin:/sbin:/bin", "LC_ALL": "C.UTF-8", "DEBIAN_FRONTEND": "noninteractive", "HOME": "/root"}
+        env = {
+            "PATH": "/usr/sbin:/usr/bin:/sbin:/bin",
+            "LC_ALL": "C.UTF-8",
+            "DEBIAN_FRONTEND": "noninteractive",
+            "HOME": "/root",
+        }
         return run(*self.words(*words), env=env, **more)
 
     def shell(self, text: str) -> str:
@@ -151,7 +217,9 @@ class Fresh:
 
 
 def make_group() -> str:
-    top = next((line.split()[1] for line in open("/proc/mounts") if line.split()[2] == "cgroup2"), None)
+    top = next(
+        (line.split()[1] for line in open("/proc/mounts") if line.split()[2] == "cgroup2"), None
+    )
     if top is None:
         sys.exit("no cgroup 2 is mounted")
     group = os.path.join(top, f"package-{os.getpid()}-{time.monotonic_ns()}")
