@@ -73,17 +73,20 @@ class Authority:
         )
 
 
+def of_easyrsa(staff: Path) -> Authority:
+    """The authority that easy-rsa keeps in a folder."""
+    key = serialization.load_pem_private_key((staff / "private/ca.key").read_bytes(), None)
+    assert isinstance(key, ec.EllipticCurvePrivateKey)
+    certificate = x509.load_pem_x509_certificate((staff / "ca.crt").read_bytes())
+    return Authority(certificate.subject, key)
+
+
 class Scene(RecordedSite):
     """A site whose authority signs what it shouldn't."""
 
     def __init__(self, folder: Path, **changed: str) -> None:
         super().__init__(folder, GROUPS, changed)
-        key = serialization.load_pem_private_key(
-            (self.staff.folder / "private/ca.key").read_bytes(), None
-        )
-        assert isinstance(key, ec.EllipticCurvePrivateKey)
-        certificate = x509.load_pem_x509_certificate((self.staff.folder / "ca.crt").read_bytes())
-        self.authority = Authority(certificate.subject, key)
+        self.authority = of_easyrsa(self.staff.folder)
 
     def client(self, certificate: str) -> ssl.SSLContext:
         key = KEY.private_bytes(
@@ -263,19 +266,18 @@ def test_control_with_a_cache_of_sessions_it_is_let_in(tmp_path: Path) -> None:
         assert [resumed(scene, version) for version in VERSIONS] == [200, 200]
 
 
-def renewed(scene: Scene, days: int) -> None:
-    """Puts a list of revoked certificates with this last day into its place, and reloads."""
+def outdate(staff: Path) -> None:
+    """Puts a list of revoked certificates whose last day was yesterday into the place of an authority's."""
     now = datetime.datetime.utcnow()
-    made = x509.CertificateRevocationListBuilder(
-        scene.authority.name, now - 3 * DAY, now + days * DAY
-    )
-    text = made.sign(scene.authority.key, hashes.SHA256()).public_bytes(serialization.Encoding.PEM)
-    (scene.staff.folder / "crl.pem").write_bytes(text)
-    scene.reload()
+    authority = of_easyrsa(staff)
+    made = x509.CertificateRevocationListBuilder(authority.name, now - 3 * DAY, now - DAY)
+    text = made.sign(authority.key, hashes.SHA256())
+    (staff / "crl.pem").write_bytes(text.public_bytes(serialization.Encoding.PEM))
 
 
 def test_a_list_of_revoked_certificates_past_its_date_keeps_everybody_out(scene: Scene) -> None:
-    renewed(scene, -1)
+    outdate(scene.staff.folder)
+    scene.reload()
     answer = scene.ask("anna", "GET", "/user")
     assert (answer.status, answer.json()["forbidden"]) == (400, "certificate")
     scene.staff.easyrsa("gen-crl")

@@ -13,7 +13,7 @@ import time
 from collections import Counter as Count
 from concurrent.futures import ThreadPoolExecutor
 from pathlib import Path
-from typing import Callable, Iterator
+from typing import Iterator
 
 import pytest
 

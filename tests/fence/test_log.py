@@ -6,7 +6,6 @@ import json
 import os
 import random
 import signal
-import ssl
 import subprocess
 import time
 from concurrent.futures import ThreadPoolExecutor
@@ -17,9 +16,8 @@ import pytest
 
 from tests.fence.conftest import TOP, Counter, MakeSite
 from tests.fence.recorder import ANSWER, UNLIMITED, RecordedSite
-from tests.fence.shapes import in_chunks
 from tests.fence.site import Site, workers
-from tests.fence.wire import HEADERS, answer_in, connected, everything, message, sent
+from tests.fence.wire import HEADERS, answer_in, connected, message, sent
 
 GROUPS = {"anna": "teller", "bert": "supervisor", "cleo": "registrar"}
 MOST = 131_072

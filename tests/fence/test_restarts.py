@@ -16,7 +16,7 @@ import pytest
 
 from tests.fence.conftest import Counter, MakeSite
 from tests.fence.recorder import UNLIMITED
-from tests.fence.site import Answer, Site, workers
+from tests.fence.site import Site, workers
 from tests.shared.counter_calls import rows
 
 GROUPS = {"anna": "teller", "bert": "supervisor"}

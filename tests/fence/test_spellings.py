@@ -6,12 +6,11 @@ import contextlib
 import socket
 import subprocess
 import time
-from collections import Counter
 from concurrent.futures import ThreadPoolExecutor
 from pathlib import Path
 from typing import Callable
 
-from tests.fence.recorder import UNLIMITED, Message, RecordedSite, Recorder
+from tests.fence.recorder import Message, RecordedSite, Recorder
 from tests.fence.shapes import shapes
 from tests.fence.site import Site
 from tests.fence.spellings import spellings
@@ -31,13 +30,12 @@ LOGGED = {"$is_post { default 0;": "$is_post { default 1;", "rate=10r/s": "rate=
 NO_GROUPS = {"default                                       0;": "default 1;"}
 
 
-def spelled(site: Site, user: str, words: list[tuple[bytes, bytes]]) -> Counter[int]:
-    """Sends requests of these methods and targets. Counts the statuses."""
+def spelled(site: Site, user: str, words: list[tuple[bytes, bytes]]) -> None:
+    """Sends requests of these methods and targets."""
     context = site.context(user)
     with ThreadPoolExecutor(8) as pool:
         lines = [message(b"%s %s HTTP/1.1" % pair, b"{}") for pair in words]
-        answers = pool.map(lambda line: statuses(sent(site, context, [line])), lines)
-        return Counter(status for found in answers for status in found)
+        list(pool.map(lambda line: sent(site, context, [line]), lines))
 
 
 def of_others(messages: list[Message], groups: str) -> set[tuple[bytes, bytes]]:
@@ -59,7 +57,7 @@ def test_no_spelling_reaches_a_route_of_another_group(tmp_path: Path) -> None:
         words += [(method, route) for method in METHODS for route in ROUTES]
         assert len(words) > 350
         for user, groups in GROUPS.items():
-            came = spelled(site, user, words)
+            spelled(site, user, words)
             reached = site.recorder.take()
             assert of_others(reached, groups) == set()
             own = {b"POST %s" % route for route, group in ROUTES.items() if group == groups}
