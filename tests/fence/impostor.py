@@ -75,6 +75,11 @@ def of_the_counter() -> list[int]:
     return found or [1]
 
 
+def kill(*processes: int) -> None:
+    for process in processes:
+        os.kill(process, signal.SIGKILL)
+
+
 def in_child(do: Callable[[], object]) -> None:
     """Does it in a child, which may be left in any namespace."""
     child = os.fork()
@@ -101,8 +106,8 @@ FORBIDDEN: dict[str, Callable[[], object]] = {
     "rename the socket": lambda: os.rename(SOCKET, f"{SOCKET}.old"),
     "listen on the socket": lambda: listener(socket.AF_UNIX, SOCKET).close(),
     "unlink the socket": lambda: os.unlink(SOCKET),
-    "kill the counter": lambda: [os.kill(process, signal.SIGKILL) for process in of_the_counter()],
-    "stop nginx": lambda: os.kill(int(open("/run/counter-nginx/nginx.pid").read()), signal.SIGKILL),
+    "kill the counter": lambda: kill(*of_the_counter()),
+    "kill nginx": lambda: kill(int(open("/run/counter-nginx/nginx.pid").read())),
 }
 ended: dict[str, collections.Counter[str]] = collections.defaultdict(collections.Counter)
 came: collections.Counter[str] = collections.Counter()
