@@ -112,8 +112,9 @@ const timeOf = (moment) => (moment === null ? "" : serverTimeInWords(moment));
 
 // The lines on the bank, and on the branch that has the desk.
 function bankOf(desk) {
-  const branch = bank.BRANCHES.find(({ from, to }) => desk >= from && desk <= to);
-  return [[PAPER.bank, bank.BANK], [PAPER.branch, branch?.name ?? ""]];
+  const { BANK = "", BRANCHES = [] } = bank;
+  const branch = BRANCHES.find(({ from, to }) => desk >= from && desk <= to);
+  return [[PAPER.bank, BANK], [PAPER.branch, branch?.name ?? ""]];
 }
 
 // The lines on who paid: `own` is what this desk's journal or its receipts have of the ticket, or null; `app` knows the desk and the user.
