@@ -30,6 +30,12 @@ UNHANDLED = """
     addEventListener("error", (event) => window.unhandled.push(event.message));
 """
 QUOTA = "This browser has no room left for the journal of this page."
+#: What the page says of a first attempt without a certificate.
+FIRST = """
+    const { STEPS } = await import(new URL("/teller/words.js", location.origin));
+    const request = { path: "/redeem", fields: { serials: ["L7EE"], payee: 7 }, sent: 1 };
+    return STEPS.pausing({ request, answer: { kind: "forbidden", why: "certificate" }, milliseconds: 500 });
+"""
 NO_CERTIFICATE = "This browser sent no certificate of the staff, or it was revoked or has run out."
 
 
@@ -122,9 +128,11 @@ def revoked_while_paying(bank: Bank) -> None:
     bank.nginx.staff.dismiss(USER)
     bank.nginx.reload()
     page.pay()
-    page.waits_for("no reply yet. This attempt did nothing.", "#progress")
-    right(NO_CERTIFICATE in page.find("#progress").text, "the page says that the certificate isn't valid, and what to do", page.find("#progress").text)
-    page.waits_for("sent again in 2 seconds", "#progress")
+    page.waits_for(NO_CERTIFICATE, "#progress")
+    page.waits_for("sent again in 4 seconds", "#progress")
+    right("Put in your card" in page.find("#progress").text, "the page says that the certificate isn't valid, and what to do", page.find("#progress").text)
+    first = page.run_module(FIRST)
+    right("This attempt did nothing." in first[0] and NO_CERTIFICATE in first[1] and "earlier" not in first[1], "and of a first attempt, that it did nothing", first)
     right(bank.gate.bodies == [] and page.find("#serial").get_attribute("value") == "K-9" and page.find("input[data-serial='L7EE']").is_selected(), "nothing reaches the counter, and what was typed and chosen stays")
     right(page.journal()["open"]["fields"]["serials"] == ["L7EE"] and page.journal()["open"]["sent"] > 1, "the request is in the journal")
     page.press("#ask-sheet button")
@@ -143,7 +151,7 @@ def revoked_while_paying(bank: Bank) -> None:
 def no_certificate_met(bank: Bank) -> None:
     """nginx's word on the certificate, to a first sending and to a later one: each leaves the request open, until the true reply comes."""
     page = joined(bank, owners=(7,))
-    for serial, faults in (("L7EE", ["no certificate"] * 2), ("K7EE", ["lost answer", "no certificate"])):
+    for serial, faults in (("L7EE", ["no certificate"] * 4), ("K7EE", ["lost answer", *["no certificate"] * 3])):
         page.show_sheet(7)
         page.choose(serial)
         bank.gate.faults = list(faults)
