@@ -62,9 +62,7 @@ def test_an_upgrade_asks_nothing_and_serves_by_certificates(old: Machine, releas
     assert states == ["inactive", "active"]
     assert old.shown("nginx.service", "UnitFileState") == "disabled"
     assert old.shell("grep -c redeem /var/log/counter/counter.log").strip() == tickets
-    assert old.ask("bert", "/day/open", '{"desk":999,"number":80,"day":"2026-12-01"}') == (
-        '{"opened":"2026-12-01"}'
-    )
+    assert old.ask("anna", "/batch/2199-12-31") == '{"code":69,"fault":"NotFound"}'
     assert old.ask("cleo", "/user") == '{"user":"cleo","groups":"registrar"}'
     old.shell(blocks("UPGRADE", "5. Go on")[1])
     ran = old.on("sh", "-c", "cd /root; " + blocks("UPGRADE", "5. Go on")[2])
@@ -72,11 +70,13 @@ def test_an_upgrade_asks_nothing_and_serves_by_certificates(old: Machine, releas
 
 
 def test_a_local_user_cannot_answer_after_an_upgrade(old: Machine, release: Release) -> None:
+    """The lock of e30226db on its port is gone with the next start of the machine."""
     make_certificates(old)
     upgrade(old, release)
     old.write("/tmp/impostor.py", IMPOSTOR)
     old.shell("systemctl stop counter.service")
     old.shell("systemd-run -q --uid=nobody --unit=impostor python3 /tmp/impostor.py; sleep 1")
+    old.shell("nft delete table inet counter_port 2> /dev/null || true")
     assert "9999" in old.shell("curl -s http://127.0.0.1:8377/")
     assert old.ask("anna", "/ticket/1") == '{"unavailable":"counter"}'
 
