@@ -27,6 +27,8 @@ NOT_FOUND = 69
 DAMAGED = (60, 61, 63, 68)
 #: Statuses of a proxy whose counter doesn't answer it.
 GATEWAY = (502, 503, 504)
+#: What a proxy's word on the certificate means, and what to do.
+NO_CERTIFICATE = "the proxy got no certificate of the staff, or one that has ended or was revoked: give a valid certificate and its key"
 #: How much of a foreign page an error quotes, in characters.
 QUOTED = 80
 
@@ -188,8 +190,7 @@ def foreign(status: int, text: str) -> Answer:
     """What a proxy, or another program, says in the counter's place."""
     reason = reason_in(status, text)
     if reason == "certificate":
-        error = CertificateRefused()
-        return Answer("none", met=str(error), setup=error)
+        return Answer("none", met=NO_CERTIFICATE, setup=CertificateRefused(NO_CERTIFICATE))
     if reason in REASONS:
         return Answer("forbidden", reason, met=REASONS[reason])
     if status == 429:

@@ -161,11 +161,6 @@ class CertificateRefused(WrongSetup):
     """The proxy got no certificate of the staff, or one that has ended or was revoked. It passed nothing on: give the client a valid `certificate` and its `key`.
     It ends a call at once, whenever it comes. A request that was open stays open."""
 
-    def __init__(self) -> None:
-        super().__init__(
-            "the proxy got no certificate of the staff, or one that has ended or was revoked: give a valid certificate and its key"
-        )
-
 
 #: Why a proxy doesn't pass a request on, and what to do about it, by its name for it.
 REASONS = {
