@@ -1,4 +1,4 @@
-/* server PORT FILE: a plain server in C with the durability of a counter, to be compared with. It serves one connection after another, as the counter does, appends the body of each message to FILE, syncs it, and answers 200. */
+/* server PORT FILE MICROSECONDS: a plain server in C with the durability of a counter, to be compared with. It serves one connection after another, as the counter does, appends the body of each message to FILE, syncs it, waits so long, and answers 200. */
 #include <arpa/inet.h>
 #include <fcntl.h>
 #include <netinet/in.h>
@@ -27,7 +27,7 @@ int main(int n, char **words) {
   static const char reply[] = "HTTP/1.1 200 OK\r\nContent-Type: application/json\r\nContent-Length: 2\r\nConnection: close\r\n\r\n{}";
   struct sockaddr_in at = {.sin_family = AF_INET, .sin_addr.s_addr = htonl(INADDR_LOOPBACK)};
   int one = 1, ear = socket(AF_INET, SOCK_STREAM, 0), file;
-  if (n != 3 || (file = open(words[2], O_CREAT | O_WRONLY | O_APPEND, 0600)) < 0) return 2;
+  if (n != 4 || (file = open(words[2], O_CREAT | O_WRONLY | O_APPEND, 0600)) < 0) return 2;
   at.sin_port = htons(atoi(words[1]));
   setsockopt(ear, SOL_SOCKET, SO_REUSEADDR, &one, sizeof one);
   if (bind(ear, (void *)&at, sizeof at) || listen(ear, 128)) return 3;
@@ -36,6 +36,7 @@ int main(int n, char **words) {
     char *body = message(s, &have);
     if (!body) continue;
     if (write(file, body, text + have - body) < 0 || fdatasync(file)) return 3;
+    usleep(atoi(words[3]));
     setsockopt(s, IPPROTO_TCP, TCP_NODELAY, &one, sizeof one);
     if (write(s, reply, sizeof reply - 1) < 0) continue;
     shutdown(s, SHUT_WR);

@@ -20,26 +20,75 @@ from tests.fence.site import Site, free_port
 from tests.fence.test_load import GROUPS, DAY, redemption
 from tests.fence.wire import answer_in, sent
 
-pytestmark = pytest.mark.slow
+pytestmark = [pytest.mark.root, pytest.mark.slow]
 
 TELLERS, REQUESTS, STALL = 500, 900, 3
 
 
+UNITS = TOP / "samples/systemd"
+SERVICE = (UNITS / "counter-http.service").read_text()
+
+
+class Network:
+    """A network as counter-network.service makes it, or as the kernel does if `settings` is empty."""
+
+    def __init__(self, settings: str | None = None) -> None:
+        words = ["unshare", "--net", "sh", "-c", "ip link set lo up; echo; exec sleep 600"]
+        self.process = subprocess.Popen(words, stdout=subprocess.PIPE)
+        assert self.process.stdout is not None
+        self.process.stdout.readline()
+        self.words = ["nsenter", "-t", str(self.process.pid), "--net"]
+        unit = (UNITS / "counter-network.service").read_text()
+        (found,) = re.findall(r"-c '(cd /proc/sys/net.*)'$", unit, re.M)
+        subprocess.run(
+            [*self.words, "sh", "-c", found if settings is None else settings], check=True
+        )
+
+    def wait_for(self, port: int) -> None:
+        """Until somebody listens there. A connection would be a request."""
+        while (
+            f" 0100007F:{port:04X} 00000000:0000 0A "
+            not in Path(f"/proc/{self.process.pid}/net/tcp").read_text()
+        ):
+            time.sleep(0.1)
+
+    def end(self) -> None:
+        self.process.kill()
+        self.process.wait()
+
+
 @pytest.fixture
-def counter(program: Path, folder: Path) -> Iterator[Counter]:
-    made = Counter(program, folder / "store", bonds=REQUESTS)
+def network() -> Iterator[Network]:
+    made = Network()
     yield made
     made.end()
 
 
-class InC:
-    """The server in C."""
+class Program(Counter):
+    """The program in that network."""
 
-    def __init__(self, folder: Path) -> None:
+    def __init__(self, network: Network, program: Path, folder: Path) -> None:
+        self.network = network
+        super().__init__(program, folder, bonds=REQUESTS)
+
+    def start(self) -> None:
+        words = [*self.network.words, str(self.program), "serve", "--db", str(self.store)]
+        self.process = subprocess.Popen(
+            [*words, "--port", str(self.port)], stdout=subprocess.DEVNULL
+        )
+        self.network.wait_for(self.port)
+
+
+class InC:
+    """The server in C in that network. Each request takes so many microseconds more than it needs."""
+
+    def __init__(self, network: Network, folder: Path, more: int = 0) -> None:
         self.port, built = free_port(), folder / "server"
         source = str(Path(__file__).parent / "server.c")
         subprocess.run(["gcc", "-O2", "-D_GNU_SOURCE", source, "-o", str(built)], check=True)
-        self.process = subprocess.Popen([built, str(self.port), folder / "bodies"])
+        words = [*network.words, str(built), str(self.port), str(folder / "bodies"), str(more)]
+        self.process = subprocess.Popen(words)
+        network.wait_for(self.port)
 
     def end(self) -> None:
         self.process.kill()
@@ -49,18 +98,17 @@ class InC:
 class Passing:
     """The proxy before the counter, as counter-http.socket and counter-http.service run it."""
 
-    def __init__(self, folder: Path, port: int, socket_file: str, service: str) -> None:
+    def __init__(self, network: Network, folder: Path, port: int, service: str) -> None:
         self.at = folder / f"{port}.sock"
-        found = re.search(r"^ExecStart=(.*)127.0.0.1:8377$", service, re.M)
-        backlog = re.search(r"^Backlog=(\d+)$", socket_file, re.M)
-        assert found
+        (start,) = re.findall(r"^ExecStart=(.*)127.0.0.1:8377$", service, re.M)
         self.ear = socket.socket(socket.AF_UNIX)
         self.ear.bind(str(self.at))
-        self.ear.listen(int(backlog[1]) if backlog else 4096)
-        self.ear.set_inheritable(True)
+        self.ear.listen(4096)
         # The socket is the first that a service of systemd is handed: its file 3.
-        start = f"exec 3<&{self.ear.fileno()}; LISTEN_FDS=1 LISTEN_PID=$$ exec {found[1]} 127.0.0.1:{port}"
-        self.process = subprocess.Popen(["sh", "-c", start], pass_fds=[self.ear.fileno()])
+        line = f"exec 3<&{self.ear.fileno()}; LISTEN_FDS=1 LISTEN_PID=$$ exec {' '.join(network.words)} {start} 127.0.0.1:{port}"
+        self.process = subprocess.Popen(
+            ["sh", "-c", line], pass_fds=[self.ear.fileno()], stderr=subprocess.DEVNULL
+        )
 
     def end(self) -> None:
         self.process.kill()
@@ -104,50 +152,50 @@ def stalled(site: Site, process: int) -> Told:
     return found
 
 
-UNITS = TOP / "samples/systemd"
-SOCKET, SERVICE = (UNITS / "counter-http.socket").read_text(), (
-    UNITS / "counter-http.service"
-).read_text()
-
-
 def through(
-    site: MakeSite,
-    folder: Path,
-    server: Counter | InC,
-    socket_file: str = SOCKET,
-    service: str = SERVICE,
+    site: MakeSite, folder: Path, network: Network, server: Program | InC, service: str = SERVICE
 ) -> Told:
-    passing = Passing(folder, server.port, socket_file, service)
+    passing = Passing(network, folder, server.port, service)
     try:
         made = site(GROUPS, counter=f"http://unix:{passing.at}", changed=UNLIMITED)
-        if isinstance(server, Counter):
+        if isinstance(server, Program):
             made.ask("bert", "POST", "/day/open", {"number": 5000, "day": DAY})
         return stalled(made, server.process.pid)
     finally:
         passing.end()
+        server.end()
 
 
-def test_no_answer_is_lost_or_late(site: MakeSite, folder: Path, counter: Counter) -> None:
-    in_c = InC(folder)
-    try:
-        wanted = through(site, folder, in_c)
-    finally:
-        in_c.end()
-    found = through(site, folder, counter)
-    assert (found.statuses, wanted.statuses) == (Count({200: REQUESTS}), Count({200: REQUESTS}))
+ALL_SERVED = Count({200: REQUESTS})
+
+
+def test_no_answer_is_lost_or_late(
+    site: MakeSite, folder: Path, program: Path, network: Network
+) -> None:
+    wanted = through(site, folder, network, InC(network, folder))
+    found = through(site, folder, network, Program(network, program, folder / "store"))
+    assert (found.statuses, wanted.statuses) == (ALL_SERVED, ALL_SERVED)
     assert found.longest < 2 * wanted.longest
 
 
-@pytest.mark.parametrize(
-    "socket_file, service",
-    [(SOCKET + "Backlog=16\n", SERVICE), (SOCKET, SERVICE.replace("=1024", "=128"))],
-    ids=["a short backlog", "a proxy of 128 connections"],
-)
-def test_control_with_less_room_answers_are_lost(
-    site: MakeSite, folder: Path, socket_file: str, service: str
-) -> None:
-    in_c = InC(folder)
+#: Microseconds of a slow server, at which the kernel's queues run over.
+SLOW = 20_000
+
+
+def test_nor_by_a_slow_server(site: MakeSite, folder: Path, network: Network) -> None:
+    assert through(site, folder, network, InC(network, folder, SLOW)).statuses == ALL_SERVED
+
+
+def test_control_by_the_kernels_defaults_answers_are_lost(site: MakeSite, folder: Path) -> None:
+    network = Network("true")
     try:
-        assert through(site, folder, in_c, socket_file, service).statuses[502] > 0
+        assert through(site, folder, network, InC(network, folder, SLOW)).statuses[502] > 0
     finally:
-        in_c.end()
+        network.end()
+
+
+def test_control_by_a_proxy_of_fewer_connections_too(
+    site: MakeSite, folder: Path, network: Network
+) -> None:
+    few = SERVICE.replace("=1024", "=128")
+    assert through(site, folder, network, InC(network, folder), few).statuses[502] > 0
