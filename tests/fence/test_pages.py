@@ -13,7 +13,7 @@ import pytest
 
 from tests.fence.conftest import blocks
 from tests.fence.recorder import UNLIMITED, RecordedSite
-from tests.fence.test_browsers import Desk, sign
+from tests.fence.test_browsers import Desk, OwnChromium, sign
 
 pytestmark = [pytest.mark.browser, pytest.mark.slow]
 
@@ -91,7 +91,7 @@ def attacked(folder: Path, changed: Mapping[str, str]) -> dict[str, tuple[int, b
         imported, policy = blocks("TELLERS", "Chromium")
         desk.run(policy)
         desk.run(imported)
-        engine = desk.chromium({})
+        engine = OwnChromium(desk, None)
         try:
             for other in (None, site.folder):
                 attacker = Attacker(f"https://{site.name}:{site.port}", other)
