@@ -47,10 +47,12 @@ class Counter:
         folder.mkdir()
         self.program, self.store, self.port = program, folder / "day.db", free_port()
         self.url = f"http://127.0.0.1:{self.port}"
-        rows = [f"B{nth}EE,50,2010-11,7,\n" for nth in range(1, bonds + 1)]
-        more = folder / "more.csv"
-        more.write_text("serial,denom,issued,owner,coowner\n" + "".join(rows))
-        files = (TOP / "samples/rates.csv", TOP / "samples/inventory.csv", more)
+        files = [TOP / "samples/rates.csv", TOP / "samples/inventory.csv"]
+        # A request has 500 bonds at most.
+        for first in range(1, bonds + 1, 500):
+            rows = [f"B{n}EE,50,2010-11,7,\n" for n in range(first, min(first + 500, bonds + 1))]
+            files.append(folder / f"more{first}.csv")
+            files[-1].write_text("serial,denom,issued,owner,coowner\n" + "".join(rows))
         for nth, file in enumerate(files, 1):
             words = ["rates" if nth == 1 else "inventory", str(file), "--db", str(self.store)]
             words += ["--desk", "999", "--number", str(nth)]

@@ -59,7 +59,7 @@ def sent(
 
 def statuses(text: bytes) -> list[int]:
     """The statuses of all responses in a text."""
-    return [int(status) for status in re.findall(rb"(?m)^HTTP/1\.1 (\d\d\d) ", text)]
+    return [int(status) for status in re.findall(rb"HTTP/1\.1 (\d\d\d) ", text)]
 
 
 def answer_in(text: bytes) -> Answer:
