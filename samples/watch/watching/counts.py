@@ -16,7 +16,7 @@ ENDING = re.compile(r"connection \d+: (\d+) messages, (Closed|Asked|Limit|Fault|
 SAID = ("store: StoreFailed", "store: NotWrittenBack", "store: WrongVersion", "store: Unusable", "input or output failed", "no memory", "guard: not served")
 CURSOR = "-- cursor: "
 #: Statuses that have a series from the first run on, though none was counted yet.
-USUAL = (("200", "counter"), ("404", "counter"), ("409", "counter"), ("503", "counter"), ("401", "nginx"), ("403", "nginx"), ("429", "nginx"), ("502", "nginx"), ("504", "nginx"))
+USUAL = (("200", "counter"), ("404", "counter"), ("409", "counter"), ("503", "counter"), ("400", "nginx"), ("403", "nginx"), ("429", "nginx"), ("502", "nginx"), ("504", "nginx"))
 
 
 class Counts:

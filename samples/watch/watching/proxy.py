@@ -135,7 +135,7 @@ def entry_of(line: bytes) -> Entry | None:
 
 
 def of_texts(body: Any, reply: Any) -> dict[str, str]:
-    """What watch.conf takes from a body and a reply."""
+    """What the log for watching takes from a body and a reply."""
     found: dict[str, str] = {}
     for text, names in ((body, ("desk", "number")), (reply, ("code", "ticket", "total"))):
         try:
