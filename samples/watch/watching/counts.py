@@ -14,6 +14,8 @@ from .exposition import Metrics
 BOUNDS = (0.005, 0.01, 0.025, 0.05, 0.1, 0.25, 0.5, 1, 2.5, 5, 10, 30, 60)
 ENDING = re.compile(r"connection \d+: (\d+) messages, (Closed|Asked|Limit|Fault|ReadFailed|WriteFailed|NoMemory)\b")
 SAID = ("store: StoreFailed", "store: NotWrittenBack", "store: WrongVersion", "store: Unusable", "input or output failed", "no memory", "guard: not served")
+#: The line of nginx for an entry that it couldn't write to its log of posts: at once, and then once a minute. Only its beginning is nginx's own.
+UNLOGGED = re.compile(r"[\d/]+ [\d:]+ \[alert\] \d+#\d+: (\*\d+ )?write\(\) to \"[^\"]*/counter\.log\" (failed|was incomplete)")
 CURSOR = "-- cursor: "
 #: Statuses that have a series from the first run on, though none was counted yet.
 USUAL = (("200", "counter"), ("404", "counter"), ("409", "counter"), ("503", "counter"), ("400", "nginx"), ("403", "nginx"), ("429", "nginx"), ("502", "nginx"), ("504", "nginx"))
@@ -74,13 +76,13 @@ class Counts:
         found["counts"][next((place for place, bound in enumerate(BOUNDS) if took <= bound), len(BOUNDS))] += 1
         found["sum"] += took
 
-    # ---- the service's lines
+    # ---- the services' lines
 
-    def read_journal(self, unit: str) -> None:
+    def read_journal(self, units: list[str]) -> None:
         place = self.kept["journal"]
         place.setdefault("since", int(time.time()))
         since = ["--after-cursor", place["cursor"]] if "cursor" in place else ["--since", f"@{place['since']}"]
-        ran = subprocess.run(["journalctl", "--no-pager", "-o", "cat", "--show-cursor", "-u", unit, *since], stdout=subprocess.PIPE, stderr=subprocess.PIPE, timeout=60)
+        ran = subprocess.run(["journalctl", "--no-pager", "-o", "cat", "--show-cursor", *(f"--unit={unit}" for unit in units), *since], stdout=subprocess.PIPE, stderr=subprocess.PIPE, timeout=60)
         lines = ran.stdout.decode("utf-8", "replace").splitlines()
         said = ran.stderr.decode("utf-8", "replace").strip()
         if ran.returncode != 0 and said:
@@ -95,6 +97,7 @@ class Counts:
         if ending:
             self.count("connections", end=ending[2])
             self.count("messages", int(ending[1]))
+        self.count("unlogged", int(UNLOGGED.match(line) is not None))
         for text in SAID:
             if text in line:
                 self.count("said", text=text)
@@ -110,6 +113,7 @@ class Counts:
         if has_journal:
             for end in ("Closed", "Asked", "Limit", "Fault", "ReadFailed", "WriteFailed", "NoMemory"):
                 metrics.add("ladwenpik_connections_total", "counter", "Connections to the counter by the word that tells how they ended.", self.of("connections").get(json.dumps({"end": end}), 0), end=end)
+            metrics.add("ladwenpik_unlogged_total", "counter", "How often nginx said that it couldn't write an entry to its log of posts.", self.of("unlogged").get("{}", 0))
             metrics.add("ladwenpik_messages_total", "counter", "Messages of the connections that ended.", self.of("messages").get("{}", 0))
             for text in SAID:
                 metrics.add("ladwenpik_service_faults_total", "counter", "Faults that the service said in the journal, by their text.", self.of("said").get(json.dumps({"text": text}), 0), text=text)

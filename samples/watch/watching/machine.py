@@ -1,4 +1,4 @@
-"""The machine around the counter: units, disks, sockets, copies, archives, the log of requests, and a probe."""
+"""The machine around the counter: units, the staff's authority, disks, sockets, copies, archives, the log of requests, and a probe."""
 from __future__ import annotations
 
 import contextlib
@@ -29,6 +29,16 @@ def units(metrics: Metrics, path: str) -> None:
         metrics.add("ladwenpik_unit_failed", "gauge", "1 if systemd says that the unit has failed.", int(shown["ActiveState"] == "failed"), unit=name)
         if shown.get("NRestarts", "").isdigit():
             metrics.add("ladwenpik_unit_restarts_total", "counter", "How often systemd started the unit again by itself (NRestarts).", shown["NRestarts"], unit=name)
+
+
+def staff(metrics: Metrics, path: str) -> None:
+    """Until when the staff's authority and its list of revoked certificates are valid. If a file has several, the first that ends counts."""
+    ends: dict[str, int] = {}
+    with open(path, encoding="ascii") as file:
+        for name, seconds in (line.split() for line in file):
+            ends[name] = min(int(seconds), ends.get(name, int(seconds)))
+    for name in ("ca.crt", "crl.pem"):
+        metrics.add("ladwenpik_staff_end_timestamp_seconds", "gauge", "When a file of /etc/counter/staff ends. From then on no one can sign in.", ends[name], file=name)
 
 
 def disk(metrics: Metrics, path: str) -> None:

@@ -1,4 +1,4 @@
-"""The proxy's log: entries of samples/watch/watch.conf, or of the logs of samples/nginx, followed through rotations."""
+"""nginx's log: entries of samples/watch/nginx, or of the logs of samples/nginx, followed through rotations."""
 from __future__ import annotations
 
 import bisect
@@ -75,7 +75,7 @@ def lines_from(path: str, offset: int) -> Iterator[bytes]:
 
 def follow(path: str, place: dict[str, Any]) -> Iterator[bytes]:
     """Yields the lines that came after `place`, each once, and brings it forward. Without a place it begins with the log as it is now. If the file of the place
-    is gone, lines were lost: `place["gaps"]` counts it."""
+    is gone, lines were lost: `place["gaps"]` counts it. After a rotation nginx's old processes end their requests in the file before."""
     files = files_of(path)
     if not files:
         raise FileNotFoundError(f"there is no {path}")
@@ -83,14 +83,22 @@ def follow(path: str, place: dict[str, Any]) -> Iterator[bytes]:
     begin = marks.index(place["mark"]) if place.get("mark") in marks else 0
     if place.get("mark") and place["mark"] not in marks:
         place["gaps"] = place.get("gaps", 0) + 1
+    before = place.get("before", {})
+    if before.get("mark") in marks:
+        yield from followed(files[marks.index(before["mark"])], before)
     for index in range(begin, -1, -1):
         if marks[index] == "":
             continue
         if marks[index] != place.get("mark"):
+            place["before"] = {name: place[name] for name in ("mark", "offset") if name in place}
             place.update(mark=marks[index], offset=0)
-        for line in lines_from(files[index], place["offset"]):
-            place["offset"] += len(line)
-            yield line
+        yield from followed(files[index], place)
+
+
+def followed(path: str, place: dict[str, Any]) -> Iterator[bytes]:
+    for line in lines_from(path, place["offset"]):
+        place["offset"] += len(line)
+        yield line
 
 
 # ---- entries
@@ -118,8 +126,9 @@ def cents_in(text: object) -> int | None:
 
 
 def entry_of(line: bytes) -> Entry | None:
-    """The entry of a line of watch.conf, or of a log with bodies and replies. None for any other line. Before the brace syslog writes what it likes."""
-    start = line.find(b"{")
+    """The entry of a line of the log for watching, or of one with bodies and replies. None for any other line. Before the entry may stand what syslog writes, or an
+    entry that a full disk cut off. A body's quotes are escaped, so it has no such beginning."""
+    start = line.rfind(b'{"time":"')
     try:
         read = json.loads(line[start:].decode("utf-8", "replace")) if start >= 0 else None
         status, at = read["status"], seconds_in(read["at"])
