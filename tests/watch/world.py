@@ -1,7 +1,6 @@
-"""The counter on its machine, set up by the commands of the samples' pages, with a day of today open and a user of each group."""
+"""The counter on its machine, set up by the commands of the samples' pages, with a user of each group."""
 from __future__ import annotations
 
-import base64
 import contextlib
 import datetime
 import http.client
@@ -14,15 +13,16 @@ import urllib.parse
 import urllib.request
 from typing import Any, Iterator
 
-from counter_calls import Answer, bond, get, post, read_answer, right
-from machine import TOP, Machine
+from tests.shared.counter_calls import Answer, bond, get, post, read_answer
+from tests.watch.machine import TOP, Machine
 
 STORE = "/var/lib/counter/day.db"
 USERS = {"anna": "teller", "bert": "supervisor", "cleo": "office"}
-PASSWORD = "a pass word"
+STAFF = "/etc/counter/staff"
+EASYRSA = f"/usr/share/easy-rsa/easyrsa --batch --pki-dir={STAFF} --use-algo=ec --curve=prime256v1"
 BONDS = 1100
-#: Not run in the machine: its /usr has the packages already, and passwords aren't typed.
-LEFT_OUT = ("apt-get ", "htpasswd ")
+#: Not run in the machine, whose /usr has the packages already.
+LEFT_OUT = ("apt-get ",)
 PROMETHEUS = """global: {scrape_interval: 2s, scrape_timeout: 2s, evaluation_interval: 1s}
 rule_files: [/etc/prometheus/counter-alerts.yml]
 scrape_configs:
@@ -41,7 +41,8 @@ class World:
     """The machine with the counter, and what its clients ask."""
 
     def __init__(self, machine: Machine) -> None:
-        self.machine, self.number, self.today = machine, 0, datetime.date.today().isoformat()
+        self.machine, self.number, self.today = machine, 10, datetime.date.today().isoformat()
+        self.is_today = False
         self.bond, self.socket = 0, f"{machine.root}/run/counter-http.sock"
         self.faketime = "/usr/lib/x86_64-linux-gnu/faketime/libfaketime.so.1"
 
@@ -60,19 +61,38 @@ class World:
         self.set_up_archive()
         self.set_up_nginx()
         for line in [*commands("watch", 0), *commands("watch", 1)]:
-            line = line.replace("--mount /srv/elsewhere", "--mount /srv/elsewhere --archive /run/counter-witness")
-            m.follow(line.replace("--password /etc/counter/watch-password", "--password /etc/counter/watch-password --ca /etc/counter/certificate.pem"))
+            line = line.replace(
+                "--mount /srv/elsewhere", "--mount /srv/elsewhere --archive /run/counter-witness"
+            )
+            m.follow(
+                line.replace(
+                    "--key /etc/counter/watch.key",
+                    "--key /etc/counter/watch.key --ca /etc/counter/certificate.pem",
+                )
+            )
         m.follow("systemctl start counter-copy.service")
         self.wait_for_nginx()
 
     def make_store(self) -> None:
         """Rates and bonds, as the bank's first import brings them."""
         rates = [{"from": "2010-05", "rate": "2.00"}, {"from": "2010-11", "rate": "3.50"}]
-        bonds = [post("/bonds", {"number": 2 + first // 500, "bonds": [bond(turn) for turn in range(first, min(first + 500, BONDS))]}, b"") for first in range(0, BONDS, 500)]
+        bonds = [
+            post(
+                "/bonds",
+                {
+                    "number": 2 + first // 500,
+                    "bonds": [bond(turn) for turn in range(first, min(first + 500, BONDS))],
+                },
+                b"",
+            )
+            for first in range(0, BONDS, 500)
+        ]
         with open(f"{self.machine.root}/tmp/first", "wb") as file:
             file.write(b"".join([post("/rates", {"number": 1, "rates": rates}, b""), *bonds]))
-        made = self.machine.follow(f"setpriv --reuid counter --regid counter --clear-groups /opt/counter/ee_cli apply --db {STORE} < /tmp/first | grep -c '200 OK'")
-        right(made.strip() == str(1 + len(bonds)), f"a store of {BONDS} bonds is made", made)
+        made = self.machine.follow(
+            f"setpriv --reuid counter --regid counter --clear-groups /opt/counter/ee_cli apply --db {STORE} < /tmp/first | grep -c '200 OK'"
+        )
+        assert made.strip() == str(1 + len(bonds))
 
     def set_up_archive(self) -> None:
         """The archive, a second folder of it on a disk of its own, and a witness that has what is there."""
@@ -81,59 +101,112 @@ class World:
             m.follow(line)
         m.follow("install -d -g counter -m 2750 /srv/elsewhere/counter")
         for unit in ("counter-archive", "counter-archive-check", "counter"):
-            m.follow(f"install -D -m 644 samples/restore/archive-to.conf /etc/systemd/system/{unit}.service.d/to.conf")
-        m.follow("install -m 644 samples/restore/counter-witness.service samples/restore/counter-witness.timer /etc/systemd/system/")
-        self.drop_in("counter-witness.service", "here", "LoadCredential=", 'Environment="WITNESS=cat /srv/elsewhere/counter/end.json"')
-        self.drop_in("counter-witness.timer", "quick", "OnActiveSec=", "OnUnitInactiveSec=", "OnActiveSec=1", "OnUnitInactiveSec=2", "AccuracySec=50ms")
-        m.follow("systemctl restart counter-archive.service counter.service; systemctl start counter-witness.timer")
+            m.follow(
+                f"install -D -m 644 samples/restore/archive-to.conf /etc/systemd/system/{unit}.service.d/to.conf"
+            )
+        m.follow(
+            "install -m 644 samples/restore/counter-witness.service samples/restore/counter-witness.timer /etc/systemd/system/"
+        )
+        self.drop_in(
+            "counter-witness.service",
+            "here",
+            "LoadCredential=",
+            'Environment="WITNESS=cat /srv/elsewhere/counter/end.json"',
+        )
+        self.drop_in(
+            "counter-witness.timer",
+            "quick",
+            "OnActiveSec=",
+            "OnUnitInactiveSec=",
+            "OnActiveSec=1",
+            "OnUnitInactiveSec=2",
+            "AccuracySec=50ms",
+        )
+        m.follow(
+            "systemctl restart counter-archive.service counter.service; systemctl start counter-witness.timer"
+        )
 
     def drop_in(self, unit: str, name: str, *lines: str) -> None:
         """Puts a drop-in beside a unit. Without lines it takes it away."""
         folder = f"/etc/systemd/system/{unit}.d"
         os.makedirs(f"{self.machine.root}{folder}", exist_ok=True)
         with open(f"{self.machine.root}{folder}/{name}.conf", "w", encoding="utf-8") as file:
-            file.write("\n".join([f"[{'Timer' if unit.endswith('.timer') else 'Service'}]", *lines, ""]))
-        self.machine.follow(f"{'' if lines else f'rm {folder}/{name}.conf; '}systemctl daemon-reload")
+            file.write(
+                "\n".join([f"[{'Timer' if unit.endswith('.timer') else 'Service'}]", *lines, ""])
+            )
+        self.machine.follow(
+            f"{'' if lines else f'rm {folder}/{name}.conf; '}systemctl daemon-reload"
+        )
 
     def make_certificate(self, days: int) -> None:
         names = "-subj /CN=counter.bank.example -addext subjectAltName=DNS:counter.bank.example"
-        self.machine.follow(f"openssl req -x509 -newkey rsa:2048 -nodes -days {days} {names} -keyout /etc/counter/key.pem -out /etc/counter/certificate.pem")
+        self.machine.follow(
+            f"openssl req -x509 -newkey rsa:2048 -nodes -days {days} {names} -keyout /etc/counter/key.pem -out /etc/counter/certificate.pem"
+        )
 
     def set_up_nginx(self) -> None:
         m = self.machine
+        for line in commands("nginx", 0):
+            m.follow(line)
         self.make_certificate(60)
+        m.follow(
+            f"{EASYRSA} init-pki && {EASYRSA} --req-cn=staff build-ca nopass && {EASYRSA} gen-crl && : > /etc/counter/groups"
+        )
         for name, group in USERS.items():
-            m.follow(f'echo "{name}:$(openssl passwd -6 \'{PASSWORD}\')" >> /etc/counter/passwords; echo "{name} {group};" >> /etc/counter/groups')
-        lines = commands("nginx", 0)
-        for line in lines:
-            m.follow(line.replace("echo 'anna teller;' > /etc/counter/groups", "true"))
-        m.follow("sed -i 's/rate=10r/rate=10000r/' /etc/nginx/conf.d/counter.conf")
-        requests = next(nth for nth in range(8) if any("counter_replies.js" in line for line in commands("nginx", nth)))
-        for line in commands("nginx", requests):
+            m.follow(
+                f"{EASYRSA} build-client-full {name} nopass && echo '{name} {group};' >> /etc/counter/groups"
+            )
+        m.follow(
+            "sed -i 's/rate=10r/rate=10000r/' /opt/counter/nginx/nginx.conf && systemctl enable --now counter-nginx.service counter-revoked.timer"
+        )
+        replies = next(
+            nth
+            for nth in range(8)
+            if any("extra/replies" in line for line in commands("nginx", nth))
+        )
+        for line in commands("nginx", replies):
             m.follow(line)
 
     def watch_quickly(self, period: str) -> None:
         """Metrics each two seconds and alerts by seconds, in the place of minutes."""
-        self.drop_in("counter-watch.timer", "quick", "OnUnitActiveSec=", f"OnUnitActiveSec={period}", "AccuracySec=50ms")
+        self.drop_in(
+            "counter-watch.timer",
+            "quick",
+            "OnUnitActiveSec=",
+            f"OnUnitActiveSec={period}",
+            "AccuracySec=50ms",
+        )
         self.drop_in("counter-watch.service", "quick", "[Unit]", "StartLimitIntervalSec=0")
         # The empty setting takes away the first run after a boot too, and the others count from a first one.
-        self.machine.follow("systemctl start counter-watch.service; systemctl restart counter-watch.timer")
+        self.machine.follow(
+            "systemctl start counter-watch.service; systemctl restart counter-watch.timer"
+        )
 
     def set_up_prometheus(self, rules: str) -> None:
         m = self.machine
-        m.follow("mkdir -p /etc/prometheus /etc/default /var/lib/prometheus/node-exporter /var/lib/prometheus/metrics2")
-        m.follow("touch /etc/default/prometheus; echo 'ARGS=\"--collector.disable-defaults --collector.textfile\"' > /etc/default/prometheus-node-exporter")
+        m.follow(
+            "mkdir -p /etc/prometheus /etc/default /var/lib/prometheus/node-exporter /var/lib/prometheus/metrics2"
+        )
+        m.follow(
+            "touch /etc/default/prometheus; echo 'ARGS=\"--collector.disable-defaults --collector.textfile\"' > /etc/default/prometheus-node-exporter"
+        )
         for name, text in (("counter-alerts.yml", rules), ("prometheus.yml", PROMETHEUS)):
             with open(f"{m.root}/etc/prometheus/{name}", "w", encoding="utf-8") as file:
                 file.write(text)
-        m.follow("ln -s /var/lib/counter-watch/counter.prom /var/lib/prometheus/node-exporter/counter.prom")
-        m.follow("chown -R prometheus: /var/lib/prometheus; systemctl start prometheus-node-exporter.service prometheus.service")
+        m.follow(
+            "ln -s /run/counter-metrics/counter.prom /var/lib/prometheus/node-exporter/counter.prom"
+        )
+        m.follow(
+            "chown -R prometheus: /var/lib/prometheus; systemctl start prometheus-node-exporter.service prometheus.service"
+        )
         self.start_second_exporter()
         self.wait_for_prometheus()
 
     def start_second_exporter(self) -> None:
         """Stands for another host of the bank. It has the same metrics under another instance."""
-        self.machine.follow("systemd-run -q --unit second-exporter prometheus-node-exporter --web.listen-address localhost:9101 --collector.disable-defaults --collector.textfile")
+        self.machine.follow(
+            "systemd-run -q --unit second-exporter prometheus-node-exporter --web.listen-address localhost:9101 --collector.disable-defaults --collector.textfile"
+        )
 
     def wait_for_prometheus(self) -> None:
         """Waits until Prometheus has metrics of both hosts. It looks for its targets only 5 seconds after its start."""
@@ -142,18 +215,27 @@ class World:
                 if len(self.query("ladwenpik_watch_timestamp_seconds")) == 2:
                     return
             time.sleep(0.1)
-        raise SystemExit("WRONG: Prometheus has no metrics\n" + self.machine.on("journalctl", "-o", "cat", "--no-pager", "-n", "30", "-u", "prometheus.service").stdout)
+        raise AssertionError("Prometheus has no metrics\n" + self.said_by("prometheus.service"))
 
     # ---- asking
 
-    def ask(self, method: str, path: str, value: object = None, user: str | None = "anna", password: str = PASSWORD) -> Answer:
-        """Status and body by nginx, as a client of the bank."""
-        context = ssl.create_default_context(cafile=f"{self.machine.root}/etc/counter/certificate.pem")
+    def ask(
+        self, method: str, path: str, value: object = None, user: str | None = "anna"
+    ) -> Answer:
+        """Status and body by nginx, as a client of the bank, or of somebody without a certificate."""
+        context = ssl.create_default_context(
+            cafile=f"{self.machine.root}/etc/counter/certificate.pem"
+        )
         context.check_hostname = False
-        connection = http.client.HTTPSConnection("127.0.0.1", 443, context=context, timeout=120)
-        headers = {"Host": "counter.bank.example", "X-Counter-Client": "test", "Content-Type": "application/json"}
         if user:
-            headers["Authorization"] = "Basic " + base64.b64encode(f"{user}:{password}".encode()).decode()
+            staff = f"{self.machine.root}{STAFF}"
+            context.load_cert_chain(f"{staff}/issued/{user}.crt", f"{staff}/private/{user}.key")
+        connection = http.client.HTTPSConnection("127.0.0.1", 443, context=context, timeout=120)
+        headers = {
+            "Host": "counter.bank.example",
+            "X-Counter-Client": "test",
+            "Content-Type": "application/json",
+        }
         try:
             connection.request(method, path, None if value is None else json.dumps(value), headers)
             response = connection.getresponse()
@@ -171,27 +253,48 @@ class World:
             except OSError as fault:
                 met = fault
             time.sleep(0.1)
-        raise SystemExit(f"WRONG: nginx doesn't answer: {met}\n{self.machine.on('sh', '-c', 'tail -n 20 /var/log/nginx/error.log /etc/counter/groups; journalctl -n 10 --no-pager').stdout}")
+        raise AssertionError(
+            f"nginx doesn't answer: {met}\n" + self.said_by("counter-nginx.service")
+        )
 
     def next_number(self) -> int:
         self.number += 1
         return self.number
 
     def open_day(self, day: str) -> Answer:
-        return self.ask("POST", "/day/open", {"desk": 9, "number": self.next_number(), "day": day}, "bert")
+        return self.ask(
+            "POST", "/day/open", {"desk": 9, "number": self.next_number(), "day": day}, "bert"
+        )
+
+    def reach_today(self) -> None:
+        """Opens today, once."""
+        if not self.is_today:
+            self.open_day(self.today)
+            self.is_today = True
 
     def close_day(self, day: str) -> Answer:
-        return self.ask("POST", "/day/close", {"desk": 9, "number": self.next_number(), "day": day}, "bert")
+        return self.ask(
+            "POST", "/day/close", {"desk": 9, "number": self.next_number(), "day": day}, "bert"
+        )
 
     def redemption(self, turn: int, day: str, payee: int = 7) -> dict[str, Any]:
-        return {"desk": 1, "number": self.next_number(), "day": day, "payee": payee, "serials": [bond(turn)["serial"]]}
+        return {
+            "desk": 1,
+            "number": self.next_number(),
+            "day": day,
+            "payee": payee,
+            "serials": [bond(turn)["serial"]],
+        }
 
     def pay(self, count: int, day: str) -> None:
         """Pays the next bonds, one on a ticket, at the counter's own socket: quicker than by nginx."""
         for _ in range(count):
-            status, body = self.ask_counter(post("/redeem", self.redemption(self.bond, day))) or (0, "no answer")
+            status, body = self.ask_counter(post("/redeem", self.redemption(self.bond, day))) or (
+                0,
+                "no answer",
+            )
             if status != 200:
-                raise SystemExit(f"WRONG: {body}")
+                raise AssertionError(body)
             self.bond += 1
 
     @contextlib.contextmanager
@@ -214,7 +317,9 @@ class World:
             if self.ask_counter(get("/ticket/1")) is not None:
                 return
             time.sleep(0.1)
-        raise SystemExit("WRONG: the counter doesn't answer at its socket\n" + self.machine.on("systemctl", "status", "--no-pager", "counter.service", "counter-http.socket", "counter-http.service").stdout)
+        raise AssertionError(
+            "the counter doesn't answer at its socket\n" + self.said_by("counter.service")
+        )
 
     def paid_today(self) -> int:
         """Tickets of the open day, as the snapshot's metric has them."""
@@ -224,17 +329,23 @@ class World:
 
     def metrics(self) -> dict[str, str]:
         """The metrics as they were written last, none before the first time: each sample's name with its labels, and its value."""
-        path = f"{self.machine.root}/var/lib/counter-watch/counter.prom"
+        path = f"{self.machine.root}/run/counter-metrics/counter.prom"
         if not os.path.exists(path):
             return {}
         with open(path, encoding="utf-8") as file:
-            return dict(line.rstrip("\n").rsplit(" ", 1) for line in file if not line.startswith("#"))
+            return dict(
+                line.rstrip("\n").rsplit(" ", 1) for line in file if not line.startswith("#")
+            )
 
     def metric(self, name: str) -> float:
         return float(self.metrics().get(name, "nan"))
 
     def sum_of(self, name: str) -> float:
-        return sum(float(value) for sample, value in self.metrics().items() if sample.partition("{")[0] == name)
+        return sum(
+            float(value)
+            for sample, value in self.metrics().items()
+            if sample.partition("{")[0] == name
+        )
 
     def watched(self) -> None:
         """Waits for metrics that were begun after now."""
@@ -243,7 +354,12 @@ class World:
             if self.metric("ladwenpik_watch_timestamp_seconds") > now:
                 return
             time.sleep(0.1)
-        raise SystemExit("WRONG: no metrics are written\n" + self.machine.on("journalctl", "-o", "cat", "--no-pager", "-n", "30", "-u", "counter-watch.service").stdout)
+        raise AssertionError("no metrics are written\n" + self.said_by("counter-watch.service"))
+
+    def said_by(self, unit: str) -> str:
+        return self.machine.on(
+            "journalctl", "-o", "cat", "--no-pager", "-n", "30", "-u", unit
+        ).stdout
 
     def prometheus(self, path: str) -> Any:
         with urllib.request.urlopen(f"http://127.0.0.1:9090/api/v1/{path}", timeout=30) as response:
@@ -251,24 +367,44 @@ class World:
 
     def firing(self) -> set[str]:
         """The names of the alerts that fire."""
-        return {alert["labels"]["alertname"].removeprefix("Ladwenpik") for alert in self.prometheus("alerts")["alerts"] if alert["state"] == "firing"}
+        return {
+            alert["labels"]["alertname"].removeprefix("Ladwenpik")
+            for alert in self.prometheus("alerts")["alerts"]
+            if alert["state"] == "firing"
+        }
 
     def labels_of(self, alert: str, name: str) -> set[str | None]:
         """What a label of an alert says, of each one that fires."""
-        return {found["labels"].get(name) for found in self.prometheus("alerts")["alerts"] if found["state"] == "firing" and found["labels"]["alertname"] == f"Ladwenpik{alert}"}
+        return {
+            found["labels"].get(name)
+            for found in self.prometheus("alerts")["alerts"]
+            if found["state"] == "firing" and found["labels"]["alertname"] == f"Ladwenpik{alert}"
+        }
 
     def state(self) -> str:
         """What is to be looked at if an alert doesn't fire."""
-        shown = "\n".join(f"{name} {value}" for name, value in self.metrics().items() if float(value) != 0 and "_bucket" not in name)
-        return shown + "\n" + self.machine.on("journalctl", "-o", "cat", "--no-pager", "-n", "12", "-u", "counter-watch.service").stdout
+        shown = "\n".join(
+            f"{name} {value}"
+            for name, value in self.metrics().items()
+            if float(value) != 0 and "_bucket" not in name
+        )
+        return shown + "\n" + self.said_by("counter-watch.service")
 
     def query(self, expression: str) -> list[dict[str, Any]]:
-        found: list[dict[str, Any]] = self.prometheus("query?" + urllib.parse.urlencode({"query": expression}))["result"]
+        found: list[dict[str, Any]] = self.prometheus(
+            "query?" + urllib.parse.urlencode({"query": expression})
+        )["result"]
         return found
 
     def opened_files(self) -> list[str]:
         """What one more run of the metrics opens, by Python's own events."""
         hook = "import os, runpy, sys; sys.argv.pop(0); sys.path.insert(0, os.path.dirname(sys.argv[0])); sys.addaudithook(lambda event, words: event in ('open', 'sqlite3.connect') and print('OPENED', words[0])); runpy.run_path(sys.argv[0], run_name='__main__')"
         words = f"--to /tmp/more.prom --state /tmp/more.json --store {STORE} --snapshots /srv/counter/snapshots --copies /srv/copies --archive /srv/archive/counter --disk /var/lib/counter"
-        said = self.machine.on("/usr/bin/python3", "-c", hook, "/opt/counter/watch/metrics", *words.split()).stdout
-        return [urllib.parse.unquote(line.split(" ", 1)[1].removeprefix("file:").partition("?")[0]) for line in said.splitlines() if line.startswith("OPENED ")]
+        said = self.machine.on(
+            "/usr/bin/python3", "-c", hook, "/opt/counter/watch/metrics", *words.split()
+        ).stdout
+        return [
+            urllib.parse.unquote(line.split(" ", 1)[1].removeprefix("file:").partition("?")[0])
+            for line in said.splitlines()
+            if line.startswith("OPENED ")
+        ]

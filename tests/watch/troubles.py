@@ -7,9 +7,8 @@ import threading
 import time
 from typing import Callable, Iterator
 
-from counter_calls import right
-from machine import Machine
-from world import STORE, World
+from tests.watch.machine import Machine
+from tests.watch.world import EASYRSA, STAFF, STORE, World
 
 #: Makes a trouble, waits until its alert fires, and mends it.
 Making = Callable[[World], Iterator[None]]
@@ -21,9 +20,11 @@ NEW = "/var/lib/new"
 
 def trouble(alert: str, *companions: str) -> Callable[[Making], Making]:
     """Registers a trouble under its alert, `ALERT: WHAT` for a further one, with the other alerts that may fire too since the trouble is theirs as well."""
+
     def register(make: Making) -> Making:
         TROUBLES[alert] = (make, set(companions))
         return make
+
     return register
 
 
@@ -39,7 +40,7 @@ def day_left_open(w: World) -> Iterator[None]:
     w.open_day(day_after(-3))
     yield
     w.close_day(day_after(-3))
-    w.open_day(w.today)
+    w.reach_today()
 
 
 @trouble("DayNearlyFull")
@@ -73,7 +74,17 @@ def day_in_future(w: World) -> Iterator[None]:
 @trouble("ManyRefusals")
 def many_refusals(w: World) -> Iterator[None]:
     for _ in range(40):
-        w.ask("POST", "/redeem", {"desk": 1, "number": w.next_number(), "day": w.today, "payee": 7, "serials": ["Z999EE"]})
+        w.ask(
+            "POST",
+            "/redeem",
+            {
+                "desk": 1,
+                "number": w.next_number(),
+                "day": w.today,
+                "payee": 7,
+                "serials": ["Z999EE"],
+            },
+        )
     yield
 
 
@@ -143,6 +154,7 @@ def running(*loops: Callable[[], object]) -> Iterator[None]:
 @trouble("Slow", "NotAnswering")
 def slow(w: World) -> Iterator[None]:
     """Beside payments, a client past nginx is silent for three seconds, again and again."""
+
     def hold() -> None:
         with w.connected():
             time.sleep(3)
@@ -160,7 +172,15 @@ def queue(w: World) -> Iterator[None]:
     w.wait_for_counter()
 
 
-@trouble("Queue: at the socket", "NotAnswering", "ArchiveOld", "WatchOld", "Slow", "Unanswered", "CertificateEnds")
+@trouble(
+    "Queue: at the socket",
+    "NotAnswering",
+    "ArchiveOld",
+    "WatchOld",
+    "Slow",
+    "Unanswered",
+    "CertificateEnds",
+)
 def queue_at_socket(w: World) -> Iterator[None]:
     """The service behind the socket hangs, so connections wait there."""
     w.machine.follow("systemctl kill --signal=STOP counter-http.service")
@@ -171,7 +191,7 @@ def queue_at_socket(w: World) -> Iterator[None]:
         at = w.labels_of("Queue", "at")
     w.machine.follow("systemctl kill --signal=CONT counter-http.service")
     w.wait_for_counter()
-    right(at == {"socket"}, "it names the socket", at)
+    assert at == {"socket"}
 
 
 # ---- the service
@@ -201,27 +221,41 @@ def no_socket(w: World) -> Iterator[None]:
 @trouble("NotAnswering: nginx", "CertificateEnds")
 def no_nginx(w: World) -> Iterator[None]:
     """The counter answers, and the check doesn't reach it."""
-    w.machine.follow("systemctl stop nginx.service")
+    w.machine.follow("systemctl stop counter-nginx.service")
     yield
-    w.machine.follow("systemctl start nginx.service")
+    w.machine.follow("systemctl start counter-nginx.service")
 
 
 @trouble("PortTaken")
 def port_taken(w: World) -> Iterator[None]:
     """A program of nobody listens where the counter did before it had a network of its own. It gets no request."""
     m = w.machine
-    m.follow("systemd-run -q --unit stranger --uid nobody /usr/bin/python3 -u -m http.server --bind 127.0.0.1 8377")
+    m.follow(
+        "systemd-run -q --unit stranger --uid nobody /usr/bin/python3 -u -m http.server --bind 127.0.0.1 8377"
+    )
     w.ask("GET", "/ticket/1")
     yield
-    said = m.follow("systemctl stop stranger.service; journalctl -o cat --no-pager -u stranger.service")
-    right("Started" in said and "GET" not in said, "what listens there got no request", said)
+    said = m.follow(
+        "systemctl stop stranger.service; journalctl -o cat --no-pager -u stranger.service"
+    )
+    assert "Started" in said and "GET" not in said, "what listens there got no request"
 
 
 @trouble("Unanswered", "NotAnswering")
 def unanswered(w: World) -> Iterator[None]:
     w.machine.follow("systemctl stop counter.service")
     for _ in range(20):
-        w.ask("POST", "/redeem", {"desk": 2, "number": w.next_number(), "day": w.today, "payee": 7, "serials": ["Z997EE"]})
+        w.ask(
+            "POST",
+            "/redeem",
+            {
+                "desk": 2,
+                "number": w.next_number(),
+                "day": w.today,
+                "payee": 7,
+                "serials": ["Z997EE"],
+            },
+        )
     yield
     started(w)
 
@@ -239,10 +273,16 @@ def restarting(w: World) -> Iterator[None]:
 def unit_failed(w: World) -> Iterator[None]:
     """A store of an earlier moment in the place of the counter's: the guard refuses it, and systemd doesn't start it again."""
     m = w.machine
-    m.follow(f"systemctl stop counter.service counter-archive.service; mkdir {NEW}; mv {STORE} {STORE}-wal {NEW}/")
-    m.follow(f"cp /srv/archive/counter/first.db {STORE}; cp /srv/archive/counter/first.db-wal {STORE}-wal; chown counter: {STORE} {STORE}-wal; systemctl start --no-block counter.service")
+    m.follow(
+        f"systemctl stop counter.service counter-archive.service; mkdir {NEW}; mv {STORE} {STORE}-wal {NEW}/"
+    )
+    m.follow(
+        f"cp /srv/archive/counter/first.db {STORE}; cp /srv/archive/counter/first.db-wal {STORE}-wal; chown counter: {STORE} {STORE}-wal; systemctl start --no-block counter.service"
+    )
     yield
-    m.follow(f"rm {STORE} {STORE}-wal; cp -p {NEW}/day.db {NEW}/day.db-wal /var/lib/counter/; rm -r {NEW}; systemctl reset-failed counter.service")
+    m.follow(
+        f"rm {STORE} {STORE}-wal; cp -p {NEW}/day.db {NEW}/day.db-wal /var/lib/counter/; rm -r {NEW}; systemctl reset-failed counter.service"
+    )
     started(w)
     m.follow("systemctl start counter-archive.service")
 
@@ -257,11 +297,24 @@ def disk_full(w: World) -> Iterator[None]:
     w.machine.follow("rm /srv/archive/fill")
 
 
-@trouble("Unserved", "DiskFull", "SnapshotOld", "ArchiveOld", "NotAnswering", "WatchOld", "SourceUnread", "ManyRefusals")
+@trouble(
+    "Unserved",
+    "DiskFull",
+    "SnapshotOld",
+    "ArchiveOld",
+    "NotAnswering",
+    "WatchOld",
+    "SourceUnread",
+    "ManyRefusals",
+)
 def unserved(w: World) -> Iterator[None]:
     """The store's disk has no room: requests are answered 503."""
     m = w.machine
-    m.on("sh", "-c", "dd if=/dev/zero of=/srv/counter/fill bs=64k; dd if=/dev/zero of=/srv/counter/more bs=1k; sync; dd if=/dev/zero of=/srv/counter/last bs=512")
+    m.on(
+        "sh",
+        "-c",
+        "dd if=/dev/zero of=/srv/counter/fill bs=64k; dd if=/dev/zero of=/srv/counter/more bs=1k; sync; dd if=/dev/zero of=/srv/counter/last bs=512",
+    )
     for _ in range(100):
         request = w.redemption(w.bond, w.today)
         status, body = w.ask("POST", "/redeem", request)
@@ -269,19 +322,26 @@ def unserved(w: World) -> Iterator[None]:
         if status == 503:
             break
     else:
-        raise SystemExit(f"WRONG: the disk is full, and the counter answers {status} {body}\n" + m.on("df", "/srv/counter").stdout)
+        raise AssertionError(
+            f"the disk is full, and the counter answers {status} {body}\n"
+            + m.on("df", "/srv/counter").stdout
+        )
     yield
     m.follow("rm -f /srv/counter/fill /srv/counter/more /srv/counter/last; sync")
     wait_for_room(m)
     m.follow("systemctl restart counter.service")
     w.wait_for_counter()
-    right(w.ask("POST", "/redeem", request)[0] == 200, "with room again, the request that was answered 503 is sent again, and acts")
+    assert (
+        w.ask("POST", "/redeem", request)[0] == 200
+    ), "with room again, the request that was answered 503 acts"
 
 
 def wait_for_room(m: Machine) -> None:
     """Waits until btrfs has room for its own tables too: it gives the room of removed files back in the background, up to half a minute later."""
     room = "/srv/counter/snapshots/room"
-    m.follow(f"for n in $(seq 120); do btrfs -q subvolume snapshot /var/lib/counter {room} && break; sleep 1; done; btrfs -q subvolume delete {room}")
+    m.follow(
+        f"for n in $(seq 120); do btrfs -q subvolume snapshot /var/lib/counter {room} && break; sleep 1; done; btrfs -q subvolume delete {room}"
+    )
 
 
 def away(m: Machine, path: str) -> None:
@@ -309,20 +369,22 @@ def archive_gone(w: World) -> Iterator[None]:
     wanted = {"archive /srv/archive/counter", "disk /srv/archive"}
     gone = sources_gone(w, wanted)
     back(w.machine, "/srv/archive")
-    right(gone == wanted, "it names the archive and its disk", gone)
+    assert gone == wanted
 
 
 @trouble("Gone: the log of requests")
 def requests_gone(w: World) -> Iterator[None]:
-    """After its disk was unmounted nginx opens its logs anew, as each night: then the log lies on the disk below."""
+    """The log's disk is unmounted, and nginx opens its logs anew, as each month."""
     m = w.machine
     away(m, "/srv/requests")
-    m.follow("nginx -s reopen")
+    m.follow("systemctl reload counter-nginx.service")
     yield
-    gone, below = sources_gone(w, {"disk /srv/requests"}), m.on("rm", "/srv/requests/requests.log")
+    gone = sources_gone(w, {"disk /srv/requests"})
+    m.follow("rm -f /srv/requests/requests.log")
     back(m, "/srv/requests")
-    m.follow("nginx -s reopen")
-    right(gone == {"disk /srv/requests"} and below.returncode == 0, "it names the disk, though nginx writes a log on the disk below", gone)
+    m.follow("systemctl restart counter-nginx.service")
+    w.wait_for_nginx()
+    assert gone == {"disk /srv/requests"}
 
 
 @trouble("Gone: the witness")
@@ -332,7 +394,7 @@ def witness_gone(w: World) -> Iterator[None]:
     wanted = {"archive /run/counter-witness"}
     gone = sources_gone(w, wanted)
     w.drop_in("counter-witness.service", "zzz")
-    right(gone == wanted, "it names the witness, which doesn't answer", gone)
+    assert gone == wanted
 
 
 @trouble("RequestsLogBehind", "DiskFull")
@@ -348,9 +410,24 @@ def requests_full(w: World) -> Iterator[None]:
     refused()
 
 
+@trouble("Unlogged", "DiskFull")
+def unlogged(w: World) -> Iterator[None]:
+    """The disk of nginx's logs is full, and payments go on. The last page of its log has room for some more."""
+    request = w.redemption(w.bond, w.today)
+    w.bond += 1
+    w.machine.on("dd", "if=/dev/zero", "of=/var/log/counter/fill", "bs=4k")
+    statuses = {w.ask("POST", "/redeem", request)[0] for _ in range(15)}
+    yield
+    w.machine.follow("rm /var/log/counter/fill")
+    w.watched()
+    assert (statuses, w.metric("ladwenpik_unlogged_total") > 0) == ({200}, True), "nginx said so"
+
+
 @trouble("CopyOld")
 def copy_old(w: World) -> Iterator[None]:
-    earlier = (datetime.datetime.now(datetime.timezone.utc) - datetime.timedelta(hours=27)).strftime("%Y-%m-%dT%H-%M-%S")
+    earlier = (
+        datetime.datetime.now(datetime.timezone.utc) - datetime.timedelta(hours=27)
+    ).strftime("%Y-%m-%dT%H-%M-%S")
     w.machine.follow(f"cd /srv/copies; for copy in 2*; do mv $copy {earlier}.000000001Z; done")
     yield
     w.machine.follow("systemctl start counter-copy.service")
@@ -359,7 +436,14 @@ def copy_old(w: World) -> Iterator[None]:
 @trouble("CopyRefused")
 def copy_refused(w: World) -> Iterator[None]:
     """A copy that doesn't open: here since the program that should open it is another."""
-    w.machine.on("/opt/counter/snapshot_copy", "/var/lib/counter", "/srv/counter/snapshots", "/srv/copies", "30", "/bin/false")
+    w.machine.on(
+        "/opt/counter/snapshot_copy",
+        "/var/lib/counter",
+        "/srv/counter/snapshots",
+        "/srv/copies",
+        "30",
+        "/bin/false",
+    )
     yield
     w.machine.follow("btrfs -q subvolume delete /srv/copies/refused-*")
 
@@ -378,15 +462,22 @@ def second_folder_old(w: World) -> Iterator[None]:
     yield
     old = w.labels_of("ArchiveOld", "archive")
     w.machine.follow("mount -o remount,rw /srv/elsewhere")
-    right(old == {"/srv/elsewhere/counter"}, "it names the second folder alone", old)
+    assert old == {"/srv/elsewhere/counter"}
 
 
 @trouble("LogLarge")
 def log_large(w: World) -> Iterator[None]:
     """Files of another store are looked at, whose log is only large: the program's own was never seen above 1.4 MB."""
     m = w.machine
-    starts = m.follow(f"mkdir -p {NEW}; chmod 755 {NEW}; truncate -s 20M {NEW}/day.db-wal; grep ^ExecStart= /etc/systemd/system/counter-watch.service")
-    w.drop_in("counter-watch.service", "big", "ExecStart=", starts.strip().replace("--store /var/lib/counter", f"--store {NEW}"))
+    starts = m.follow(
+        f"mkdir -p {NEW}; chmod 755 {NEW}; truncate -s 20M {NEW}/day.db-wal; grep ^ExecStart= /etc/systemd/system/counter-watch.service"
+    )
+    w.drop_in(
+        "counter-watch.service",
+        "big",
+        "ExecStart=",
+        starts.strip().replace("--store /var/lib/counter", f"--store {NEW}"),
+    )
     yield
     w.drop_in("counter-watch.service", "big")
     m.follow(f"rm -r {NEW}")
@@ -405,7 +496,9 @@ def clock_back(w: World) -> Iterator[None]:
 
 @trouble("SnapshotOld", "ArchiveOld")
 def snapshot_old(w: World) -> Iterator[None]:
-    w.machine.follow("mount --bind /srv/counter/snapshots /srv/counter/snapshots; mount -o remount,bind,ro /srv/counter/snapshots")
+    w.machine.follow(
+        "mount --bind /srv/counter/snapshots /srv/counter/snapshots; mount -o remount,bind,ro /srv/counter/snapshots"
+    )
     yield
     w.machine.follow("umount /srv/counter/snapshots")
 
@@ -419,10 +512,12 @@ def source_unread(w: World) -> Iterator[None]:
 
 @trouble("LogGap")
 def log_gap(w: World) -> Iterator[None]:
-    m, log = w.machine, "/var/log/nginx/counter-watch.log"
+    m, log = w.machine, "/var/log/counter/watch.log"
     m.follow("systemctl stop counter-watch.timer")
     w.ask("GET", "/ticket/1")
-    m.follow(f"mv {log} {log}.1; nginx -s reopen; sleep 1; rm {log}.1*")
+    m.follow(
+        f"mv {log} {log}.1; install -g adm -m 640 /dev/null {log}; systemctl reload counter-nginx.service; sleep 1; rm {log}.*"
+    )
     w.ask("GET", "/ticket/1")
     m.follow("systemctl start counter-watch.timer")
     yield
@@ -441,15 +536,15 @@ def host_gone(w: World) -> Iterator[None]:
     yield
     gone = w.labels_of("HostGone", "instance")
     w.start_second_exporter()
-    right(gone == {"localhost:9101"}, "it names the host that is gone", gone)
+    assert gone == {"localhost:9101"}
 
 
-# ---- nginx's certificate
+# ---- certificates, and the staff's authority
 
 
 def new_certificate(w: World, days: int) -> None:
     w.make_certificate(days)
-    w.machine.follow("systemctl reload nginx.service")
+    w.machine.follow("systemctl reload counter-nginx.service")
 
 
 @trouble("CertificateEnds")
@@ -474,5 +569,60 @@ def certificate_ends_soon(w: World) -> Iterator[None]:
     new_certificate(w, 60)
 
 
-#: A day is left open before today is opened, and the last one lies in the future: days only rise.
+def new_dates(w: World, list_days: int, authority_days: int) -> None:
+    """Lets the list and the authority end after so many days. The authority keeps its name, number and key."""
+    renewed = f"openssl x509 -in ca.crt -signkey private/ca.key -days {authority_days} -out new.crt"
+    w.machine.follow(f"cd {STAFF} && {renewed} && mv new.crt ca.crt")
+    w.machine.follow(f"{EASYRSA} --days={list_days} gen-crl")
+    w.machine.follow("systemctl reload counter-nginx.service")
+
+
+@trouble("StaffEnds")
+def list_ends(w: World) -> Iterator[None]:
+    new_dates(w, 29, 3650)
+    yield
+    new_dates(w, 180, 3650)
+
+
+@trouble("StaffEnds: the authority")
+def authority_ends(w: World) -> Iterator[None]:
+    new_dates(w, 180, 179)
+    yield
+    new_dates(w, 180, 3650)
+
+
+@trouble("StaffEndsSoon", "StaffEnds")
+def staff_ends_soon(w: World) -> Iterator[None]:
+    """A list that wasn't renewed for long. The timer's own unit mends it."""
+    new_dates(w, 6, 3650)
+    yield
+    w.machine.follow("systemctl start counter-revoked.service")
+
+
+@trouble("StaffEndsSoon: past its date", "StaffEnds", "NotAnswering", "CertificateEnds")
+def staff_has_ended(w: World) -> Iterator[None]:
+    """nginx takes nobody's certificate any more."""
+    w.machine.follow(
+        f"faketime -f -2d {EASYRSA} --days=1 gen-crl && systemctl reload counter-nginx.service"
+    )
+    yield
+    status, body = w.ask("GET", "/ticket/1")
+    w.machine.follow("systemctl start counter-revoked.service")
+    assert (status, '"forbidden":"certificate"' in body) == (400, True)
+    w.wait_for_nginx()
+
+
+@trouble("UnitFailed: the list isn't renewed")
+def not_renewed(w: World) -> Iterator[None]:
+    m = w.machine
+    m.on(
+        "sh",
+        "-c",
+        f"mv {STAFF}/private/ca.key {STAFF}/ca.key; : > {STAFF}/private/ca.key; systemctl start counter-revoked.service",
+    )
+    yield
+    m.follow(f"mv {STAFF}/ca.key {STAFF}/private/ca.key; systemctl start counter-revoked.service")
+
+
+#: Days only rise: the first trouble needs an earlier one than today, and the last one lies in the future.
 FIRST, LAST = "DayLeftOpen", ("DayNearlyFull", "DayFull", "DayInFuture")

@@ -1,0 +1,304 @@
+"""samples/watch on a machine with a systemd, btrfs and Prometheus of its own: every alert fires in its trouble and in no other, metrics are right and name nobody.
+
+Two seconds stand for a minute there; tests/watch/test_alerts.py runs the rules with their own times. About 12 minutes on a busy machine."""
+
+from __future__ import annotations
+
+import html.parser
+import json
+import os
+import re
+import shutil
+import tempfile
+import threading
+import time
+from pathlib import Path
+from typing import Callable, Iterator
+
+import pytest
+
+from tests.watch.machine import TOP, Machine
+from tests.watch.troubles import FIRST, LAST, TROUBLES
+from tests.watch.world import World
+
+pytestmark = [pytest.mark.root, pytest.mark.nginx, pytest.mark.slow]
+
+WATCH = Path(TOP) / "samples/watch"
+#: Limits in seconds that are made shorter, as the times of the rules are; but a busy machine is slow by itself.
+SHORTER = {
+    "behind_seconds > 60": "behind_seconds > 5",
+    "bucket[20s]))) > 1": "bucket[20s]))) > 2.5",
+    "> 300": "> 40",
+    "> 900": "> 30",
+    "} > 120": "} > 20",
+    "} > 360": "} > 60",
+}
+PATIENCE = 120
+CHECK = "/opt/counter/watch/check_counter"
+
+
+def quick_rules() -> str:
+    """The rules with two seconds for each minute and 30 for each hour."""
+    text = (WATCH / "alerts.yml").read_text()
+    text = re.sub(
+        r"(for: |\[)(\d+)m\b", lambda found: f"{found[1]}{2 * int(found[2])}s", text
+    ).replace("[1h]", "[30s]")
+    for old, new in SHORTER.items():
+        assert old in text, old
+        text = text.replace(old, new)
+    return text
+
+
+def alert_of(trouble: str) -> str:
+    return trouble.partition(":")[0]
+
+
+def until(is_so: Callable[[], bool], seconds: int = PATIENCE) -> bool:
+    for _ in range(seconds * 2):
+        if is_so():
+            return True
+        time.sleep(0.5)
+    return False
+
+
+@pytest.fixture(scope="module")
+def world(program: Path) -> Iterator[World]:
+    with tempfile.TemporaryDirectory(dir=os.environ.get("TMPDIR", "/var/tmp")) as folder:
+        machine = Machine(str(program), folder)
+        try:
+            made = World(machine)
+            made.set_up()
+            made.watch_quickly("2s")
+            made.set_up_prometheus(quick_rules())
+            made.watched()
+            yield made
+        finally:
+            machine.end()
+
+
+@pytest.fixture
+def today(world: World) -> World:
+    """The world with today open."""
+    world.reach_today()
+    return world
+
+
+#: What may fire a while longer, since a trouble before made it fire.
+lingering: set[str] = set()
+
+
+def make_trouble(world: World, name: str) -> None:
+    """Makes a trouble, and sees its alert fire with its companions alone; then mends it."""
+    make, companions = TROUBLES[name]
+    alert = alert_of(name)
+    assert until(lambda: alert not in world.firing()), f"control: {alert} doesn't fire before"
+    lingering.intersection_update(world.firing())
+    steps = make(world)
+    try:
+        next(steps)
+        has_fired = until(lambda: alert in world.firing())
+        firing = world.firing()
+        assert has_fired, f"{firing}\n{world.state()}"
+        assert firing <= {alert, *companions, *lingering}, world.state()
+    finally:
+        lingering.update(companions, {alert})
+        next(steps, None)
+
+
+def test_each_alert_has_a_trouble() -> None:
+    named = re.findall(r"alert: Ladwenpik(\w+)", (WATCH / "alerts.yml").read_text())
+    assert set(named) == {alert_of(name) for name in TROUBLES}
+
+
+def test_first_trouble(world: World) -> None:
+    make_trouble(world, FIRST)
+
+
+def test_quiet(today: World) -> None:
+    """Control: nothing fires while clients pay and look things up."""
+    assert until(lambda: not today.firing()), today.state()
+    end, firing = time.time() + 30, set[str]()
+    while time.time() < end:
+        today.pay(1, today.today)
+        today.ask("GET", "/inventory/7/2026-11")
+        firing |= today.firing()
+        time.sleep(1)
+    assert firing == set()
+
+
+def test_systemd_takes_the_units(world: World) -> None:
+    units = [f"/etc/systemd/system/counter-watch.{kind}" for kind in ("service", "timer")]
+    assert (
+        "counter-watch"
+        not in world.machine.on("systemd-analyze", "verify", "--man=no", *units).stdout
+    )
+
+
+# ---- the check
+
+
+def test_check_through_nginx(world: World) -> None:
+    """The check's user may ask for the check's path and for nothing else; what the check says of certificates."""
+    other = ("/batch/2012-02-06", "/inventory/7/2012-02", "/ticket/1")
+    asked = [world.ask("GET", path, user="watch") for path in other]
+    asked += [world.ask("POST", path, {}, user="watch") for path in ("/redeem", "/day/open")]
+    assert [status for status, _ in asked] == [403] * 5
+    found = world.ask("GET", "/batch/2005-05-01", user="watch")
+    assert found == (404, '{"code":69,"fault":"NotFound"}')
+    by = "--certificate /etc/counter/watch.crt --key /etc/counter/watch.key"
+    trust = "--ca /etc/counter/certificate.pem"
+    for words, status, part in (
+        (f"{by} {trust}", 0, "certificate="),
+        (trust, 2, "doesn't take the check's certificate"),
+        (by, 2, "no TLS that can be trusted"),
+        (f"{by} {trust} --days 61", 1, "certificate ends in"),
+    ):
+        ran = world.machine.on("sh", "-c", f"{CHECK} https://counter.bank.example {words}")
+        assert (ran.returncode, part in ran.stdout) == (status, True), ran.stdout
+
+
+def test_check_at_the_socket(world: World) -> None:
+    """The counter is asked past nginx by root alone."""
+    assert world.machine.follow(f"{CHECK} unix:/run/counter-http.sock").startswith("COUNTER OK")
+    for user in ("nobody", "counter"):
+        words = ["setpriv", "--reuid", user, "--regid", "nogroup", "--clear-groups"]
+        ran = world.machine.on(*words, CHECK, "unix:/run/counter-http.sock")
+        assert ran.returncode == 2 and "Permission denied" in ran.stdout
+
+
+# ---- logs and metrics
+
+
+def test_a_desk_of_null(today: World) -> None:
+    """It is desk 0: the same request with desk 0 is a retry."""
+    request = {**today.redemption(today.bond, today.today), "desk": None}
+    retries = 'ladwenpik_retries_total{route="/redeem"}'
+    today.bond += 1
+    today.watched()
+    before = today.metric(retries)
+    replies = [today.ask("POST", "/redeem", {**request, "desk": desk}) for desk in (None, 0)]
+    today.watched()
+    today.watched()
+    assert replies[0] == replies[1] and replies[0][0] == 200
+    assert today.metric(retries) == before + 1
+    entry = f'"desk":"0","number":"{request["number"]}"'
+    assert today.machine.on("grep", "-c", entry, "/var/log/counter/watch.log").stdout == "2\n"
+
+
+def test_rotations(today: World) -> None:
+    """The package's logrotate works while clients ask: each request is counted once, only root and adm read the logs, the log for watching names no one, and nobody opens the store."""
+    m, log, done, turns = today.machine, "/var/log/counter/watch.log", threading.Event(), 0
+    shutil.copy(f"{TOP}/packaging/debian/ladwenpik.logrotate", f"{m.root}/tmp/rotating")
+
+    def rotate() -> None:
+        nonlocal turns
+        while not done.wait(2):
+            m.on("logrotate", "-f", "-s", "/tmp/rotated", "/tmp/rotating")
+            turns += 1
+
+    status, body = today.ask("POST", "/redeem", today.redemption(today.bond, today.today))
+    assert status == 200, body
+    today.bond += 1
+    today.watched()
+    read = 'ladwenpik_requests_total{route="/ticket",status="200",by="counter"}'
+    before = today.metric(read)
+    rotating = threading.Thread(target=rotate)
+    rotating.start()
+    asked, end = 0, time.time() + PATIENCE
+    while (turns < 3 or asked <= 20) and time.time() < end:
+        asked += today.ask("GET", "/ticket/1")[0] == 200
+    done.set()
+    rotating.join()
+    today.watched()
+    today.watched()
+    assert today.metric(read) - before == asked > 20
+    owners = set(m.follow("stat -c '%U:%G %a' /var/log/counter/* /srv/requests/*").splitlines())
+    assert owners == {"root:adm 640"} and int(m.follow(f"ls {log}* | wc -l")) > 3
+    names = "[A-Z][0-9]+EE|payee|anna|127[.]0|inventory/"
+    said = f"zcat -f {log}* | grep -cE '{names}'; zcat -f /var/log/counter/counter.log* | grep -cE '[A-Z][0-9]+EE'"
+    found = m.on("sh", "-c", said).stdout.split()
+    assert found[0] == "0" and int(found[1]) > 0, "control: the log of posts has serial numbers"
+    opened = today.opened_files()
+    assert any(path.endswith("/day.db") and "/snapshots/watch-" in path for path in opened)
+    assert not [path for path in opened if path.startswith("/var/lib/counter/")]
+
+
+# ---- the dashboard and the page
+
+
+def test_dashboard(today: World) -> None:
+    """Its structure as Grafana's import wants it, and data for each query."""
+    board = json.loads((WATCH / "dashboard.json").read_text())
+    panels = [panel for panel in board["panels"] if panel["type"] != "row"]
+    ids = [panel["id"] for panel in board["panels"]]
+    cells = [
+        (x, y)
+        for place in (panel["gridPos"] for panel in board["panels"])
+        for x in range(place["x"], place["x"] + place["w"])
+        for y in range(place["y"], place["y"] + place["h"])
+    ]
+    assert len(set(ids)) == len(ids) and len(set(cells)) == len(cells)
+    assert max(x for x, _ in cells) < 24
+    assert board["__inputs"][0]["name"] == "DS_PROMETHEUS"
+    for panel in panels:
+        assert panel["title"] and panel["description"]
+        assert panel["datasource"]["uid"] == "${DS_PROMETHEUS}"
+    expressions = [target["expr"] for panel in panels for target in panel["targets"]]
+    assert [expression for expression in expressions if not has_data(today, expression)] == []
+    assert not has_data(today, "ladwenpik_no_such_metric"), "control"
+
+
+def has_data(world: World, expression: str) -> bool:
+    return any(item["value"][1] != "NaN" for item in world.query(expression))
+
+
+class Page(html.parser.HTMLParser):
+    """The elements of a page that are counted: open ones are named to see that each is closed."""
+
+    def __init__(self) -> None:
+        super().__init__()
+        self.open: list[str] = []
+        self.ids: list[str | None] = []
+        self.labels: list[str] = []
+        self.tables = 0
+
+    def handle_starttag(self, tag: str, attrs: list[tuple[str, str | None]]) -> None:
+        named = dict(attrs)
+        self.ids += [named["id"]] if "id" in named else []
+        self.tables += tag == "table"
+        if tag == "svg":
+            self.labels.append(named.get("aria-label") or "" if named.get("role") == "img" else "")
+        if tag != "meta":
+            self.open.append(tag)
+
+    def handle_startendtag(self, tag: str, attrs: list[tuple[str, str | None]]) -> None:
+        pass
+
+    def handle_endtag(self, tag: str) -> None:
+        assert self.open and self.open.pop() == tag, f"{tag} isn't closed where it was opened"
+
+
+def test_page(today: World) -> None:
+    """Made on the machine, by the log and the snapshot; its figures are those of the books."""
+    m = today.machine
+    log = "--log /var/log/counter/watch.log --snapshots /srv/counter/snapshots"
+    today.watched()
+    m.follow(f"/opt/counter/watch/page --to /tmp/counter.html {log}")
+    text = Path(f"{m.root}/tmp/counter.html").read_text()
+    read = Page()
+    read.feed(text)
+    assert not read.open and len(set(read.ids)) == len(read.ids)
+    assert len(read.labels) >= 5 and read.tables >= 3
+    assert all(len(label) > 20 for label in read.labels), "each picture says in words what it shows"
+    assert f"{today.metric('ladwenpik_open_day_dollars'):,.2f}" in text
+    assert not re.search(r"[A-Z]\d+EE|payee|10\.0\.|anna", text)
+
+
+# ---- troubles
+
+
+@pytest.mark.parametrize(
+    "name", [*(name for name in TROUBLES if name not in (FIRST, *LAST)), *LAST]
+)
+def test_trouble(today: World, name: str) -> None:
+    make_trouble(today, name)
