@@ -535,7 +535,7 @@ export const RIGHTS = {
   other: ["look this up", "a user who may"],
 };
 
-const unlike = () => "Reload the page. If this stays, tell your administrator.";
+const unlike = () => "Reload the page. If this stays, ask your administrator.";
 
 // By the reason that the proxy gives: why it didn't pass a request on, and what to do about it.
 export const FORBIDDEN = {
