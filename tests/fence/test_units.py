@@ -96,7 +96,7 @@ def test_control_root_may_go_those_ways(machine: Machine) -> None:
 def test_control_over_a_port_of_the_machine_he_answers(
     machine: Machine, impostor: Impostor
 ) -> None:
-    conf = "/opt/counter/nginx/nginx.conf"
+    conf = "/usr/share/ladwenpik/nginx/nginx.conf"
     machine.shell(
         f"cp {conf} kept.conf; sed -i 's|http://unix:/run/counter-http.sock|http://127.0.0.1:8377|' {conf}\n"
         "systemctl reload counter-nginx.service; sleep 1"
