@@ -4,17 +4,18 @@ from __future__ import annotations
 
 import contextlib
 import socket
-import subprocess
 import time
 from concurrent.futures import ThreadPoolExecutor
 from pathlib import Path
 from typing import Callable
 
+from tests.fence.conftest import Counter
 from tests.fence.recorder import Message, RecordedSite, Recorder
 from tests.fence.shapes import shapes
 from tests.fence.site import Site
 from tests.fence.spellings import spellings
-from tests.fence.wire import HEADERS, everything, message, sent, statuses
+from tests.fence.wire import HEADERS, everything, message, sent
+from tests.shared.counter_calls import ask
 
 GROUPS = {"anna": "teller", "bert": "supervisor", "cleo": "office", "rita": "registrar", "erik": ""}
 ROUTES = {
@@ -78,16 +79,15 @@ def test_control_without_groups_each_route_is_reached(tmp_path: Path) -> None:
             assert {words[1] for words in of_others(site.recorder.take(), groups)} == others
 
 
-def test_the_program_knows_a_route_by_one_spelling(program: Path, tmp_path: Path) -> None:
+def test_the_program_knows_a_route_by_one_spelling(counter: Counter) -> None:
     """What `of_others` says of the counter is true of the program."""
-    targets = [
-        target for target in all_spellings(443) if b" " not in target and target not in ROUTES
-    ]
-    lines = [b"POST %s HTTP/1.1\r\nContent-Length: 2\r\n\r\n{}" % target for target in targets]
-    ran = subprocess.run(
-        [program, "apply", "--db", tmp_path / "day.db"], input=b"".join(lines), capture_output=True
-    )
-    assert statuses(ran.stdout) == [404] * len(lines)
+    found = {
+        target: ask(counter.port, b"POST %s HTTP/1.1\r\nContent-Length: 2\r\n\r\n{}" % target)
+        for target in all_spellings(443)
+    }
+    known = {target for target, answer in found.items() if answer and "BadField" in answer[1]}
+    assert known == set(ROUTES)
+    assert {answer[0] for answer in found.values() if answer} <= {400, 404, 405}
 
 
 def smuggled(send: Callable[[list[bytes]], object]) -> dict[bytes, str]:
