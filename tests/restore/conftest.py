@@ -1,0 +1,78 @@
+"""Run these by `pytest tests/restore`, as root for those with the marker `root`. EE_CLI names the program."""
+
+from __future__ import annotations
+
+import os
+import random
+import shutil
+import tempfile
+from pathlib import Path
+from typing import Iterator
+
+import pytest
+
+from tests.restore.counter_day import TOP, Day, Served, run
+
+
+def pytest_collection_modifyitems(items: list[pytest.Item]) -> None:
+    for item in items:
+        if item.get_closest_marker("root") and os.getuid() != 0:
+            item.add_marker(pytest.mark.skip(reason="needs root"))
+
+
+@pytest.fixture(scope="session")
+def program() -> str:
+    """The built ee_cli, as $EE_CLI or ./ee_cli has it."""
+    path = Path(os.environ.get("EE_CLI", TOP / "crates/ee_cli/out/ee_cli"))
+    if not path.exists():
+        pytest.skip(f"{path} isn't built: ./ee_cli, or name one by EE_CLI")
+    return str(path.resolve())
+
+
+@pytest.fixture
+def dice() -> random.Random:
+    """Dice of a seed that a failed test prints; SEED names another."""
+    seed = int(os.environ.get("SEED", random.randrange(1 << 32)))
+    print(f"SEED={seed}")
+    return random.Random(seed)
+
+
+@pytest.fixture(scope="session")
+def memory() -> Iterator[Path]:
+    """A folder in memory, where no request waits for the disk."""
+    with tempfile.TemporaryDirectory(prefix="restore.", dir="/dev/shm") as made:
+        os.chmod(made, 0o755)
+        yield Path(made)
+        run("chattr", "-R", "-a", made)
+
+
+@pytest.fixture(scope="session")
+def whole_day(program: str, memory: Path) -> Day:
+    """A day with 200 payments, of which 150 are archived, 200 logged, and 100 on the second machine."""
+    found = Day(program, memory / "day")
+    found.begin()
+    found.pay(range(100))
+    found.archive_now()
+    assert found.pull().returncode == 0
+    found.pay(range(100, 150))
+    found.archive_now()
+    found.pay(range(150, 200))
+    return found
+
+
+@pytest.fixture
+def day(whole_day: Day, memory: Path) -> Iterator[Day]:
+    """That day, for one test."""
+    with tempfile.TemporaryDirectory(prefix="day.", dir=memory) as made:
+        os.chmod(made, 0o755)
+        shutil.copytree(whole_day.folder, made, dirs_exist_ok=True)
+        yield Day(whole_day.program, Path(made), whole_day.at)
+        run("chattr", "-R", "-a", made)
+
+
+@pytest.fixture
+def served(day: Day) -> Iterator[Served]:
+    """That day, and `serve` over its store until the end."""
+    found = Served(day)
+    yield found
+    found.kill()
