@@ -1,0 +1,92 @@
+"""take_over refuses a damaged or an orphaned log, as the program does, and names what is lost with it."""
+
+from __future__ import annotations
+
+import random
+import sqlite3
+from pathlib import Path
+
+import pytest
+from tests.restore.counter_day import TOP, Day, Served, copied, run
+from counter_calls import rows
+
+TAKE_OVER = TOP / "samples" / "take_over"
+
+
+@pytest.fixture
+def killed(day: Day, served: Served) -> Path:
+    """A copy of the store of a killed server, whose log has 16 redemptions alone."""
+    day.archive_now()
+    # The server ends without a checkpoint of these.
+    return day.store
+
+
+def damage(log: Path, at: int, kind: str, dice: random.Random) -> None:
+    text = bytearray(log.read_bytes())
+    if kind == "a bit":
+        text[at] ^= 1 << dice.randrange(8)
+    else:
+        size = 512 if kind.startswith("512") else 4096
+        start = at // size * size
+        text[start : start + size] = dice.randbytes(size) if "random" in kind else bytes(size)
+    log.write_bytes(text)
+
+
+@pytest.mark.parametrize("kind", ["a bit", "512 random bytes", "512 zeros", "4096 zeros"])
+def test_damaged_log(
+    day: Day, served: Served, tmp_path: Path, dice: random.Random, kind: str
+) -> None:
+    served.pay(range(200, 216))
+    served.kill()
+    log = Path(f"{day.store}-wal")
+    whole = log.read_bytes()
+    control = run(TAKE_OVER, day.store, tmp_path / "control.db", day.program)
+    assert control.returncode == 0 and "replies     220" in control.stdout, control.stderr
+    day.archive_now()
+    at = len(whole) // 4
+    damage(log, at, kind, dice)
+    new = tmp_path / "new.db"
+    program = run(day.program, "export", "7", "--db", copied(day.store, tmp_path / "asked"))
+    refused = run(TAKE_OVER, day.store, new, day.program)
+    assert refused.returncode == 1 and "stands behind damage" in refused.stderr, refused.stderr
+    assert not new.exists() and "store: StoreFailed" in program.stderr or kind != "a bit"
+    taken = run(
+        TAKE_OVER, day.store, new, day.program, "--drop-after-damage", "--archive", day.archive
+    )
+    had, gone = len(rows(new, "SELECT * FROM answers")), taken.stdout.count("\n  row ")
+    assert taken.returncode == 0 and had + gone == 220 and gone > 0, taken.stdout + taken.stderr
+    assert f"{gone} requests of {day.archive} are gone" in taken.stdout
+
+
+def test_damaged_header(day: Day, served: Served, tmp_path: Path) -> None:
+    served.pay(range(200, 203))
+    served.kill()
+    log = Path(f"{day.store}-wal")
+    log.write_bytes(b"\x37" + log.read_bytes()[1:20] + b"\xff" + log.read_bytes()[21:])
+    refused = run(TAKE_OVER, day.store, tmp_path / "new.db", day.program)
+    assert refused.returncode == 1 and "header is damaged" in refused.stderr, refused.stderr
+
+
+@pytest.mark.parametrize("is_missing", [True, False])
+def test_orphaned_log(day: Day, served: Served, tmp_path: Path, is_missing: bool) -> None:
+    served.pay(range(200, 203))
+    served.kill()
+    day.store.unlink()
+    if not is_missing:
+        day.store.touch()
+    refused = run(TAKE_OVER, day.store, tmp_path / "new.db", day.program)
+    assert (
+        refused.returncode == 1 and "missing or empty beside its log" in refused.stderr
+    ), refused.stderr
+
+
+def test_log_of_sqlite(day: Day, tmp_path: Path) -> None:
+    """Control: a log that a killed sqlite3 left is no damaged one."""
+    books = sqlite3.connect(day.store, isolation_level=None)
+    books.execute("PRAGMA journal_mode = WAL")
+    books.execute("UPDATE desk SET last_day = last_day")
+    books.execute("UPDATE desk SET last_day = last_day")
+    copy = copied(day.store, tmp_path / "left")
+    books.close()
+    taken = run(TAKE_OVER, copy, tmp_path / "new.db", day.program)
+    assert taken.returncode == 0 and "dropped" not in taken.stdout, taken.stderr
