@@ -4,6 +4,7 @@ The scripts beside this module share it. It needs Python's standard library alon
 import collections
 import contextlib
 import datetime
+import errno
 import fcntl
 import hashlib
 import json
@@ -14,6 +15,7 @@ import shutil
 import sqlite3
 import struct
 import subprocess
+import sys
 import tempfile
 from typing import IO, Any, ContextManager, Dict, Iterator, List, NamedTuple, Optional, Sequence, Tuple, TypedDict
 
@@ -75,6 +77,11 @@ class End(TypedDict):
     time: str
 
 
+def alert(text: object) -> None:
+    """Says why a unit ends for good. Under systemd it has the priority by which `call_somebody` finds it."""
+    print(f"{'<2>' if 'JOURNAL_STREAM' in os.environ else ''}{text}", file=sys.stderr, flush=True)
+
+
 def now() -> str:
     return datetime.datetime.now(datetime.timezone.utc).strftime("%Y-%m-%dT%H:%M:%S.%f")[:-3] + "Z"
 
@@ -123,7 +130,7 @@ def lock(folder: str) -> None:
     try:
         fcntl.flock(os.open(folder, os.O_RDONLY), fcntl.LOCK_EX | fcntl.LOCK_NB)
     except BlockingIOError:
-        raise Busy(f"another archiver writes {folder}") from None
+        raise Busy(f"another process writes {folder}") from None
 
 
 def sync_folder(folder: str) -> None:
@@ -365,30 +372,52 @@ def begin_as(source: Source, folder: str) -> Archive:
 
 
 def bring(source: Source, folder: str) -> Archive:
-    """Appends what `source` has more than the archive in `folder`, up to the row that its end.json names. Raises BadArchive if `source` has less, or lines that don't
-    chain on to those that are there."""
+    """Appends what `source` has more than the archive in `folder`, up to the row that its end.json names. Every line is verified before the first is appended; until then they
+    are in a file of their own, which a broken connection leaves for the next time. Raises BadArchive if `source` has less, or lines that don't chain on to those that are there."""
     archive = Archive(folder) if is_begun(folder) else begin_as(source, folder)
     archive.last()
     archive.seal()
-    row, before, cut, until = archive.last_row, archive.last_checksum, archive.cut, source.end
-    if until["row"] < row:
-        raise BadArchive(f"{source.folder} has {until['row']} requests, and {folder} {row}: {source.folder} was taken back")
-    if row < until["row"]:
-        with source.read(LINES, archive.whole) as lines, open(archive.path, "ab") as file:
-            for line in lines:
-                if row == until["row"] or not line.endswith(b"\n"):
-                    break
-                named, request = request_in(line[:-1])
-                if request is None or named != before or request.row != row + 1 or not line.startswith(cut):
-                    raise BadArchive(f"{source.folder} doesn't go on from row {row} of {folder}: it was changed, or is another archive")
-                file.write(line[len(cut) :])
-                row, before, cut = request.row, checksum(line[:-1]), b""
-            file.flush()
-            os.fsync(file.fileno())
-    if (row, before) != (until["row"], until["checksum"]):
-        raise BadArchive(f"{source.folder} doesn't have the row {until['row']} that its {END} names, or {folder} has another row {row}")
+    until, part = source.end, archive.path + ".part"
+    if until["row"] < archive.last_row:
+        raise BadArchive(f"{source.folder} has {until['row']} requests, and {folder} {archive.last_row}: {source.folder} was taken back")
+    with open(part, "a+b") as file:
+        is_there, row, before = chained(archive, file, until["row"])
+        if row < until["row"]:
+            with source.read(LINES, archive.whole + is_there) as lines:
+                for line in lines:
+                    if row == until["row"] or not line.endswith(b"\n"):
+                        break
+                    named, request = request_in(line[:-1])
+                    is_next = request is not None and named == before and request.row == row + 1
+                    if not is_next or (row == archive.last_row and not line.startswith(archive.cut)):
+                        os.remove(part)
+                        raise BadArchive(f"{source.folder} doesn't go on from row {row} of {folder}: it was changed, or is another archive")
+                    file.write(line)
+                    row, before = row + 1, checksum(line[:-1])
+        if (row, before) != (until["row"], until["checksum"]):
+            os.remove(part)
+            raise BadArchive(f"{source.folder} doesn't have the row {until['row']} that its {END} names, or {folder} has another row {row}")
+        file.seek(len(archive.cut))
+        with open(archive.path, "ab") as end:
+            shutil.copyfileobj(file, end, BLOCK)
+            end.flush()
+            os.fsync(end.fileno())
     archive.say_end(row, before, until["time"])
+    os.remove(part)
     return archive
+
+
+def chained(archive: Archive, file: IO[bytes], most: int) -> Tuple[int, int, str]:
+    """How many bytes of lines that an earlier connection left chain on to the archive, with the last one's row and checksum. Others are taken off: they come again."""
+    at, row, before = 0, archive.last_row, archive.last_checksum
+    file.seek(0)
+    for line in file:
+        named, request = request_in(line[:-1])
+        if request is None or not line.endswith(b"\n") or (named, request.row) != (before, row + 1) or row == most:
+            break
+        at, row, before = at + len(line), row + 1, checksum(line[:-1])
+    file.truncate(at)
+    return at, row, before
 
 
 # ---- the store
@@ -431,9 +460,9 @@ class Store:
 
 
 @contextlib.contextmanager
-def read_here(path: str) -> Iterator[Store]:
+def read_here(path: str, how: str = "mode=ro") -> Iterator[Store]:
     """Reads a store whose folder is a snapshot or a copy: SQLite makes its index of the log beside it, and writes neither file."""
-    books = sqlite3.connect(f"file:{path}?mode=ro", uri=True)
+    books = sqlite3.connect(f"file:{path}?{how}", uri=True)
     try:
         yield Store(books)
     except sqlite3.OperationalError:
@@ -445,18 +474,28 @@ def read_here(path: str) -> Iterator[Store]:
 
 
 @contextlib.contextmanager
-def opened(path: str, with_log: bool = True, room: Optional[str] = None) -> Iterator[Store]:
+def opened(path: str, room: Optional[str] = None) -> Iterator[Store]:
     """Reads a store that no process uses, from a copy of both files in the folder `room`, or beside it. The copy is removed again. On btrfs and XFS it takes no room."""
     refuse_use(path)
-    folder = tempfile.mkdtemp(prefix=READ, dir=room or os.path.dirname(os.path.abspath(path)))
+    room = room or os.path.dirname(os.path.abspath(path))
+    folder = tempfile.mkdtemp(prefix=READ, dir=room)
     try:
-        for end in ("", "-wal") if with_log else ("",):
+        for end in ("", "-wal"):
             if os.path.exists(path + end):
-                subprocess.run(["cp", "--reflink=auto", "--", path + end, f"{folder}/store{end}"], check=True)
+                copy(path + end, f"{folder}/store{end}")
         with read_here(f"{folder}/store") as store:
             yield store
     finally:
         shutil.rmtree(folder)
+
+
+def copy(path: str, target: str) -> None:
+    """Copies a file, by reflink if the file system can."""
+    ran = subprocess.run(["cp", "--reflink=auto", "--", path, target], stderr=subprocess.PIPE, text=True)
+    if ran.returncode != 0:
+        free, size = shutil.disk_usage(os.path.dirname(target)).free, os.path.getsize(path)
+        full = f": {os.path.dirname(os.path.dirname(target))} has no room for a copy of {path}: {size >> 10} KiB are needed, and {free >> 10} are free" if "No space" in ran.stderr else ""
+        raise OSError(errno.ENOSPC if full else errno.EIO, (full or ran.stderr.strip()).strip(": "))
 
 
 def refuse_use(path: str) -> None:
@@ -469,13 +508,13 @@ def refuse_use(path: str) -> None:
 
 
 def refuse_older_log(path: str, together: int) -> None:
-    """Refuses a file beside a log of an earlier moment, as far as it shows: the file alone then has requests which file and log `together` don't have."""
+    """Refuses a file beside a log of an earlier moment, as far as it shows: the file alone, which is read without its log, then has requests which both `together` don't have."""
     if not os.path.exists(path + "-wal"):
         return
     try:
-        with opened(path, with_log=False) as store:
+        with read_here(path, "immutable=1") as store:
             alone = store.last()
-    except BadStore:
+    except (BadStore, sqlite3.Error):
         return
     if alone > together:
-        raise BadStore(f"the file has {alone} requests, and with the log beside it {together}: the log is of an earlier moment. Remove {path}-wal, or put both files of one copy there")
+        raise BadStore(f"the file has {alone} requests, and with the log beside it {together}: the log is of an earlier moment. Put both files of one copy there, or restore")

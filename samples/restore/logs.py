@@ -1,10 +1,11 @@
 """Requests from logs: what a proxy wrote of every POST (samples/nginx), and the archive of the Python client."""
 import bisect
+import contextlib
 import datetime
 import gzip
 import json
 import re
-from typing import IO, Any, Dict, List, NamedTuple, Optional, Tuple
+from typing import IO, Any, Dict, Iterator, List, NamedTuple, Optional, Tuple
 
 from archives import SENT, UNREADABLE, BadArchive, checksum
 
@@ -176,6 +177,15 @@ def of_proxy(path: str, lines: List[str], notes: List[str], cut: List[Tuple[str,
     if others:
         notes.append(f"{others} lines of {path} are no entries, and were passed over")
     return found
+
+
+def asked_of(text: str) -> Iterator[Asked]:
+    """The requests in some lines of a proxy's log. A line that can't be read is passed over."""
+    for line in text.split("\n"):
+        with contextlib.suppress(*UNREADABLE):
+            one = entry_in(json.loads(line[line.find("{") :]), "the witness's log")
+            if one is not None:
+                yield one
 
 
 def status_in(entry: Any) -> Optional[int]:
