@@ -100,12 +100,11 @@ class World:
         for line in commands("restore", 0):
             m.follow(line)
         m.follow("install -d -g counter -m 2750 /srv/elsewhere/counter")
-        for unit in ("counter-archive", "counter-archive-check", "counter"):
-            m.follow(
-                f"install -D -m 644 samples/restore/archive-to.conf /etc/systemd/system/{unit}.service.d/to.conf"
-            )
         m.follow(
-            "install -m 644 samples/restore/counter-witness.service samples/restore/counter-witness.timer /etc/systemd/system/"
+            "install -m 755 samples/restore/pull /opt/counter/restore/; systemd-run -q --unit elsewhere -p Restart=always -p RestartSec=1 /opt/counter/restore/pull /srv/archive/counter /srv/elsewhere/counter --every 1"
+        )
+        m.follow(
+            "install -m 755 samples/restore/witness /opt/counter/restore/; install -m 644 samples/restore/counter-witness.service samples/restore/counter-taken-back.service /etc/systemd/system/"
         )
         self.drop_in(
             "counter-witness.service",
@@ -113,17 +112,8 @@ class World:
             "LoadCredential=",
             'Environment="WITNESS=cat /srv/elsewhere/counter/end.json"',
         )
-        self.drop_in(
-            "counter-witness.timer",
-            "quick",
-            "OnActiveSec=",
-            "OnUnitInactiveSec=",
-            "OnActiveSec=1",
-            "OnUnitInactiveSec=2",
-            "AccuracySec=50ms",
-        )
         m.follow(
-            "systemctl restart counter-archive.service counter.service; systemctl start counter-witness.timer"
+            "systemctl restart counter-archive.service counter.service; systemctl start counter-witness.service"
         )
 
     def drop_in(self, unit: str, name: str, *lines: str) -> None:
