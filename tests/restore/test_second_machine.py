@@ -1,0 +1,472 @@
+"""What the second machine pulls, and how it shows that the first one was taken back."""
+
+from __future__ import annotations
+
+import json
+import os
+import random
+import shutil
+import subprocess
+import time
+from pathlib import Path
+from typing import Callable, Iterator
+
+import archives
+import machine_files
+import pytest
+from tests.restore.counter_day import RESTORE, Day, copied, entry_of, redemption, run, started
+from counter_calls import apply
+
+
+def contents(folder: Path) -> dict[str, bytes]:
+    return {path.name: path.read_bytes() for path in sorted(folder.iterdir())}
+
+
+def request_of(line: bytes) -> archives.Request:
+    _, request = archives.request_in(line)
+    assert request is not None
+    return request
+
+
+def write_archive(folder: Path, lines: list[bytes]) -> None:
+    """An archive with these lines, and the end.json that belongs to them."""
+    (folder / "requests.jsonl").write_bytes(b"\n".join(lines) + b"\n")
+    end = json.loads((folder / "end.json").read_bytes())
+    end |= {"row": request_of(lines[-1]).row, "checksum": archives.checksum(lines[-1])}
+    (folder / "end.json").write_text(archives.compact(end) + "\n")
+
+
+# ---- pulling
+
+
+@pytest.mark.parametrize("rows_more", [1, 40])
+def test_refused_pull(day: Day, rows_more: int) -> None:
+    """The archive there goes on from the copy, and ends otherwise than its end.json says: the copy stays as it was, and takes the honest archive afterwards."""
+    had, honest = contents(day.second), contents(day.archive)
+    lines = honest["requests.jsonl"].splitlines()
+    forged = lines[: 101 + rows_more]
+    write_archive(day.archive, forged)
+    end = json.loads((day.archive / "end.json").read_bytes())
+    (day.archive / "end.json").write_text(archives.compact({**end, "checksum": "0" * 64}) + "\n")
+    refused = day.pull()
+    assert refused.returncode == 1 and contents(day.second) == had, refused.stderr
+    for name, text in honest.items():
+        (day.archive / name).write_bytes(text)
+    assert day.pull().returncode == 0
+    assert contents(day.second) == honest
+
+
+def changed(lines: list[bytes]) -> list[bytes]:
+    """One payee changed in the middle, and the chain made right behind it."""
+    found = lines[:50]
+    for line in lines[50:]:
+        request = request_of(line)
+        request = request._replace(act=request.act.replace('"payee":7', '"payee":8'))
+        found.append(archives.line_of(archives.checksum(found[-1]), request))
+    return found
+
+
+@pytest.mark.parametrize(
+    "harm", [changed, lambda lines: lines[:60], lambda lines: changed(lines)[:120]]
+)
+def test_overwritten(day: Day, harm: Callable[[list[bytes]], list[bytes]]) -> None:
+    """What the first machine has is changed or cut: the second keeps what it has."""
+    had = contents(day.second)
+    write_archive(day.archive, harm((day.archive / "requests.jsonl").read_bytes().splitlines()))
+    refused = day.pull()
+    assert refused.returncode == 1 and contents(day.second) == had, refused.stderr
+
+
+def test_pull_goes_on(day: Day) -> None:
+    """Control: the archive as it is, is pulled; over connections that break after 9,000 bytes too, each from where the last one ended."""
+    over = day.folder / "over"
+    over.write_text(
+        'case "$1" in *requests.jsonl*) sh -c "$1" | head -c 9000; exit 255 ;; esac; exec sh -c "$1"\n'
+    )
+    target = day.new("cut")
+    target.mkdir()
+    statuses: list[int] = []
+    while len(statuses) < 99 and statuses[-1:] != [0]:
+        statuses.append(
+            run(RESTORE / "pull", day.archive, target, "--over", f"sh {over}").returncode
+        )
+    assert statuses[-1] == 0 and statuses.count(3) == len(statuses) - 1 > 3, statuses
+    assert contents(target) == contents(day.archive)
+    assert day.pull().returncode == 0 and contents(day.second) == contents(day.archive)
+
+
+@pytest.mark.root
+def test_append_only(day: Day) -> None:
+    lines = day.second / "requests.jsonl"
+    if "a" not in run("lsattr", lines).stdout.split(" ")[0]:
+        pytest.skip("this file system has no append-only files")
+    with pytest.raises(PermissionError):
+        open(lines, "rb+")
+
+
+# ---- the log of requests and the machine's files
+
+
+@pytest.fixture
+def follower(day: Day) -> Iterator[Path]:
+    """A pull that follows the log: over connections that it may break by ending their processes."""
+    target, machine = day.folder / "followed" / "requests.log", day.folder / "machines"
+    target.parent.mkdir()
+    machine.mkdir()
+    (day.folder / "machine.tar").write_bytes(b"one")
+    words = [
+        "--every",
+        "0.2",
+        "--requests",
+        day.log,
+        target,
+        "--machine",
+        day.folder / "machine.tar",
+        machine,
+    ]
+    with started(RESTORE / "pull", day.archive, day.second, *words) as process:
+        yield target
+        process.terminate()
+    for name in os.listdir("/proc"):
+        if name.isdigit() and str(day.log) in command_of(name):
+            os.kill(int(name), 15)
+
+
+def command_of(process: str) -> str:
+    try:
+        return (
+            Path(f"/proc/{process}/cmdline")
+            .read_bytes()
+            .replace(b"\0", b" ")
+            .decode(errors="replace")
+        )
+    except OSError:
+        return ""
+
+
+def is_equal_soon(
+    wanted: Callable[[], object], found: Callable[[], object], seconds: float = 20
+) -> None:
+    until = time.time() + seconds
+    while found() != wanted() and time.time() < until:
+        time.sleep(0.05)
+    assert found() == wanted()
+
+
+def break_connection(day: Day) -> None:
+    """Ends the shell that sends the log, and its tail."""
+    found = [
+        name
+        for name in os.listdir("/proc")
+        if name.isdigit() and "tail" in command_of(name) and str(day.log) in command_of(name)
+    ]
+    assert found, "control: a connection is there"
+    for name in found:
+        os.kill(int(name), 9)
+
+
+def test_log_is_followed_by_position(day: Day, follower: Path) -> None:
+    """Through broken connections and rotations on both machines each line comes once."""
+    every: list[str] = day.log.read_text().splitlines()
+    followed = follower.parent
+
+    def lines_there() -> list[str]:
+        files = sorted(followed.glob("requests.log*"), key=os.path.getmtime)
+        return [line for path in files for line in path.read_text().splitlines()]
+
+    is_equal_soon(lambda: every, lines_there)
+    for turn in range(4):
+        break_connection(day)
+        new = [
+            entry_of(redemption(300 + turn * 5 + nth), "{}", 5000 + turn * 5 + nth)
+            for nth in range(5)
+        ]
+        with open(day.log, "a") as log:
+            log.write("".join(new))
+        every += [line.rstrip("\n") for line in new]
+        is_equal_soon(lambda: every, lines_there)
+        if turn == 1:
+            os.rename(day.log, f"{day.log}-20260206")
+            day.log.touch()
+        if turn == 2:
+            os.rename(follower, f"{follower}.1")
+    assert len(every) == len(set(every)) == 220
+
+
+def test_cut_line_comes_again(day: Day) -> None:
+    """A stop of the second machine left half a line: it is taken off, and comes whole."""
+    target = day.folder / "followed" / "requests.log"
+    target.parent.mkdir()
+    text = day.log.read_text()
+    target.write_text(text[: len(text) // 2])
+    words = ["--every", "1", "--requests", day.log, target]
+    with started(RESTORE / "pull", day.archive, day.second, *words) as process:
+        is_equal_soon(lambda: text, target.read_text)
+        process.terminate()
+    break_connection(day)
+
+
+def test_machine_states_are_kept(day: Day, follower: Path) -> None:
+    """Each state of the machine's files comes once, and 30 are kept."""
+    machines = day.folder / "machines"
+    is_equal_soon(
+        lambda: [b"one"], lambda: [path.read_bytes() for path in machines.glob("machine-*.tar")]
+    )
+    (day.folder / "machine.tar").write_bytes(b"two")
+    is_equal_soon(
+        lambda: {b"one", b"two"},
+        lambda: {path.read_bytes() for path in machines.glob("machine-*.tar")},
+    )
+    time.sleep(1)
+    assert len(list(machines.iterdir())) == 2
+
+
+# ---- a machine that was taken back
+
+
+@pytest.fixture
+def taken_back(day: Day) -> Day:
+    """Store, archive and log of an earlier moment, as after a snapshot of the whole machine; the second machine has 50 requests more, and the log's last line."""
+    day.archive_now()
+    assert day.pull().returncode == 0
+    day.lose()
+    shutil.copy(day.before, day.store)
+    assert apply(day.program, day.store, [redemption(turn) for turn in range(150)])
+    shutil.rmtree(day.archive)
+    day.archive.mkdir()
+    day.archive_now()
+    return day
+
+
+def witness_of(day: Day, name: str = "witness", rows: int | None = None) -> Path:
+    """What the second machine prints: its end, and the last lines of its log."""
+    folder = day.folder / name
+    folder.mkdir()
+    shutil.copy(day.second / "end.json", folder)
+    (folder / "requests").write_text("".join(day.log.read_text().splitlines(keepends=True)[-20:]))
+    return folder
+
+
+def test_witness_ahead(day: Day) -> None:
+    """The archive that the second machine pulled has more: refused for good, also if the bank chose to serve while it is away."""
+    old = copied(day.store, day.new("old"))
+    assert day.guard(day.archive).returncode == 0 and not day.pays(150), "control"
+    day.archive_now()
+    day.pull()
+    shutil.copytree(day.archive, day.folder / "now")
+    folder = witness_of(day)
+    day.pay(range(200, 260))
+    assert day.guard(day.archive, WITNESS=folder).returncode == 0, "control: the store has more"
+    short = copied(day.before, day.new("short"))
+    for away in ("wait", "serve"):
+        refused = day.guard(store=short, WITNESS=folder, WITNESS_AWAY=away)
+        assert (
+            refused.returncode == 1 and "200 that were done are missing" in refused.stderr
+        ), refused.stderr
+    assert old.exists()
+
+
+def test_taken_back_by_seconds(day: Day) -> None:
+    """The second machine pulled before the moment to which this one was taken back: its archive shows nothing, its log of requests does."""
+    folder = witness_of(day)
+    assert (
+        day.guard(day.archive, WITNESS=folder).returncode == 0
+    ), "control: the newest store is served"
+    earlier = copied(day.before, day.new("earlier"))
+    apply(day.program, earlier, [redemption(turn) for turn in range(199)])
+    assert day.guard(day.archive, store=earlier).returncode == 0 and day.pays(
+        199, earlier
+    ), "control: the archive shows nothing, and it pays again"
+    refused = day.guard(day.archive, store=earlier, WITNESS=folder)
+    assert (
+        refused.returncode == 1 and "number 200" in refused.stderr and "lacks it" in refused.stderr
+    ), refused.stderr
+
+
+@pytest.mark.parametrize("text", ["", "{", '{"row":7}', None])
+def test_witness_away(day: Day, text: str | None) -> None:
+    """Without an answer that is newer than the start the counter waits, unless the bank chose to serve."""
+    folder = witness_of(day)
+    if text is None:
+        (folder / "end.json").unlink()
+    else:
+        (folder / "end.json").write_text(text)
+    assert day.guard(day.archive, WITNESS=folder).returncode == 3
+    assert day.guard(day.archive, WITNESS=folder, WITNESS_AWAY="serve").returncode == 0
+
+
+def test_old_answer(day: Day) -> None:
+    """An answer from before the start is none: a machine that was taken back has it too."""
+    folder = witness_of(day)
+    begun = time.time()
+    assert (
+        day.guard(day.archive, WITNESS=folder, WITNESS_WAIT="1").returncode == 3
+        and time.time() - begun < 6
+    )
+    toucher = subprocess.Popen(["sh", "-c", f"sleep 1; touch {folder}/end.json"])
+    assert day.guard(day.archive, WITNESS=folder, WITNESS_WAIT="15").returncode == 0
+    toucher.wait()
+
+
+def test_other_history(day: Day) -> None:
+    folder = witness_of(day)
+    end = json.loads((folder / "end.json").read_text())
+    (folder / "end.json").write_text(json.dumps({**end, "checksum": "0" * 64}))
+    refused = day.guard(day.archive, WITNESS=folder)
+    assert refused.returncode == 1 and "another history" in refused.stderr
+
+
+def ask_second(day: Day, folder: Path) -> list[object]:
+    """The words of `witness`, which asks the second machine of the test."""
+    followed = day.folder / "followed.log"
+    return [
+        RESTORE / "witness",
+        folder,
+        day.archive,
+        day.log,
+        "sh",
+        "-c",
+        f"cat {day.second}/end.json; tail -n 20 {followed}",
+    ]
+
+
+@pytest.mark.parametrize("what", ["nothing", "archive", "log", "row"])
+def test_taken_back_while_it_serves(day: Day, what: str) -> None:
+    """A machine that is taken back with its memory serves on. `witness` finds it at its next question, and ends with status 1, which stops the counter."""
+    folder = day.new("asked")
+    folder.mkdir()
+    shutil.copy(day.log, day.folder / "followed.log")
+    day.archive_now()
+    old_archive, old_log = copied_folder(day.archive, day.new("archive")), day.log.read_bytes()
+    with started(*ask_second(day, folder), stderr=subprocess.PIPE) as process:
+        time.sleep(1.5)
+        assert process.poll() is None, "control: nothing was taken back"
+        day.pay(range(200, 205))
+        shutil.copy(day.log, day.folder / "followed.log")
+        day.archive_now()
+        if what in ("archive", "row"):
+            assert day.pull().returncode == 0
+        time.sleep(1.5)
+        assert process.poll() is None, "control: it goes on as the second machine does"
+        begun = time.time()
+        if what == "archive":
+            put_folder(old_archive, day.archive)
+        elif what == "log":
+            day.log.write_bytes(old_log)
+        elif what == "row":
+            end = json.loads((day.archive / "end.json").read_text())
+            (day.second / "end.json").write_text(json.dumps({**end, "checksum": "0" * 64}) + "\n")
+        try:
+            status: int | None = process.wait(4)
+        except subprocess.TimeoutExpired:
+            status = None
+            process.terminate()
+        assert status == (None if what == "nothing" else 1)
+        assert status is None or (
+            time.time() - begun < 3
+            and "taken back" in (process.stderr.read() if process.stderr else "")
+        )
+
+
+def copied_folder(folder: Path, target: Path) -> Path:
+    shutil.copytree(folder, target)
+    return target
+
+
+def put_folder(source: Path, target: Path) -> None:
+    for path in source.iterdir():
+        shutil.copy(path, target)
+
+
+# ---- the machine's files
+
+
+def test_machine_files(tmp_path: Path, dice: random.Random) -> None:
+    """A new machine gets /etc/counter, the units' drop-ins and nothing else, with their rights; what stood there is kept beside."""
+    old, new = tmp_path / "old", tmp_path / "new"
+    texts = {
+        "etc/counter/key.pem": (b"a key", 0o600),
+        "etc/counter/staff/private/ca.key": (b"the staff's", 0o600),
+        "etc/counter/groups": (b"anna teller;", 0o640),
+        "etc/systemd/system/counter.service.d/archives.conf": (b"[Service]", 0o644),
+        "etc/systemd/system/other.service": (b"not the counter's", 0o644),
+        "etc/shadow": (b"no", 0o600),
+    }
+    for name, (text, mode) in texts.items():
+        path = old / name
+        path.parent.mkdir(parents=True, exist_ok=True)
+        path.write_bytes(text)
+        path.chmod(mode)
+    (old / "etc/counter/staff/private").chmod(0o700)
+    packed = machine_files.packed(str(old))
+    assert packed == machine_files.packed(str(old)), "the same files give the same bytes"
+    (new / "etc/counter").mkdir(parents=True)
+    (new / "etc/counter/groups").write_bytes(b"as the package made it")
+    (tmp_path / "machine.tar").write_bytes(packed)
+    machine_files.restore(str(tmp_path / "machine.tar"), str(new))
+    found = {str(path.relative_to(new)) for path in new.rglob("*") if path.is_file()}
+    assert found == {*list(texts)[:4], "etc/counter/groups.before"}
+    for name, (text, mode) in list(texts.items())[:4]:
+        assert (new / name).read_bytes() == text and (new / name).stat().st_mode & 0o777 == mode
+    assert (new / "etc/counter/staff/private").stat().st_mode & 0o777 == 0o700
+
+
+def test_machine_files_of_others(tmp_path: Path) -> None:
+    """Control: a tar with any other file is refused before the first is written."""
+    import tarfile
+
+    (tmp_path / "x").write_bytes(b"")
+    with tarfile.open(tmp_path / "machine.tar", "w") as tar:
+        tar.add(tmp_path / "x", "etc/counter/x")
+        tar.add(tmp_path / "x", "etc/counter/../shadow")
+    with pytest.raises(OSError, match="no file of the counter"):
+        machine_files.restore(str(tmp_path / "machine.tar"), str(tmp_path / "new"))
+    assert not (tmp_path / "new").exists()
+
+
+def test_archiver_keeps_the_machine(day: Day) -> None:
+    """The archiver writes the tar once, and again if a file changed."""
+    tar = day.folder / "machine.tar"
+    day.archive_now("--machine", tar)
+    first = tar.stat().st_mtime_ns
+    assert tar.read_bytes() == machine_files.packed()
+    day.archive_now("--machine", tar)
+    assert tar.stat().st_mtime_ns == first
+
+
+# ---- a new machine
+
+
+@pytest.mark.root
+def test_new_machine(day: Day) -> None:
+    """One command on a new machine: settings, certificates, archive and store from what the second machine has. In mounts of its own, so that this machine's /etc and /srv
+    stay as they are."""
+    day.archive_now()
+    assert day.pull().returncode == 0
+    wanted = day.tables()
+    second, upper, work = day.new("srv"), day.new("upper"), day.new("work")
+    for folder in (second, upper, work, second / "counter-requests", second / "counter-machine"):
+        folder.mkdir()
+    shutil.copytree(day.second, second / "counter-archive")
+    shutil.copy(day.log, second / "counter-requests")
+    old = day.new("old")
+    for name in ("etc/counter/key.pem", "etc/systemd/system/counter.service.d/archives.conf"):
+        (old / name).parent.mkdir(parents=True)
+        (old / name).write_text(name)
+    (second / "counter-machine" / "machine-1.tar").write_bytes(machine_files.packed(str(old)))
+    over = day.folder / "over"
+    over.write_text(f'exec sh -c "cd {second} && ${{1#cd /srv && }}"\n')
+    day.lose()
+    script = f"""mount -t overlay overlay -o lowerdir=/etc,upperdir={upper},workdir={work} /etc
+        mount -t tmpfs tmpfs /srv
+        mkdir /srv/archive
+        {RESTORE}/counter-restore {day.store} --second 'sh {over}' --program {day.program} --yes || exit
+        ls /srv/archive/counter; stat -c %a /srv/brought"""
+    ran = run("unshare", "--mount", "sh", "-ec", script)
+    assert ran.returncode == 0 and "/etc/counter is lost; its files are restored" in ran.stdout, (
+        ran.stdout + ran.stderr
+    )
+    assert ran.stdout.split()[-4:] == ["end.json", "first.db", "requests.jsonl", "700"]
+    assert (upper / "counter" / "key.pem").read_text() == "etc/counter/key.pem"
+    assert (upper / "systemd/system/counter.service.d/archives.conf").exists()
+    assert day.tables() == wanted
