@@ -266,7 +266,7 @@ PAYMENTS = 24
 
 
 def restored(program: str) -> None:
-    """A day over the program, each payment interrupted by Ctrl-C or a failed call: samples/restore/replay makes the store anew from the archive alone."""
+    """A day over the program, each payment interrupted by Ctrl-C or a failed call: counter-restore makes the store anew from the archive alone."""
     chance = random.Random(3)
     with folder() as place, true_counter(program, place) as port:
         with client.Counter(place / "a.journal", f"http://127.0.0.1:{port}", desk=3, archive=place / "a.archive", patience=60) as counter:
@@ -276,9 +276,9 @@ def restored(program: str) -> None:
             tickets = [paid(counter, f"A{number}EE", chance) for number in range(1, PAYMENTS + 1)]
             batch = counter.close_day(DAY)
         right([ticket.number for ticket in tickets] == list(range(1, PAYMENTS + 1)) and batch.tickets == PAYMENTS, f"{PAYMENTS} payments, each interrupted three times: one ticket each")
-        line: list[str | Path] = [TOP / "samples" / "restore" / "replay", place / "new.db", place / "a.archive", "--program", program, "--by", "apply"]
+        line: list[str | Path] = [TOP / "samples" / "restore" / "counter-restore", place / "new.db", "--from", place / "a.archive", "--program", program, "--yes"]
         ran = subprocess.run(line, capture_output=True, text=True, timeout=300)
-        right(ran.returncode == 0, "samples/restore/replay makes the store anew from its archive", ran)
+        right(ran.returncode == 0, "counter-restore makes the store anew from its archive", ran)
         again = subprocess.run([program, "export", "1", "--db", place / "new.db"], capture_output=True, text=True)
         right(again.returncode == 0, "and the store is one", again)
 
