@@ -7,17 +7,17 @@ import http.client
 import json
 import os
 import signal
+import sqlite3
 import threading
 from concurrent.futures import ThreadPoolExecutor
 from pathlib import Path
-from typing import Iterator
+from typing import Any, Iterator
 
 import pytest
 
 from tests.fence.conftest import Counter, MakeSite
 from tests.fence.recorder import UNLIMITED
 from tests.fence.site import Site, workers
-from tests.shared.counter_calls import rows
 
 GROUPS = {"anna": "teller", "bert": "supervisor"}
 DAY = "2012-02-06"
@@ -83,6 +83,11 @@ def paid(site: Site, counter: Counter, restarts: int, is_again: bool = True) -> 
 def logged(site: Site) -> set[int]:
     """The numbers of the payments that the log has."""
     return {json.loads(entry["body"])["number"] for entry in site.log() if entry["counter"]}
+
+
+def rows(store: Path, statement: str) -> list[tuple[Any, ...]]:
+    with contextlib.closing(sqlite3.connect(store)) as books:
+        return books.execute(statement).fetchall()
 
 
 @pytest.mark.slow

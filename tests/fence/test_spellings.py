@@ -3,6 +3,7 @@
 from __future__ import annotations
 
 import contextlib
+import re
 import socket
 import time
 from concurrent.futures import ThreadPoolExecutor
@@ -15,7 +16,6 @@ from tests.fence.shapes import shapes
 from tests.fence.site import Site
 from tests.fence.spellings import spellings
 from tests.fence.wire import HEADERS, everything, message, sent
-from tests.shared.counter_calls import ask
 
 GROUPS = {"anna": "teller", "bert": "supervisor", "cleo": "office", "rita": "registrar", "erik": ""}
 ROUTES = {
@@ -81,13 +81,16 @@ def test_control_without_groups_each_route_is_reached(tmp_path: Path) -> None:
 
 def test_the_program_knows_a_route_by_one_spelling(counter: Counter) -> None:
     """What `of_others` says of the counter is true of the program."""
-    found = {
-        target: ask(counter.port, b"POST %s HTTP/1.1\r\nContent-Length: 2\r\n\r\n{}" % target)
-        for target in all_spellings(443)
-    }
-    known = {target for target, answer in found.items() if answer and "BadField" in answer[1]}
+    known = set()
+    for target in all_spellings(443):
+        with socket.create_connection(("127.0.0.1", counter.port)) as line:
+            line.sendall(
+                b"POST %s HTTP/1.1\r\nConnection: close\r\nContent-Length: 2\r\n\r\n{}" % target
+            )
+            text = everything(line)
+        assert re.match(rb"HTTP/1\.1 (400|404|405) ", text), (target, text)
+        known |= {target} if b"BadField" in text else set()
     assert known == set(ROUTES)
-    assert {answer[0] for answer in found.values() if answer} <= {400, 404, 405}
 
 
 def smuggled(send: Callable[[list[bytes]], object]) -> dict[bytes, str]:
