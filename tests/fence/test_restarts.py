@@ -19,6 +19,8 @@ from tests.fence.conftest import Counter, MakeSite
 from tests.fence.recorder import UNLIMITED
 from tests.fence.site import Site, workers
 
+pytestmark = pytest.mark.slow
+
 GROUPS = {"anna": "teller", "bert": "supervisor"}
 DAY = "2012-02-06"
 #: Payments for each restart.
@@ -90,7 +92,6 @@ def rows(store: Path, statement: str) -> list[tuple[Any, ...]]:
         return books.execute(statement).fetchall()
 
 
-@pytest.mark.slow
 def test_each_payment_is_paid_once_and_logged(site: MakeSite, counter: Counter) -> None:
     made = site(GROUPS, changed=UNLIMITED)
     told = paid(made, counter, 50)
