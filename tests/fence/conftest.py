@@ -13,7 +13,7 @@ from typing import Iterator, Mapping, Protocol
 
 import pytest
 
-from tests.fence.fresh import INCLUDED, Fresh, bootstrap
+from tests.fence.fresh import Fresh, bootstrap
 from tests.fence.site import Site, free_port
 
 TOP = Path(__file__).resolve().parents[2]
