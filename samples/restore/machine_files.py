@@ -13,7 +13,7 @@ from typing import Iterator
 KEPT = ("etc/counter", "etc/systemd/system", "etc/logrotate.d/counter-requests")
 #: Where what the second machine has is brought, and what is brought of it.
 BROUGHT, SECOND = "/srv/brought", ("counter-archive", "counter-requests", "counter-machine")
-#: A machine that lacks this was set up anew.
+#: A machine that lacks this was set up again.
 SIGN = "/etc/counter/key.pem"
 
 

@@ -66,7 +66,7 @@ class Plan:
     # ---- looking
 
     def look(self, process: Served | None, is_drill: bool) -> None:
-        """Chooses what to go on from, and reads the logs."""
+        """Chooses what to continue from, and reads the logs."""
         self.own: Begun | None = None
         if process:
             self.stores.take(f"the deleted file, from process {process.process}", process.file, process.log)
@@ -148,7 +148,7 @@ class Plan:
         found += [f"{path}: a log of requests" for path in self.sources.logs]
         if self.is_whole and not is_drill:
             return "\n".join(["Looked at:", *(f"  {line}" for line in found), f"Nothing is missing: the store has all {self.total} requests that any source has."])
-        steps = [f"go on from {self.base.name}, with {self.base.rows} requests"] if self.base.rows else ["make a new store"]
+        steps = [f"begin with {self.base.name}, with {self.base.rows} requests"] if self.base.rows else ["make a new store"]
         steps += [f"do the {self.rows - self.base.rows} requests that {self.archive.folder} has more"] if self.archive and self.rows > self.base.rows else []
         steps += [f"do the {len(self.chosen)} requests that the logs have more"] if self.chosen else []
         steps += ["put the archive in its place"] if self.place_fault else []
@@ -190,7 +190,7 @@ class Plan:
 
 
 def put_aside(path: str) -> str:
-    """A new folder beside a path, for what was there."""
+    """A new folder next to a path, for what was there."""
     aside = f"{path}.before-{time.strftime('%Y-%m-%dT%H-%M-%S')}-{os.getpid()}"
     os.mkdir(aside)
     return aside
@@ -222,7 +222,7 @@ def give(path: str, like: os.stat_result, mode: int, user: int | None = None) ->
 
 
 def refill(plan: Plan, place: str) -> Iterator[str]:
-    """Puts the longest archive into its place, readable by the store's group. Without one the archiver begins anew there."""
+    """Puts the longest archive into its place, readable by the store's group. Without one the archiver begins again there."""
     if not plan.place_fault:
         return
     new, owner = place + ".restored", os.stat(os.path.dirname(plan.store))

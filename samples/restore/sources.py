@@ -30,7 +30,7 @@ class Refused(Exception):
 
 @dataclasses.dataclass
 class Begun:
-    """A store to go on from, at rest in the room. `path` has no file if it begins with nothing; `fault` says why it can't be used."""
+    """A store to continue from, at rest in the room. `path` has no file if it begins with nothing; `fault` says why it can't be used."""
 
     name: str
     path: str
@@ -61,7 +61,7 @@ def remove_left(folder: str) -> None:
 
 @contextlib.contextmanager
 def room(folder: str | None, needed: int, beside: str) -> Iterator[str]:
-    """A folder that only this user reads, and that is removed at the end: in memory if there is room, otherwise beside the store."""
+    """A folder that only this user reads, and that is removed at the end: in memory if there is room, otherwise next to the store."""
     for place in (MEMORY, beside):
         remove_left(place)
     if folder is None:
@@ -126,7 +126,7 @@ def paused(one: Served | None) -> Iterator[None]:
 
 
 class Stores:
-    """The stores from which a restore can go on. Each is copied, and opened by the program, which tests every row."""
+    """The stores from which a restore can continue. Every one is copied, and opened by the program, which tests every row."""
 
     def __init__(self, program: str, folder: str, archive: Archive | None) -> None:
         self.program, self.folder, self.archive, self.found = program, folder, archive, list[Begun]()
@@ -168,7 +168,7 @@ class Stores:
 
 
 def compared(store: archives.Store, archive: Archive, folder: str) -> int:
-    """Refuses a store whose requests aren't those of the archive, row by row, as far as both go. Returns how many it has."""
+    """Refuses a store whose requests aren't the archive's, row by row, as far as both go. Returns how many it has."""
     has = store.count()
     if has < archive.head["row"]:
         raise BadStore(f"it has {has} requests, and the archive begins with a copy that has {archive.head['row']}")
@@ -238,7 +238,7 @@ def longest(sources: Sources) -> Archive | None:
 
 
 def is_whole_copy(path: str) -> str:
-    """Why the checksums beside a copy are wrong; empty if they are right or there are none."""
+    """Why the checksums next to a copy are wrong; empty if they are right or there are none."""
     folder = os.path.dirname(path)
     if not os.path.exists(os.path.join(folder, "SHA256SUMS")):
         return ""
