@@ -239,7 +239,7 @@ def refill(plan: Plan, place: str) -> Iterator[str]:
         yield f"The archive that was there is in {aside}"
     os.rename(new, place)
     archives.sync_folder(os.path.dirname(place))
-    yield f"The archive's place {place} has {plan.rows} requests" if plan.archive else f"{place} is empty: the archiver begins anew"
+    yield f"The archive's place {place} has {plan.rows} requests" if plan.archive else f"{place} is empty: the archiver begins again"
 
 
 # ---- the report
