@@ -76,7 +76,7 @@ def test_orphaned_log(day: Day, served: Served, tmp_path: Path, is_missing: bool
         day.store.touch()
     refused = run(TAKE_OVER, day.store, tmp_path / "new.db", day.program)
     assert (
-        refused.returncode == 1 and "missing or empty beside its log" in refused.stderr
+        refused.returncode == 1 and "missing or empty next to its log" in refused.stderr
     ), refused.stderr
 
 
