@@ -29,7 +29,7 @@ use Rattle.ee_desk_model.specs.Contents.{content_after}
 use Rattle.ee_desk_model.proofs.Lemmas.Maps.{serials_total, all_weaker, all_append, all_filter, all_mapped, numbers_total, numbers_exact}
 use Rattle.std.proofs.lemmas.Map.Views.{tells_apart}
 use Rattle.ee_desk_model.proofs.Lemmas.Requests.{content_after-new}
-use Rattle.ee_desk_model.proofs.Lemmas.Books.{seen_enough, applied_are_books_after, act_keeps_sound}
+use Rattle.ee_desk_model.proofs.Lemmas.Books.{seen_enough, applied_are_books_after, act_keeps_sound, never_reused}
 use Rattle.ee_desk_decide.proofs.Lemmas.{decided_are_applicable}
 use Rattle.ee_desk_texts.specs.Ranges.{ActFits, ReplyFits, RateRowFits, BondFits, TicketFits, BatchFits}
 use Rattle.ee_store_tables.specs.Rows.{with_answer}
@@ -37,7 +37,6 @@ use Rattle.ee_store_books.specs.Standing.{rows_of, reply_row, AreInRange, IsKept
 use Rattle.ee_store_delivery.specs.Written.{applied_rows}
 use Rattle.ee_store_delivery.proofs.Changes.{with_new_reply}
 use Rattle.ee_store_delivery.proofs.Written.{with_books, written}
-use Rattle.ee_store_delivery.proofs.NeverReused.{never_reused}
 
 -- ---- the ranges of changes
 fitting_rates : (seen : Seen) (earlier rows : List RateRow) → AllByRecursion RateRowFits rows → AllByRecursion IsInRange (map rate_change (new_rates seen earlier rows))

@@ -1,6 +1,5 @@
 mod Changes
 mod Written
-mod NeverReused
 mod Delivered
 mod Again
 mod Served

@@ -1,5 +1,5 @@
 -- Sound books, refusals, and what an act sees.
-use Rattle.std.proofs.Common.{Bool, List, None, Option, Some, [], cond, false, length, nat_eq, true, ℕ, ◌++◌, ◌∷◌, ◌≡◌, ◌≤◌}
+use Rattle.std.proofs.Common.{Bool, List, None, Option, Some, [], cond, false, length, nat_eq, true, ℕ, ◌++◌, ◌∷◌, ◌≡◌, ◌≢◌, ◌≤◌}
 use Rattle.std.specs.List.{AllByRecursion, list_any, sum_by}
 use Rattle.std.specs.Option.{IfSome, is_none, is_some, option_eq, option_map, option_or}
 use Rattle.ee_desk_model.specs.Acts.{applied, books_after, done}
@@ -18,6 +18,7 @@ use Rattle.ee_desk_model.specs.declared.acts.Act.{Act}
 use Rattle.ee_desk_model.specs.declared.acts.Act.TheVariants.{OpenDay, Redeem}
 use Rattle.ee_desk_model.specs.declared.changes.Held.{Held}
 use Rattle.ee_desk_model.specs.declared.refusals.Refusal.{Refusal}
+use Rattle.ee_desk_model.specs.declared.refusals.Refusal.TheVariants.{NumberReused}
 use Rattle.ee_desk_model.specs.declared.replies.Batch.{Batch}
 use Rattle.ee_desk_model.specs.declared.replies.Line.{Line}
 use Rattle.ee_desk_model.specs.declared.replies.Reply.TheVariants.{Refused}
@@ -29,6 +30,7 @@ use Rattle.ee_value.specs.declared.rates.Rates.{Rates}
 use Rattle.std.specs.FinMap as finite
 use Rattle.ee_desk_model.proofs.Bounds
 use Rattle.ee_desk_model.proofs.Conservation
+use Rattle.ee_desk_model.proofs.NeverReused
 use Rattle.ee_desk_model.proofs.PaidRight
 use Rattle.ee_desk_model.proofs.SameActs
 use Rattle.ee_desk_model.proofs.Seeing
@@ -131,6 +133,10 @@ no_test_refuses = Soundness.no_refusal
 pub no_row_refused : {A : Type 0} (refusal : A → Option Refusal) (rows : List A) → first_of refusal rows ≡ None
     → AllByRecursion (λ row. refusal row ≡ None) rows
 no_row_refused = Soundness.all_of
+
+-- no act is refused because its number was used
+pub never_reused : (seen : Seen) (asked : Act) → (effects_of seen asked).reply ≢ Refused NumberReused
+never_reused = NeverReused.never_reused
 
 -- a serial number that isn't refused is held and payable
 pub unrefused_is_payable : (month payee : ℕ) (s : SerialNumber) (o : Option Held) → refusal_of_held month payee s o ≡ None
