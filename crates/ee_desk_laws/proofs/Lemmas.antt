@@ -1,8 +1,9 @@
--- Lemmas that the proofs of crates above use: what a disk may leave after each turn, attempts, and elements of lists.
-use Rattle.std.proofs.Common.{List, [], ◌∷◌, ◌++◌, false, true, ◌≡◌, ◌⊎◌}
-use Rattle.std.specs.List.{Contains}
-use Rattle.ee_desk_model.specs.Numbers.{number_of}
-use Rattle.ee_desk_model.specs.Repeats.{Content}
+-- Lemmas that the proofs of crates above use: what a disk may leave after each turn, attempts, requests without repeats, and elements of lists.
+use Rattle.std.proofs.Common.{List, [], ◌∷◌, ◌++◌, false, true, ◌≡◌, ◌≤◌, ◌⊎◌}
+use Rattle.std.specs.List.{AllByRecursion, Contains, count_by}
+use Rattle.ee_desk_model.specs.Numbers.{RequestKey, number_of}
+use Rattle.ee_desk_model.specs.Repeats.{Content, once}
+use Rattle.ee_desk_model.specs.Answers.{is_of}
 use Rattle.ee_desk_model.specs.declared.acts.Request.{Request}
 use Rattle.ee_desk_laws.specs.Events.{Event, Told, World, begun, Happens, decided, one, unserved}
 use Rattle.ee_desk_laws.specs.Events.Event.{Deliver, Lose, Unserved}
@@ -12,6 +13,7 @@ use Rattle.std.specs.FinMap as finite
 use Rattle.ee_desk_laws.proofs.Elements
 use Rattle.ee_desk_laws.proofs.Leaving
 use Rattle.ee_desk_laws.proofs.Attempts
+use Rattle.ee_desk_laws.proofs.Retries
 
 -- ---- what may be left represents a content of the world
 -- if no disk may be left but those of before
@@ -67,7 +69,25 @@ pub lead_unserved : (Before Now : Content → List Event → Type 0) (q : Reques
     → LeadOn Before (record { request = q; is_served = false } ∷ []) Now
 lead_unserved = Attempts.lead_unserved
 
+-- ---- requests without repeats
+-- a request is decided once, if the start didn't keep its number
+pub decided_once : (start : Content) (all : List Request) (q : Request) → finite.contains_key start.kept (number_of q) ≡ false → Contains all q
+    → count_by (is_of (number_of q)) (once start all) ≡ 1
+decided_once = Retries.decided_once
+
+-- a number is decided at most once
+pub decided_at_most_once : (start : Content) (all : List Request) (n : RequestKey) → count_by (is_of n) (once start all) ≤ 1
+decided_at_most_once = Retries.decided_at_most_once
+
 -- ---- elements
+-- an element of a list has what all of them have
+pub contained : {A : Type 0} (P : A → Type 0) (xs : List A) (x : A) → AllByRecursion P xs → Contains xs x → P x
+contained = Elements.contained
+
+-- the first element is one of the list
+pub at_head : {A : Type 0} (x : A) (xs : List A) → Contains (x ∷ xs) x
+at_head = Elements.at_head
+
 -- an element of the rest is one of the list
 pub in_tail : {A : Type 0} (y : A) (xs : List A) (x : A) → Contains xs x → Contains (y ∷ xs) x
 in_tail = Elements.in_tail

@@ -1,5 +1,5 @@
 -- Retries after stops.
-use Rattle.std.proofs.Common.{◌≡◌, inl, inr, zero, suc, ◌<◌, Bool, true, false, cond, ◌||◌, List, [], ◌∷◌, ◌++◌, map, length, true≢false, arith, refl, sym, ap, ◌∙◌, subst}
+use Rattle.std.proofs.Common.{◌≡◌, inl, inr, zero, suc, ◌<◌, ◌≤◌, Bool, true, false, cond, ◌||◌, List, [], ◌∷◌, ◌++◌, map, length, true≢false, arith, refl, sym, ap, ◌∙◌, subst}
 use Rattle.std.specs.List.{AllByRecursion, Contains, count_by, filter, list_any}
 use Rattle.std.proofs.lemmas.List.Sums.{length-filter}
 use Rattle.std.specs.FinMap as finite
@@ -103,6 +103,30 @@ stands_once known n (q ∷ all) new h =
 counted : (n : RequestKey) (xs : List Request) → IsOne (filter (is_of n) xs) → count_by (is_of n) xs ≡ 1
 counted n xs h = sym (length-filter (is_of n) xs) ∙ ap (λ (l : List Request). length l) h.1
 
+abbrev IsOneAtMost : List Request → Type 0
+IsOneAtMost xs = length xs ≤ 1
+
+-- a number stands once at most
+stands_at_most_once : (known : RequestKey → Bool) (n : RequestKey) (all : List Request) → IsOneAtMost (filter (is_of n) (firsts known all))
+stands_at_most_once known n [] = omega arith
+stands_at_most_once known n (q ∷ all) =
+    by_case (known (number_of q)) (same_number n (number_of q)) refl (stands_at_most_once known n all)
+    (stands_at_most_once (λ m. known m || same_number m (number_of q)) n all) (stands_no_more (λ m. known m || same_number m (number_of q)) n all)
+  where
+    by_case : (b c : Bool) → same_number n (number_of q) ≡ c → IsOneAtMost (filter (is_of n) (firsts known all)) → IsOneAtMost (later known n q all)
+        → ((known n || same_number n (number_of q)) ≡ true → later known n q all ≡ [])
+        → IsOneAtMost (filter (is_of n) (cond b (firsts known all) (q ∷ firsts (λ m. known m || same_number m (number_of q)) all)))
+    by_case true c is skip more none = skip
+    by_case false true same skip more none =
+        subst (λ c. IsOneAtMost (cond c (q ∷ later known n q all) (later known n q all))) (sym same)
+        (subst (λ l. IsOneAtMost (q ∷ l)) (sym (none (ap (λ c. known n || c) same ∙ or-true (known n)))) (omega arith))
+    by_case false false apart skip more none =
+        subst (λ c. IsOneAtMost (cond c (q ∷ later known n q all) (later known n q all))) (sym apart) more
+
+pub decided_at_most_once : (start : Content) (all : List Request) (n : RequestKey) → count_by (is_of n) (once start all) ≤ 1
+decided_at_most_once start all n =
+    subst (λ k. k ≤ 1) (length-filter (is_of n) (once start all)) (stands_at_most_once (λ m. finite.contains_key start.kept m) n all)
+
 any_append : (n : RequestKey) (xs ys : List Request) → list_any (is_of n) ys ≡ true → list_any (is_of n) (xs ++ ys) ≡ true
 any_append n [] ys h = h
 any_append n (x ∷ xs) ys h = ap (λ b. is_of n x || b) (any_append n xs ys h) ∙ or-true (is_of n x)
@@ -111,6 +135,11 @@ any_of : (q : Request) (xs : List Request) → Contains xs q → list_any (is_of
 any_of q [] c = absurd (omega (arith, c.1))
 any_of q (x ∷ xs) (zero, below, is) = ap (λ b. b || list_any (is_of (number_of q)) xs) (ap (λ (r : Request). same_number (number_of q) (number_of r)) is ∙ same_number-self (number_of q))
 any_of q (x ∷ xs) (suc k, below, is) = ap (λ b. is_of (number_of q) x || b) (any_of q xs (k, omega (arith, below), is)) ∙ or-true (is_of (number_of q) x)
+
+pub decided_once : (start : Content) (all : List Request) (q : Request) → finite.contains_key start.kept (number_of q) ≡ false → Contains all q
+    → count_by (is_of (number_of q)) (once start all) ≡ 1
+decided_once start all q new c =
+    counted (number_of q) (once start all) (stands_once (λ n. finite.contains_key start.kept n) (number_of q) all new (any_of q all c))
 
 stand_once : (start : Content) (done again asked : List Request) → AllByRecursion (Contains again) asked → StandOnce start (done ++ again) asked
 stand_once start done again [] h = tt
