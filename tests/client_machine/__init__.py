@@ -1,0 +1,1 @@
+"""Both clients beside the proved machine of crates/ee_client."""

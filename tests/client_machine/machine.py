@@ -1,0 +1,137 @@
+"""The proved machine beside a client, whose every step has to be the machine's."""
+from __future__ import annotations
+
+import ctypes
+from pathlib import Path
+from typing import NamedTuple, Optional, Protocol, Sequence
+
+SUBMIT, GO_ON, WRITTEN, UNWRITTEN, ANSWERED, GIVE_UP, KILLED = range(1, 8)
+WAIT, WRITE, SEND, SHOW, REFUSE = range(5)
+DONE, REFUSED, NOT_DONE, GIVEN_UP = range(1, 5)
+REUSED, FAULT, NOTHING = 3, 4, 5
+
+
+class Record(NamedTuple):
+    """A journal as the rules know it. `act` is 0 if none is open, `follower` if no act follows."""
+
+    next: int
+    number: int = 0
+    step: int = 0
+    sent: int = 0
+    act: int = 0
+    follower: int = 0
+
+
+class Event(NamedTuple):
+    """What happens to a client."""
+
+    kind: int
+    number: int = 0
+    act: int = 0
+    follower: int = 0
+    detail: int = 0
+
+
+class Turn(NamedTuple):
+    """What the machine does, what its journal holds, and what that is to hold."""
+
+    action: int
+    number: int
+    act: int
+    outcome: int
+    journal: Record
+    written: Record
+
+
+class Machine(Protocol):
+    """Where the machine runs."""
+
+    def turn(self, most: int, journal: Record, events: Sequence[Event]) -> Turn:
+        """The last turn of a client that starts with a journal, after these events."""
+
+
+def turn_of(numbers: Sequence[int]) -> Turn:
+    """The turn in these numbers."""
+    action, number, act, outcome = numbers[:4]
+    return Turn(action, number, act, outcome, Record(*numbers[4:10]), Record(*numbers[10:16]))
+
+
+class Library:
+    """The machine as a library of C."""
+
+    def __init__(self, path: Path) -> None:
+        self.call = ctypes.CDLL(str(path)).ee_client_turn
+        self.call.restype = None
+        self.call.argtypes = [
+            ctypes.c_uint64,
+            ctypes.c_void_p,
+            ctypes.c_void_p,
+            ctypes.c_size_t,
+            ctypes.c_void_p,
+        ]
+
+    def turn(self, most: int, journal: Record, events: Sequence[Event]) -> Turn:
+        """The last turn of a client that starts with a journal, after these events."""
+        numbers = [number for event in events for number in event]
+        asked = (ctypes.c_uint64 * max(1, len(numbers)))(*numbers)
+        start, found = (ctypes.c_uint64 * 6)(*journal), (ctypes.c_uint64 * 16)()
+        self.call(most, start, asked, len(events), found)
+        return turn_of(list(found))
+
+
+class Beside:
+    """The machine beside one client, which starts with a journal. `steps` counts its events."""
+
+    def __init__(self, machine: Machine, most: int, journal: Record) -> None:
+        self.machine, self.most, self.start = machine, most, journal
+        self.events: list[Event] = []
+        self.steps = 0
+        self.last_shown: Optional[Turn] = None
+        self.turn = machine.turn(most, journal, [])
+
+    def happens(
+        self, kind: int, number: int = 0, act: int = 0, follower: int = 0, detail: int = 0
+    ) -> None:
+        """Something happens to the client."""
+        self.events.append(Event(kind, number, act, follower, detail))
+        self.turn = self.machine.turn(self.most, self.start, self.events)
+        self.steps += 1
+        if self.turn.action == SHOW:
+            self.last_shown = self.turn
+
+    def writes(self, record: Record) -> None:
+        """The client writes its journal. If that isn't due by itself, it has gone on."""
+        if self.turn.action != WRITE:
+            self.happens(GO_ON)
+        assert (
+            self.turn.action == WRITE
+        ), f"the client writes {record}, and the machine doesn't: {self.turn}"
+        assert (
+            self.turn.written == record
+        ), f"the client writes {record}, and the machine {self.turn.written}"
+
+    def sends(self, number: int, act: int) -> None:
+        """The client sends a request."""
+        sent = (self.turn.action, self.turn.number, self.turn.act)
+        assert sent == (
+            SEND,
+            number,
+            act,
+        ), f"the client sends act {act} under {number}, and the machine: {self.turn}"
+
+    def shows(self, act: int, outcome: int) -> None:
+        """The client shows what became of an act."""
+        assert (
+            self.last_shown is not None
+        ), f"the client shows {outcome} of act {act}, and the machine nothing"
+        shown = (self.last_shown.act, self.last_shown.outcome)
+        assert shown == (
+            act,
+            outcome,
+        ), f"the client shows {outcome} of act {act}, and the machine {shown}"
+
+    def holds(self, record: Record) -> None:
+        """What the client's journal holds."""
+        assert (
+            self.turn.journal == record
+        ), f"the journal holds {record}, and the machine's {self.turn.journal}"

@@ -1,0 +1,227 @@
+"""sender.js of the tellers' page in Node beside the machine."""
+from __future__ import annotations
+
+import json
+import shutil
+import subprocess
+import tempfile
+from pathlib import Path
+from typing import Any, Optional, Sequence
+
+from tests.client_machine.counter import (
+    Counter,
+    Fate,
+    Json,
+    Response,
+    name_of,
+    redemption,
+    registration,
+)
+from tests.client_machine.machine import (
+    ANSWERED,
+    DONE,
+    GO_ON,
+    KILLED,
+    NOT_DONE,
+    NOTHING,
+    REFUSE,
+    REFUSED,
+    SHOW,
+    SUBMIT,
+    UNWRITTEN,
+    WRITTEN,
+    Beside,
+    Event,
+    Record,
+    Turn,
+    turn_of,
+)
+from tests.client_machine.python_client import answered_kind
+
+HERE = Path(__file__).resolve().parent
+PAGE = HERE.parent.parent / "clients" / "teller"
+#: The greatest whole number that JavaScript has.
+MOST = 2**53 - 1
+REPLIES = ("ticket", "added", "opened", "batch")
+
+
+def record_of(record: Json) -> Record:
+    """What the rules know of a journal of the page."""
+    still = record["open"]
+    if still is None:
+        return Record(record["next"])
+    follower = name_of(still["then"]["fields"]) if "then" in still else 0
+    return Record(
+        record["next"],
+        still["number"],
+        still["step"],
+        still["sent"],
+        name_of(still["fields"]),
+        follower,
+    )
+
+
+class Node:
+    """A process of Node with the page's rules and the machine; `edits` make a wrong page."""
+
+    def __init__(self, wasm: Path, edits: Sequence[tuple[str, str, str]] = ()) -> None:
+        self.folder = Path(tempfile.mkdtemp())
+        for path in PAGE.glob("*.js"):
+            shutil.copy(path, self.folder)
+        (self.folder / "package.json").write_text('{"type":"module"}')
+        for file, old, new in edits:
+            path = self.folder / file
+            text = path.read_text()
+            assert text.count(old) == 1, f"{old!r} isn't once in {file}"
+            path.write_text(text.replace(old, new))
+        command = ["node", str(HERE / "page.mjs"), str(self.folder), str(wasm)]
+        self.process = subprocess.Popen(
+            command, stdin=subprocess.PIPE, stdout=subprocess.PIPE, text=True
+        )
+
+    def close(self) -> None:
+        """Ends it."""
+        assert self.process.stdin is not None and self.process.stdout is not None
+        self.process.stdin.close()
+        self.process.wait(timeout=10)
+        self.process.stdout.close()
+        shutil.rmtree(self.folder)
+
+    def does(self, command: str, **more: Any) -> None:
+        """Gives a command."""
+        assert self.process.stdin is not None
+        self.process.stdin.write(json.dumps({"do": command, **more}) + "\n")
+        self.process.stdin.flush()
+
+    def said(self) -> Json:
+        """What it does next."""
+        assert self.process.stdout is not None
+        line = self.process.stdout.readline()
+        assert line, "Node has ended"
+        found: Json = json.loads(line)
+        return found
+
+    def turn(self, most: int, journal: Record, events: Sequence[Event]) -> Turn:
+        """The machine's last turn, as WebAssembly."""
+        texts = [[str(number) for number in event] for event in events]
+        self.does("turn", most=str(most), journal=[str(number) for number in journal], events=texts)
+        return turn_of([int(number) for number in self.said()["turn"]])
+
+
+class PageClient:
+    """The page's sender, whose journal is kept here, with the machine beside it."""
+
+    def __init__(self, node: Node, first: int) -> None:
+        self.node, self.counter = node, Counter()
+        self.fates: list[Fate] = []
+        self.writes: list[str] = []
+        self.record: Json = {"desk": 3, "next": first, "open": None}
+        self.beside = Beside(node, MOST, Record(first))
+        self.shown: dict[int, int] = {}
+        self.start()
+
+    def close(self) -> None:
+        """Ends it."""
+
+    def start(self) -> None:
+        """A page that is loaded: it sends what is open."""
+        self.beside.holds(record_of(self.record))
+        self.node.does("start", record=self.record)
+        assert self.node.said() == {"started": True}
+
+    def wrote(self, record: Json) -> bool:
+        """It writes its journal. Returns whether it lives on."""
+        self.beside.writes(record_of(record))
+        outcome = self.writes.pop(0) if self.writes else "kept"
+        if outcome in ("kept", "killed after"):
+            self.record = record
+        if outcome.startswith("killed"):
+            self.beside.happens(KILLED, detail=int(outcome == "killed after"))
+            self.start()
+            return False
+        self.beside.happens(WRITTEN if outcome == "kept" else UNWRITTEN)
+        self.node.does("answer", answer=outcome)
+        return True
+
+    def sent(self, path: str, body: Json) -> None:
+        """It sends a request."""
+        number, act = body["number"], name_of(body)
+        self.beside.sends(number, act)
+        fate = self.fates.pop(0) if self.fates else Fate.LOST
+        response: Optional[Response] = self.counter.meets(path, body, fate)
+        kind = NOTHING if response is None else answered_kind(*response)
+        self.beside.happens(ANSWERED, number, detail=kind)
+        self.node.does("answer", answer=None if response is None else response._asdict())
+
+    def called(self) -> Optional[Json]:
+        """How a call of the sender ended; None if the page was killed."""
+        while True:
+            said = self.node.said()
+            if "write" in said:
+                if not self.wrote(said["write"]):
+                    return None
+            elif "send" in said:
+                self.sent(said["send"]["path"], said["send"]["body"])
+            elif "pause" in said:
+                if not self.fates and not self.writes:
+                    self.beside.happens(KILLED)
+                    self.start()
+                    return None
+                self.node.does("answer", answer="wake")
+            else:
+                return said
+
+    def ends(self) -> None:
+        """A request is sent until it ends. A reply is shown, and then the request is dropped.
+
+        That it wasn't done is shown once it was dropped."""
+        said = self.called()
+        if said is None or "failed" in said:
+            assert said is None or said["failed"] == "unstored", said
+            return
+        kind = said["ended"]["kind"]
+        if kind in REPLIES or kind == "refused":
+            self.told(DONE if kind in REPLIES else REFUSED)
+        self.node.does("forget")
+        if self.called() is not None and kind not in REPLIES and kind != "refused":
+            self.told(NOT_DONE)
+
+    def told(self, outcome: int) -> None:
+        """What the teller was told of the act that the machine showed last."""
+        assert self.beside.last_shown is not None
+        self.beside.shows(self.beside.last_shown.act, outcome)
+        self.shown[self.beside.last_shown.act] = outcome
+
+    @property
+    def is_open(self) -> bool:
+        """Whether a request is open."""
+        return self.record["open"] is not None
+
+    def submit(self, act: int, follower: int = 0) -> None:
+        """Submits a redemption, or a registration that a redemption follows."""
+        path, fields = registration(act) if follower else redemption(act)
+        then = dict(zip(("path", "fields"), redemption(follower)))
+        more: Json = {"then": then} if follower else {}
+        self.beside.happens(SUBMIT, act=act, follower=follower)
+        self.node.does("submit", path=path, fields=fields, more=more)
+        if self.is_open:
+            assert self.beside.turn.action == REFUSE
+            assert self.node.said() == {"failed": "a request is open"}
+            return
+        self.ends()
+
+    def go_on(self) -> None:
+        """Sends the open request."""
+        if self.is_open:
+            self.node.does("finish")
+            self.ends()
+        else:
+            self.beside.happens(GO_ON)
+
+    def give_up(self) -> None:
+        """The page gives nothing up."""
+
+    def kill(self) -> None:
+        """Kills it at rest."""
+        self.beside.happens(KILLED)
+        self.start()

@@ -1,0 +1,239 @@
+"""The Python client beside the machine."""
+from __future__ import annotations
+
+import importlib
+import json
+import logging
+import os
+import shutil
+import sys
+import tempfile
+from pathlib import Path
+from types import ModuleType
+from typing import Any, Optional, Sequence
+
+from tests.client_machine.counter import DAY, PAYEE, STOPPED, Counter, Fate, Json, name_of
+from tests.client_machine.machine import (
+    ANSWERED,
+    DONE,
+    FAULT,
+    GIVE_UP,
+    GIVEN_UP,
+    KILLED,
+    NOT_DONE,
+    NOTHING,
+    REFUSE,
+    REFUSED,
+    REUSED,
+    SUBMIT,
+    UNWRITTEN,
+    WRITTEN,
+    Beside,
+    Machine,
+    Record,
+)
+
+SOURCES = Path(__file__).resolve().parent.parent.parent / "clients" / "python" / "src"
+#: Where files are in memory.
+MEMORY = "/dev/shm"
+#: The greatest number that a journal of Python holds as its next.
+MOST = 2**63
+
+
+logging.disable(logging.WARNING)
+
+
+class Killed(BaseException):
+    """The client is killed."""
+
+
+def package(edits: Sequence[tuple[str, str, str]] = ()) -> ModuleType:
+    """The client's package; with edits a copy of it, in which a text of a file is another."""
+    if not edits:
+        sys.path.insert(0, str(SOURCES))
+        return importlib.import_module("ee_counter_client")
+    folder = Path(tempfile.mkdtemp())
+    name = f"wrong_{folder.name}"
+    shutil.copytree(SOURCES / "ee_counter_client", folder / name)
+    for file, old, new in edits:
+        path = folder / name / file
+        text = path.read_text()
+        assert text.count(old) == 1, f"{old!r} isn't once in {file}"
+        path.write_text(text.replace(old, new))
+    sys.path.insert(0, str(folder))
+    return importlib.import_module(name)
+
+
+def record_of(record: Json) -> Record:
+    """What the rules know of a journal of Python."""
+    still = record["open"]
+    if still is None:
+        return Record(record["next"])
+    return Record(
+        record["next"], still["number"], still["step"], still["sent"], name_of(still["fields"])
+    )
+
+
+def answered_kind(status: int, text: str) -> int:
+    """What a response is to the machine."""
+    try:
+        value = json.loads(text)
+    except ValueError:
+        return NOTHING
+    if status == 200:
+        return DONE
+    if status == 409:
+        return REUSED if value["code"] == 10 else REFUSED
+    is_fault = status == 400 and value["code"] not in (60, 61, 63, 68)
+    return FAULT if is_fault or (status, text) == STOPPED[Fate.FORBIDDEN] else NOTHING
+
+
+class PythonClient:
+    """A client whose journal is in a folder, with the machine beside it."""
+
+    def __init__(self, package: ModuleType, machine: Machine, first: int) -> None:
+        self.package, self.counter = package, Counter()
+        self.folder = Path(tempfile.mkdtemp(dir=MEMORY if os.path.isdir(MEMORY) else None))
+        self.journal = str(self.folder / "journal")
+        self.fates: list[Fate] = []
+        self.writes: list[str] = []
+        start = {
+            "abandoned": [],
+            "keyed": 0,
+            "desk": 3,
+            "next": first,
+            "open": None,
+            "last": None,
+            "bookmark": None,
+        }
+        Path(self.journal).write_text(json.dumps(start, separators=(",", ":")) + "\n")
+        self.beside = Beside(machine, MOST, Record(first))
+        self.shown: dict[int, int] = {}
+        self.client = self.started()
+
+    def close(self) -> None:
+        """Ends it."""
+        self.dropped()
+        shutil.rmtree(self.folder)
+
+    def started(self) -> Any:
+        """A new process's client. It hears nothing of the one before."""
+        client = self.package.Counter(self.journal, desk=3, patience=1_000_000)
+        client._is_known = True
+        is_killed = [False]
+        real_write = client._journal.write
+
+        def write(record: Json) -> None:
+            if is_killed[0]:
+                raise OSError("it is killed")
+            self.beside.writes(record_of(record))
+            outcome = self.writes.pop(0) if self.writes else "kept"
+            if outcome == "failed":
+                self.beside.happens(UNWRITTEN)
+                raise OSError("the disk is full")
+            if outcome in ("kept", "killed after"):
+                real_write(record)
+            is_killed[0] = outcome != "kept"
+            self.beside.happens(
+                *((KILLED, 0, 0, 0, int(outcome == "killed after")) if is_killed[0] else (WRITTEN,))
+            )
+            if is_killed[0]:
+                raise Killed
+
+        def exchanged(
+            method: str, path: str, value: Optional[Json], read: Any, deadline: Any
+        ) -> Any:
+            assert method == "POST" and value is not None
+            number, act = value["number"], name_of(value)
+            self.beside.sends(number, act)
+            fate = self.fates.pop(0) if self.fates else Fate.LOST
+            response = self.counter.meets(path, value, fate)
+            answers = importlib.import_module(f"{self.package.__name__}.answers")
+            kind = NOTHING if response is None else answered_kind(*response)
+            self.beside.happens(ANSWERED, number, detail=kind)
+            return (
+                answers.Answer("none", met="nothing came")
+                if response is None
+                else answers.answer_of(*response, read)
+            )
+
+        client._journal.write = write
+        client._exchanged = exchanged
+        importlib.import_module(
+            f"{self.package.__name__}.lookups"
+        ).Trials.pause = lambda trials: bool(self.fates)
+        self.beside.holds(record_of(client._journal.record))
+        return client
+
+    def dropped(self) -> None:
+        """The process is gone: its lock too, and nothing else happens."""
+        self.client._journal.unlock()
+        self.client._journal.keys.close()
+
+    def called(self, call: Any) -> None:
+        """Makes a call of the client, and compares what it shows."""
+        errors = self.package
+        try:
+            result = call()
+        except Killed:
+            self.dropped()
+            self.client = self.started()
+        except errors.Refused:
+            self.told(REFUSED)
+        except (errors.Fault, errors.Forbidden):
+            self.told(NOT_DONE)
+        except errors.FileFailed:
+            self.beside.happens(KILLED)
+        except errors.NoReply:
+            pass
+        else:
+            if isinstance(result, self.package.Ticket):
+                act = int(result.lines[0].serial[1:-2])
+                self.beside.shows(act, DONE)
+                self.told(DONE)
+        self.beside.holds(record_of(self.client._journal.record))
+
+    def told(self, outcome: int) -> None:
+        """What the caller was told of the act that the machine showed last."""
+        assert self.beside.last_shown is not None
+        self.beside.shows(self.beside.last_shown.act, outcome)
+        self.shown[self.beside.last_shown.act] = outcome
+
+    @property
+    def is_open(self) -> bool:
+        """Whether a request is open."""
+        return self.client._journal.record["open"] is not None
+
+    def submit(self, act: int, follower: int = 0) -> None:
+        """Submits a redemption."""
+        self.beside.happens(SUBMIT, act=act)
+        if self.is_open:
+            assert self.beside.turn.action == REFUSE
+            try:
+                self.client.redeem(DAY, PAYEE, [f"L{act}EE"])
+            except self.package.StillOpen:
+                return
+            raise AssertionError("another request is open")
+        self.called(lambda: self.client.redeem(DAY, PAYEE, [f"L{act}EE"]))
+
+    def go_on(self) -> None:
+        """Sends the open request."""
+        self.called(lambda: self.client.finish())
+
+    def give_up(self) -> None:
+        """Gives the open request up."""
+        if not self.is_open:
+            return
+        self.beside.happens(GIVE_UP)
+
+        def call() -> None:
+            given_up = self.client.abandon("tried")
+            self.told(GIVEN_UP if given_up.may_be_done else NOT_DONE)
+
+        self.called(call)
+
+    def kill(self) -> None:
+        """Kills it at rest."""
+        self.beside.happens(KILLED)
+        self.dropped()
+        self.client = self.started()

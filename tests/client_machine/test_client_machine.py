@@ -1,0 +1,210 @@
+"""Holds the Python client and the tellers' page to the proved machine, step by step.
+
+Requests and answers are lost, late and repeated, numbers are used by others, writes fail, and
+clients are killed before and after a write. Every write of a journal, every sending and everything
+that is shown has to be the machine's. Wrong clients are found within a minute."""
+
+from __future__ import annotations
+
+import itertools
+import time
+from pathlib import Path
+from typing import Callable, Sequence, Union
+
+import pytest
+
+pytest.importorskip("hypothesis")
+from hypothesis import HealthCheck, Phase, settings
+from hypothesis import strategies as st
+from hypothesis.stateful import (
+    RuleBasedStateMachine,
+    initialize,
+    invariant,
+    rule,
+    run_state_machine_as_test,
+)
+
+from tests.client_machine.counter import Fate
+from tests.client_machine.machine import DONE, NOT_DONE, REFUSED, Library
+from tests.client_machine.page_client import Node, PageClient
+from tests.client_machine.python_client import PythonClient, package
+
+#: The steps of a client: quickly, and at length.
+STEPS = [1_000, pytest.param(10_000, marks=pytest.mark.slow)]
+FATES = st.lists(st.sampled_from(Fate), max_size=4)
+WRITES = st.lists(
+    st.sampled_from(["kept", "kept", "kept", "failed", "killed before", "killed after"]), max_size=6
+)
+Edits = Sequence[tuple[str, str, str]]
+Client = Union[PythonClient, PageClient]
+
+
+def rules(started: Callable[[int], Client], steps: list[int]) -> type[RuleBasedStateMachine]:
+    """The rules over one client."""
+
+    class Rules(RuleBasedStateMachine):
+        """A teller, a network and a counter."""
+
+        client: Client
+
+        @initialize(first=st.integers(1, 1000))
+        def start(self, first: int) -> None:
+            self.client = started(first)
+            self.acts = itertools.count(1)
+
+        @rule(fates=FATES, writes=WRITES, follows=st.booleans())
+        def submit(self, fates: list[Fate], writes: list[str], follows: bool) -> None:
+            self.client.fates, self.client.writes = list(fates), list(writes)
+            act = next(self.acts)
+            self.client.submit(
+                act, next(self.acts) if follows and isinstance(self.client, PageClient) else 0
+            )
+
+        @rule(fates=FATES, writes=WRITES)
+        def go_on(self, fates: list[Fate], writes: list[str]) -> None:
+            self.client.fates, self.client.writes = list(fates), list(writes)
+            self.client.go_on()
+
+        @rule(writes=WRITES)
+        def give_up(self, writes: list[str]) -> None:
+            self.client.fates, self.client.writes = [], list(writes)
+            self.client.give_up()
+
+        @rule()
+        def kill(self) -> None:
+            self.client.kill()
+
+        @rule()
+        def late_ones_come(self) -> None:
+            self.client.counter.late_ones_come()
+
+        @rule(ahead=st.integers(0, 8))
+        def another_uses(self, ahead: int) -> None:
+            self.client.counter.uses(self.client.beside.turn.journal.next + ahead)
+
+        @invariant()
+        def is_so(self) -> None:
+            """What the client showed is so, and no act acted twice."""
+            if not hasattr(self, "client"):
+                return
+            acted = self.client.counter.acted
+            assert all(times == 1 for times in acted.values()), acted
+            for act, outcome in self.client.shown.items():
+                if outcome in (DONE, REFUSED, NOT_DONE):
+                    assert acted.get(act, 0) == int(outcome == DONE), (act, outcome)
+
+        def teardown(self) -> None:
+            if hasattr(self, "client"):
+                steps[0] += self.client.beside.steps
+                self.client.close()
+
+    return Rules
+
+
+def run(started: Callable[[int], Client], examples: int, is_shrunk: bool = False) -> int:
+    """Runs the rules over a client. Returns how many steps it took."""
+    steps = [0]
+    phases = [Phase.generate, Phase.shrink] if is_shrunk else [Phase.generate]
+    run_state_machine_as_test(  # type: ignore[no-untyped-call]
+        rules(started, steps),
+        settings=settings(
+            max_examples=examples,
+            stateful_step_count=100,
+            deadline=None,
+            database=None,
+            phases=phases,
+            suppress_health_check=list(HealthCheck),
+        ),
+    )
+    return steps[0]
+
+
+def run_whole(started: Callable[[int], Client], least: int) -> None:
+    """Runs the rules over a client until it took that many steps, and prints how many."""
+    steps = 0
+    while steps < least:
+        steps += run(started, 20, True)
+    print(f"{steps} steps")
+
+
+@pytest.mark.parametrize("steps", STEPS)
+def test_python(library: Library, steps: int) -> None:
+    """The Python client does what the machine does."""
+    client = package()
+    run_whole(lambda first: PythonClient(client, library, first), steps)
+
+
+@pytest.mark.parametrize("steps", STEPS)
+def test_page(node: Node, steps: int) -> None:
+    """So does the page's sender."""
+    run_whole(lambda first: PageClient(node, first), steps)
+
+
+#: Wrong clients, as texts of a file in place of others.
+WRONG_PYTHON: dict[str, Edits] = {
+    "a number for two acts": [
+        (
+            "counter.py",
+            """                next=number + 1,
+                open={
+""",
+            """                next=number,
+                open={
+""",
+        )
+    ],
+    "not done after a second sending": [
+        ("counter.py", """["sent"] == 1:""", """["sent"] >= 1:"""),
+    ],
+    "sent before it is written": [
+        (
+            "counter.py",
+            "        self._journal.change(open=sending)\n",
+            """        self._journal.record = {**self._journal.record, "open": sending}\n""",
+        )
+    ],
+}
+WRONG_PAGE: dict[str, Edits] = {
+    "a number for two acts": [
+        (
+            "sender.js",
+            "await this.#journal.change({ next: number + 1, open:",
+            "await this.#journal.change({ next: number, open:",
+        )
+    ],
+    "not done after a second sending": [
+        (
+            "sender.js",
+            "(isOfOneSending(answer) && sent === 1)",
+            "(isOfOneSending(answer) && sent >= 1)",
+        )
+    ],
+    "another number after a lost answer": [
+        (
+            "sender.js",
+            "const missed = isReused(answer) ?",
+            'const missed = isReused(answer) || answer.kind === "none" ?',
+        )
+    ],
+}
+
+
+@pytest.mark.parametrize("edits", WRONG_PYTHON.values(), ids=WRONG_PYTHON)
+def test_wrong_python(library: Library, edits: Edits) -> None:
+    """A wrong client is found within a minute."""
+    client = package(edits)
+    begun = time.monotonic()
+    with pytest.raises(AssertionError):
+        run(lambda first: PythonClient(client, library, first), 1000)
+    assert time.monotonic() - begun < 60
+
+
+@pytest.mark.parametrize("edits", WRONG_PAGE.values(), ids=WRONG_PAGE)
+def test_wrong_page(built: Path, edits: Edits) -> None:
+    """A wrong page is found within a minute."""
+    process = Node(built / "ee_client.wasm", edits)
+    begun = time.monotonic()
+    with pytest.raises(AssertionError):
+        run(lambda first: PageClient(process, first), 1000)
+    assert time.monotonic() - begun < 60
+    process.close()
