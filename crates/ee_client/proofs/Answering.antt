@@ -1,7 +1,7 @@
 -- What the books keep and answer, after requests.
-use Rattle.std.proofs.Common.{◌≡◌, ◌≢◌, ℕ, Bool, true, false, cond, ◌||◌, nat_eq, List, [], ◌∷◌, Option, Some, None, true≢false, refl, sym, ap, ◌∙◌, subst}
+use Rattle.std.proofs.Common.{◌≡◌, ◌≢◌, Bool, true, false, cond, ◌||◌, List, [], ◌∷◌, Option, Some, None, true≢false, refl, sym, ap, ◌∙◌, subst}
 use Rattle.std.specs.Option.{is_some}
-use Rattle.std.specs.List.{AllByRecursion, Contains, list_any, find}
+use Rattle.std.specs.List.{AllByRecursion, list_any, find}
 use Rattle.std.specs.FinMap as finite
 use Rattle.ee_desk_model.specs.declared.acts.Act.{Act}
 use Rattle.ee_desk_model.specs.declared.acts.Request.{Request}
@@ -23,7 +23,7 @@ use Rattle.ee_desk_model.proofs.Lemmas.Books.{never_reused}
 use Rattle.ee_desk_model.proofs.Lemmas.Maps.{same_number-is, same_number-self}
 use Rattle.ee_desk_model.proofs.Lemmas.Requests.{content_after-known, content_after-new, content_after-first, get_kept-insert, get_kept-own, answer_after, answer_again, same_act-is, same_act-self}
 use Rattle.ee_desk_laws.proofs.Lemmas.{contained}
-use Rattle.ee_client.proofs.Counting.{found, any_of, all_once}
+use Rattle.ee_client.proofs.Counting.{found, all_once}
 
 -- ---- what is kept stays kept
 stays_one : (C : Content) (q : Request) (n : RequestKey) → finite.contains_key C.kept n ≡ true → finite.contains_key (content_after C (q ∷ [])).kept n ≡ true

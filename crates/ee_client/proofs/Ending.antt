@@ -1,16 +1,20 @@
 -- From what holds of all desks and the counter to the law.
-use Rattle.std.proofs.Common.{◌≡◌, ◌≢◌, ◌⊎◌, inl, inr, ℕ, ◌<◌, ◌≤◌, Bool, true, false, cond, ◌&&◌, nat_eq, List, [], ◌∷◌, Option, Some, None, true≢false, arith, refl, sym, ap, ◌∙◌, subst}
-use Rattle.std.specs.Prelude.{◌==◌, ⊤}
+use Rattle.std.proofs.Common.{◌≡◌, inl, inr, ℕ, ◌≤◌, Bool, true, false, ◌&&◌, List, Option, Some, None, true≢false, arith, refl, sym, ap, ◌∙◌, subst}
+use Rattle.std.specs.Prelude.{◌==◌}
 use Rattle.std.specs.List.{AllByRecursion, Contains, count_by, list_any}
 use Rattle.std.specs.FinMap as finite
 use Rattle.std.proofs.lemmas.Bool.{eqb-true, eq-eqb}
 use Rattle.ee_desk_model.specs.declared.acts.Act.{Act}
 use Rattle.ee_desk_model.specs.declared.acts.Request.{Request}
 use Rattle.ee_desk_model.specs.declared.changes.Kept.{Kept}
+use Rattle.ee_desk_model.specs.declared.acts.Act.TheVariants.{AddRates, AddBonds, OpenDay, Redeem, CloseDay}
+use Rattle.ee_desk_model.specs.declared.refusals.Refusal.{Refusal}
 use Rattle.ee_desk_model.specs.declared.refusals.Refusal.TheVariants.{NumberReused}
-use Rattle.ee_desk_model.specs.declared.replies.Reply.{Reply}
 use Rattle.ee_desk_model.specs.declared.replies.Reply.TheVariants.{Refused}
-use Rattle.ee_desk_model.specs.Acts.{books_after}
+use Rattle.ee_desk_model.specs.Acts.{books_after, unless_refused as books_unless}
+use Rattle.ee_desk_model.specs.Effects.{accepted, unless_refused as effects_unless}
+use Rattle.ee_desk_model.specs.Refusals.{refusal_of}
+use Rattle.ee_desk_model.specs.Seen.{Seen, shown}
 use Rattle.ee_desk_model.specs.Answers.{answer, is_of}
 use Rattle.ee_desk_model.specs.Contents.{content_after}
 use Rattle.ee_desk_model.specs.Numbers.{RequestKey, same_number, number_of}
@@ -20,17 +24,19 @@ use Rattle.ee_desk_model.specs.Ranges.{IsActInRange}
 use Rattle.ee_desk_model.specs.Repeats.{Content, once}
 use Rattle.ee_desk_model.specs.Sound.{IsSound}
 use Rattle.ee_desk_model.proofs.Lemmas.Maps.{all_weaker, same_number-is, same_number-self}
-use Rattle.ee_desk_laws.specs.Events.{Told, World}
-use Rattle.ee_desk_laws.specs.Stops.{AreDone, StillTold, SurvivesStops, HoldsAcknowledged, sent, acknowledged}
+use Rattle.ee_desk_laws.specs.Events.{Told}
+use Rattle.ee_desk_laws.specs.Stops.{AreDone, StillTold, SurvivesStops, HoldsAcknowledged, sent}
 use Rattle.ee_desk_laws.proofs.Lemmas.{contained, decided_once, decided_at_most_once}
+use Rattle.ee_client.specs.declared.events.Answer.{Answer}
+use Rattle.ee_client.specs.declared.events.Answer.TheVariants as answer_kind
 use Rattle.ee_client.specs.declared.events.Outcome.{Outcome}
 use Rattle.ee_client.specs.declared.events.Outcome.TheVariants.{Done, Refused as Was_refused, NotDone, GivenUp}
-use Rattle.ee_client.specs.Desks.{Sending, Shown, Desk, Bank, Happening, request_for, WasSent, GoOnward, counter_events, opened}
-use Rattle.ee_client.specs.EndToEnd.{is_for, times, IsKept, IsSo, EndToEnd}
+use Rattle.ee_client.specs.Desks.{Sending, Shown, Bank, Happening, request_for, WasSent, counter_events, opened}
+use Rattle.ee_client.specs.EndToEnd.{is_for, times, IsKept, IsSo, EndToEnd, RefusalsChangeNothing}
 use Rattle.ee_client.specs.EndToEnd as law
 use Rattle.ee_client.proofs.Counting.{all_by_each, count_by_fewer, count_by_none, any_is, any_of, all_once_new}
 use Rattle.ee_client.proofs.Answering.{keeps_told, reused_is_kept, sound_after}
-use Rattle.ee_client.proofs.Keeping.{WasReused, IsAtOr, HasReply, HasReason, History, past_of, Keeps}
+use Rattle.ee_client.proofs.Keeping.{WasReused, IsAtOr, HasReply, HasReason, History, past_of}
 use Rattle.ee_client.proofs.Whole.{Holds, happens, all_sent, goes_onward, begins, told_decided}
 
 both_true : (a b : Bool) → (a && b) ≡ true → (a ≡ true) × (b ≡ true)
@@ -114,8 +120,8 @@ module _ (acts : ℕ → ℕ → Act) (first : ℕ → ℕ) (start : Content) (b
           by_fate (inr r) same = absurd (not_reused d x q c same new r)
 
   -- the act of a reply that is shown
-  replied : (d : ℕ) (s : Shown) → HasReply d (past_of b.counter.told (b.desk d)) s → IsKept acts start b.counter.now done d (b.desk d) s
-  replied d s h =
+  replied : (d : ℕ) (s : Shown) (kind : Answer) → HasReply d (past_of b.counter.told (b.desk d)) s kind → IsKept acts start b.counter.now done d (b.desk d) s kind
+  replied d s kind h =
       let (t, ct, desk, number, says) = h.told in
       let (x, cx, at, named) = h.sent in
       let there : Contains done t.request = contained (λ u. Contains done u.request) b.counter.told t told_done ct in
@@ -132,6 +138,7 @@ module _ (acts : ℕ → ℕ → Act) (first : ℕ → ℕ) (start : Content) (b
       record {
         reply = h.reply;
         shows = h.is;
+        is = h.kind_is;
         kept = ap (λ (c : Content). finite.get c.kept (d, s.number)) content ∙ ap (finite.get (content_after start done).kept) (sym key) ∙ kept ∙ ap entry of;
         once = λ new. exactly t there key x cx at named new;
       }
@@ -165,8 +172,8 @@ module _ (acts : ℕ → ℕ → Act) (first : ℕ → ℕ) (start : Content) (b
           absurd (not_reused d x q c same new (contained (λ y. y.act ≡ act → WasReused b.counter.told d y.request.number) (b.desk d).sent x all c (eqb-true x.act act named)))
 
   so : (d : ℕ) (s : Shown) (outcome : Outcome) → HasReason d (past_of b.counter.told (b.desk d)) s outcome → IsSo acts start b.counter.now done d (b.desk d) s outcome
-  so d s Done h = replied d s h
-  so d s Was_refused h = replied d s h
+  so d s Done h = replied d s answer_kind.Done h
+  so d s Was_refused h = replied d s answer_kind.Refused h
   so d s NotDone h = never d s.act h
   so d s GivenUp h = tt
 
@@ -201,3 +208,18 @@ end_to_end survives acknowledges keeps acts start most first happenings bank onw
       concludes acts first start bank done (goes_onward acts happenings first (opened start most first) bank onward (begins acts start most first)) content still
           (told_decided (Contains done) events (opened start most first).counter bank.counter happened told tt) was happenings are keeps,
     )
+
+-- a reply of an act that isn't refused is no refusal
+is_accepted : (seen : Seen) (asked : Act) (refusal : Refusal) → (accepted seen asked).reply ≡ Refused refusal → ⊥
+is_accepted seen (AddRates rows) refusal is = cc
+is_accepted seen (AddBonds bonds) refusal is = cc
+is_accepted seen (OpenDay day) refusal is = cc
+is_accepted seen (Redeem day payee serials) refusal is = cc
+is_accepted seen (CloseDay day) refusal is = cc
+
+pub refusals_change_nothing : RefusalsChangeNothing
+refusals_change_nothing books asked refusal is = by_case (refusal_of (shown books) asked) is
+  where
+    by_case : (o : Option Refusal) → (effects_unless (shown books) asked o).reply ≡ Refused refusal → books_unless books asked o ≡ books
+    by_case (Some other) is = refl
+    by_case None is = absurd (is_accepted (shown books) asked refusal is)

@@ -1,12 +1,11 @@
 -- A desk whose teller asks for more, whose client sends once more, or shows something.
-use Rattle.std.proofs.Common.{◌≡◌, ◌≢◌, ◌⊎◌, inl, inr, ℕ, zero, suc, ◌+◌, ◌*◌, ◌-◌, ◌^◌, ◌<◌, ◌≤◌, min, Bool, true, false, cond, nat_eq, List, [], ◌∷◌, ◌++◌, Option, Some, None, true≢false, arith, refl, sym, ap, ◌∙◌, subst}
-use Rattle.std.specs.Prelude.{IfSome, ⊤, ◌==◌}
+use Rattle.std.proofs.Common.{◌≡◌, ◌≢◌, inl, inr, ℕ, ◌+◌, ◌*◌, ◌<◌, Bool, true, false, List, [], ◌∷◌, ◌++◌, Option, Some, None, true≢false, arith, refl, sym, ◌∙◌, subst}
+use Rattle.std.specs.Prelude.{IfSome, ◌==◌}
 use Rattle.std.specs.List.{AllByRecursion, Contains}
 use Rattle.std.proofs.lemmas.Bool.{eqb-true, eq-eqb}
 use Rattle.ee_desk_model.specs.declared.acts.Act.{Act}
 use Rattle.ee_desk_model.proofs.Lemmas.Maps.{all_weaker}
-use Rattle.ee_desk_laws.specs.Events.{Told}
-use Rattle.ee_desk_laws.proofs.Lemmas.{contained, at_head, in_tail}
+use Rattle.ee_desk_laws.proofs.Lemmas.{contained, in_tail}
 use Rattle.ee_client.specs.declared.journals.Open.{Open}
 use Rattle.ee_client.specs.declared.journals.Journal.{Journal}
 use Rattle.ee_client.specs.declared.events.Outcome.{Outcome}
@@ -14,9 +13,9 @@ use Rattle.ee_client.specs.declared.events.Outcome.TheVariants.{Done, Refused as
 use Rattle.ee_client.specs.declared.machines.Phase.{Phase}
 use Rattle.ee_client.specs.declared.machines.Phase.TheVariants.{Rest, Writing, Sent, Told as Was_told}
 use Rattle.ee_client.specs.Turns.{capped, with_new, with_sending, with_higher, without}
-use Rattle.ee_client.specs.Desks.{Sending, Shown, Desk, request_for, IsOther}
+use Rattle.ee_client.specs.Desks.{Sending, Shown, request_for, IsOther}
 use Rattle.ee_client.proofs.Counting.{all_by_each}
-use Rattle.ee_client.proofs.Keeping.{Past, WasReused, IsAtOr, IsUnsaid, IsWaiting, OpenFits, RequestFits, Fits, EndsRight, IsFirst, PhaseFits, HasReply, HasReason, History}
+use Rattle.ee_client.proofs.Keeping.{Past, WasReused, IsAtOr, IsWaiting, OpenFits, RequestFits, Fits, EndsRight, IsFirst, PhaseFits, HasReason, History}
 
 in_more : {A : Type 0} (more xs : List A) (x : A) → Contains xs x → Contains (more ++ xs) x
 in_more [] xs x c = c
@@ -70,8 +69,8 @@ module _ (first d : ℕ) (p : Past) (names : List ℕ) where
   phase_asked stopped o (Was_told outcome) h = ends_asked (Some outcome) o h
 
   reason_asked : (s : Shown) (outcome : Outcome) → HasReason d p s outcome → HasReason d (with_asked p names) s outcome
-  reason_asked s Done h = record { reply = h.reply; is = h.is; own = h.own; told = h.told; sent = h.sent }
-  reason_asked s Was_refused h = record { reply = h.reply; is = h.is; own = h.own; told = h.told; sent = h.sent }
+  reason_asked s Done h = record { reply = h.reply; is = h.is; own = h.own; kind_is = h.kind_is; told = h.told; sent = h.sent }
+  reason_asked s Was_refused h = record { reply = h.reply; is = h.is; own = h.own; kind_is = h.kind_is; told = h.told; sent = h.sent }
   reason_asked s NotDone h = h
   reason_asked s GivenUp h = tt
 
@@ -201,8 +200,8 @@ module _ (acts : ℕ → ℕ → Act) (first d : ℕ) (p : Past) (next : ℕ) (o
       by_case false other = (old.0, (λ is. absurd (true≢false (sym (eq-eqb o.act act is) ∙ other)), old.1))
 
   reason_sent : (s : Shown) (outcome : Outcome) → (outcome ≡ NotDone → s.act ≢ o.act) → HasReason d p s outcome → HasReason d (with_sent p sending) s outcome
-  reason_sent s Done ne h = record { reply = h.reply; is = h.is; own = h.own; told = h.told; sent = (h.sent.0, in_tail sending p.sent h.sent.0 h.sent.1, h.sent.2, h.sent.3) }
-  reason_sent s Was_refused ne h = record { reply = h.reply; is = h.is; own = h.own; told = h.told; sent = (h.sent.0, in_tail sending p.sent h.sent.0 h.sent.1, h.sent.2, h.sent.3) }
+  reason_sent s Done ne h = record { reply = h.reply; is = h.is; own = h.own; kind_is = h.kind_is; told = h.told; sent = (h.sent.0, in_tail sending p.sent h.sent.0 h.sent.1, h.sent.2, h.sent.3) }
+  reason_sent s Was_refused ne h = record { reply = h.reply; is = h.is; own = h.own; kind_is = h.kind_is; told = h.told; sent = (h.sent.0, in_tail sending p.sent h.sent.0 h.sent.1, h.sent.2, h.sent.3) }
   reason_sent s NotDone ne h = (λ is. absurd (ne refl (sym is)), h)
   reason_sent s GivenUp ne h = tt
 
@@ -248,8 +247,8 @@ module _ (first d : ℕ) (p : Past) (s : Shown) where
   }
     where
       reason_shown : (t : Shown) (outcome : Outcome) → HasReason d p t outcome → HasReason d (with_shown p s) t outcome
-      reason_shown t Done h = record { reply = h.reply; is = h.is; own = h.own; told = h.told; sent = h.sent }
-      reason_shown t Was_refused h = record { reply = h.reply; is = h.is; own = h.own; told = h.told; sent = h.sent }
+      reason_shown t Done h = record { reply = h.reply; is = h.is; own = h.own; kind_is = h.kind_is; told = h.told; sent = h.sent }
+      reason_shown t Was_refused h = record { reply = h.reply; is = h.is; own = h.own; kind_is = h.kind_is; told = h.told; sent = h.sent }
       reason_shown t NotDone h = h
       reason_shown t GivenUp h = tt
 

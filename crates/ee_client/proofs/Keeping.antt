@@ -1,16 +1,14 @@
 -- What holds of a desk, whatever happens.
-use Rattle.std.proofs.Common.{◌≡◌, ◌≢◌, ◌⊎◌, inl, inr, ℕ, zero, suc, ◌+◌, ◌*◌, ◌-◌, ◌^◌, ◌<◌, ◌≤◌, min, Bool, true, false, cond, eqb, List, [], ◌∷◌, ◌++◌, Option, Some, None, true≢false, arith, refl, sym, ap, ◌∙◌, subst}
-use Rattle.std.specs.Prelude.{IfSome, ⊤, nat_le}
+use Rattle.std.proofs.Common.{◌≡◌, ◌≢◌, ◌⊎◌, inl, inr, ℕ, ◌+◌, ◌<◌, ◌≤◌, Bool, true, List, ◌∷◌, Option, Some, None}
+use Rattle.std.specs.Prelude.{IfSome, ⊤}
 use Rattle.std.specs.List.{AllByRecursion, Contains}
-use Rattle.std.proofs.lemmas.Bool.{eqb-true, eq-eqb}
 use Rattle.ee_desk_model.specs.declared.acts.Act.{Act}
-use Rattle.ee_desk_model.specs.declared.acts.Request.{Request}
 use Rattle.ee_desk_model.specs.declared.refusals.Refusal.TheVariants.{NumberReused}
 use Rattle.ee_desk_model.specs.declared.replies.Reply.{Reply}
 use Rattle.ee_desk_model.specs.declared.replies.Reply.TheVariants.{Refused}
-use Rattle.ee_desk_model.proofs.Lemmas.Maps.{all_weaker, all_both}
+use Rattle.ee_desk_model.proofs.Lemmas.Maps.{all_weaker}
 use Rattle.ee_desk_laws.specs.Events.{Told}
-use Rattle.ee_desk_laws.proofs.Lemmas.{contained, at_head, in_tail}
+use Rattle.ee_desk_laws.proofs.Lemmas.{in_tail}
 use Rattle.ee_client.specs.declared.journals.Open.{Open}
 use Rattle.ee_client.specs.declared.journals.Journal.{Journal}
 use Rattle.ee_client.specs.declared.events.Answer.{Answer}
@@ -19,9 +17,7 @@ use Rattle.ee_client.specs.declared.events.Outcome.{Outcome}
 use Rattle.ee_client.specs.declared.events.Outcome.TheVariants.{Done, Refused as Was_refused, NotDone, GivenUp}
 use Rattle.ee_client.specs.declared.machines.Phase.{Phase}
 use Rattle.ee_client.specs.declared.machines.Phase.TheVariants.{Rest, Writing, Sent, Told as Was_told}
-use Rattle.ee_client.specs.declared.machines.Machine.{Machine}
-use Rattle.ee_client.specs.Turns.{capped, with_new, with_sending, with_higher, without}
-use Rattle.ee_client.specs.Desks.{Sending, Shown, Desk, answer_in, request_for, IsOther, AreNew, names_of}
+use Rattle.ee_client.specs.Desks.{Sending, Shown, Desk, answer_in, request_for}
 
 -- what happened at a desk: the replies that the counter gave, the names of acts, what was sent, and what was shown
 pub record Past : Type 0 where
@@ -92,16 +88,17 @@ PhaseFits first d p stopped o Sent = stopped ≡ true → IsFirst p o
 PhaseFits first d p stopped o (Was_told outcome) = EndsRight d p (Some outcome) o
 
 -- what is shown has its reason
-pub record HasReply (d : ℕ) (p : Past) (s : Shown) : Type 0 where
+pub record HasReply (d : ℕ) (p : Past) (s : Shown) (kind : Answer) : Type 0 where
   pub reply : Reply
   pub is : s.reply ≡ Some reply
   pub own : reply ≢ Refused NumberReused
+  pub kind_is : answer_in reply ≡ kind
   pub told : (t : Told) × Contains p.told t × (t.request.desk ≡ d) × (t.request.number ≡ s.number) × (t.reply ≡ reply)
   pub sent : (x : Sending) × Contains p.sent x × (x.request.number ≡ s.number) × (x.act ≡ s.act)
 
 abbrev pub HasReason : ℕ → Past → Shown → Outcome → Type 0
-HasReason d p s Done = HasReply d p s
-HasReason d p s Was_refused = HasReply d p s
+HasReason d p s Done = HasReply d p s answer.Done
+HasReason d p s Was_refused = HasReply d p s answer.Refused
 HasReason d p s NotDone = AllByRecursion (λ x. x.act ≡ s.act → WasReused p.told d x.request.number) p.sent
 HasReason d p s GivenUp = ⊤
 
@@ -182,12 +179,19 @@ module _ (first d : ℕ) (p : Past) (t : Told) where
   phase_told stopped o Sent h = λ is. first_told o (h is)
   phase_told stopped o (Was_told outcome) h = ends_told (Some outcome) o h
 
-  reply_told : (s : Shown) → HasReply d p s → HasReply d (with_told p t) s
-  reply_told s h = record { reply = h.reply; is = h.is; own = h.own; told = (h.told.0, in_tail t p.told h.told.0 h.told.1, h.told.2, h.told.3, h.told.4); sent = h.sent }
+  reply_told : (s : Shown) (kind : Answer) → HasReply d p s kind → HasReply d (with_told p t) s kind
+  reply_told s kind h = record {
+    reply = h.reply;
+    is = h.is;
+    own = h.own;
+    kind_is = h.kind_is;
+    told = (h.told.0, in_tail t p.told h.told.0 h.told.1, h.told.2, h.told.3, h.told.4);
+    sent = h.sent;
+  }
 
   reason_told : (s : Shown) (outcome : Outcome) → HasReason d p s outcome → HasReason d (with_told p t) s outcome
-  reason_told s Done h = reply_told s h
-  reason_told s Was_refused h = reply_told s h
+  reason_told s Done h = reply_told s answer.Done h
+  reason_told s Was_refused h = reply_told s answer.Refused h
   reason_told s NotDone h = reused_all s.act h
   reason_told s GivenUp h = tt
 

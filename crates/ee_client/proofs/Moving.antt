@@ -1,6 +1,6 @@
 -- What holds of a desk holds after each event.
-use Rattle.std.proofs.Common.{◌≡◌, ◌≢◌, ◌⊎◌, inl, inr, ℕ, zero, suc, ◌+◌, ◌<◌, ◌≤◌, Bool, true, false, cond, not, nat_eq, List, [], ◌∷◌, ◌++◌, Option, Some, None, true≢false, arith, refl, sym, ap, ◌∙◌, subst}
-use Rattle.std.specs.Prelude.{IfSome, ⊤, ◌==◌, nat_le}
+use Rattle.std.proofs.Common.{◌≡◌, ◌≢◌, ◌⊎◌, inl, inr, ℕ, Bool, true, false, cond, List, [], ◌∷◌, Option, Some, None, true≢false, arith, refl, sym, ap, ◌∙◌, subst}
+use Rattle.std.specs.Prelude.{IfSome, ◌==◌, nat_le}
 use Rattle.std.specs.List.{AllByRecursion, Contains}
 use Rattle.std.proofs.lemmas.Bool.{eqb-true, eqb-false, eq-eqb}
 use Rattle.ee_desk_model.specs.declared.acts.Act.{Act}
@@ -22,16 +22,15 @@ use Rattle.ee_client.specs.declared.events.Outcome.{Outcome}
 use Rattle.ee_client.specs.declared.events.Outcome.TheVariants.{Done, Refused as Was_refused, NotDone, GivenUp}
 use Rattle.ee_client.specs.declared.events.Event.{Event}
 use Rattle.ee_client.specs.declared.events.Event.TheVariants.{Submit, GoOn, Written, Unwritten, Answered, GiveUp, Killed}
-use Rattle.ee_client.specs.declared.events.Action.{Action}
 use Rattle.ee_client.specs.declared.events.Action.TheVariants.{Send, Wait, Refuse}
 use Rattle.ee_client.specs.declared.machines.Phase.{Phase}
 use Rattle.ee_client.specs.declared.machines.Phase.TheVariants.{Rest, Writing, Sent, Told as Was_told}
 use Rattle.ee_client.specs.declared.machines.Machine.{Machine}
 use Rattle.ee_client.specs.declared.machines.Turn.{Turn}
-use Rattle.ee_client.specs.Turns.{with_new, with_sending, with_higher, without, follower_after, rests, writes, writes_new, shows, submitted, settles, gone_on, shows_dropped, after_write, written, unwritten, answered_to, answered, given_up, killed, turn}
-use Rattle.ee_client.specs.Desks.{Sending, Shown, Desk, answer_in, names_of, IsOther, AreNew, CanAnswer, CanHappenAt, asked_with, request_for, after_turn, moved, new_desk}
+use Rattle.ee_client.specs.Turns.{with_new, with_sending, with_higher, without, follower_after, rests, writes, writes_new, shows, submitted, settles, gone_on, shows_dropped, after_write, written, unwritten, answered_to, answered, given_up, killed}
+use Rattle.ee_client.specs.Desks.{Sending, Shown, Desk, answer_in, AreNew, CanAnswer, CanHappenAt, after_turn, moved, new_desk}
 use Rattle.ee_client.proofs.Keeping.{Past, WasReused, IsAtOr, IsWaiting, OpenFits, RequestFits, Fits, EndsRight, IsFirst, PhaseFits, HasReply, HasReason, History, past_of, Keeps}
-use Rattle.ee_client.proofs.Growing.{with_asked, fits_asked, phase_asked, history_asked, waits, new_fits, sending_fits, sending_first, higher_fits, without_fits, with_sent, history_sent, fits_sent, with_shown, history_shown, fits_shown, dropped_shown}
+use Rattle.ee_client.proofs.Growing.{fits_asked, phase_asked, history_asked, waits, new_fits, sending_fits, sending_first, higher_fits, without_fits, history_sent, fits_sent, with_shown, history_shown, fits_shown, dropped_shown}
 
 module _ (acts : ℕ → ℕ → Act) (first d : ℕ) (told : List Told) (k : Desk) (passes : Bool) (said : Option Reply) (h : History acts first d (past_of told k)) where
   abbrev past : Past
@@ -254,13 +253,13 @@ module _ (acts : ℕ → ℕ → Act) (first d : ℕ) (told : List Told) (k : De
   Replied u = Keeps acts first d told (after_turn acts d k true (Some t.reply) u)
 
   -- a reply is shown of the request that it is for
-  showing : (m : Machine) (o : Open) (outcome : Outcome) → Fits first d (past_of told k) m.journal → OpenFits first d (past_of told k) m.journal.next o → t.request.number ≡ o.number
+  showing : (m : Machine) (o : Open) (outcome : Outcome) (kind : Answer) → answer_in t.reply ≡ kind → Fits first d (past_of told k) m.journal → OpenFits first d (past_of told k) m.journal.next o → t.request.number ≡ o.number
       → t.reply ≢ Refused NumberReused → outcome ≢ NotDone
-      → (HasReply d (past_of told k) (record { act = o.act; number = o.number; outcome = outcome; reply = Some t.reply })
+      → (HasReply d (past_of told k) (record { act = o.act; number = o.number; outcome = outcome; reply = Some t.reply }) kind
       → HasReason d (past_of told k) (record { act = o.act; number = o.number; outcome = outcome; reply = Some t.reply }) outcome)
       → ((q : Past) (o : Option Open) → EndsRight d q (Some outcome) o)
       → Replied (shows m (Was_told outcome) o outcome)
-  showing m o outcome j r at own ne reason ends =
+  showing m o outcome kind is_kind j r at own ne reason ends =
       let s : Shown = record { act = o.act; number = o.number; outcome = outcome; reply = Some t.reply } in
       let at_x : x.request.number ≡ o.number = ap (λ (q : Request). q.number) was ∙ at in
       record {
@@ -268,6 +267,7 @@ module _ (acts : ℕ → ℕ → Act) (first d : ℕ) (told : List Told) (k : De
           reply = t.reply;
           is = refl;
           own = own;
+          kind_is = is_kind;
           told = (t, c, here, at, refl);
           sent = (x, sent, at_x, contained (λ y. y.request.number ≡ o.number → y.act ≡ o.act) k.sent x r.own sent at_x);
         }));
@@ -285,9 +285,9 @@ module _ (acts : ℕ → ℕ → Act) (first d : ℕ) (told : List Told) (k : De
     where
       by_answer : t.request.number ≡ o.number → (a : Answer) → a ≡ answer_in t.reply → Replied (answered_to m o a)
       by_answer own answer.Done is =
-          showing m o Done j r own (isn't_reused t.reply (λ reused. let no : answer.Done ≡ answer.Reused = is ∙ reused in cc)) (λ no. cc) (λ g. g) (λ q o. tt)
+          showing m o Done answer.Done (sym is) j r own (isn't_reused t.reply (λ reused. let no : answer.Done ≡ answer.Reused = is ∙ reused in cc)) (λ no. cc) (λ g. g) (λ q o. tt)
       by_answer own answer.Refused is =
-          showing m o Was_refused j r own (isn't_reused t.reply (λ reused. let no : answer.Refused ≡ answer.Reused = is ∙ reused in cc)) (λ no. cc) (λ g. g) (λ q o. tt)
+          showing m o Was_refused answer.Refused (sym is) j r own (isn't_reused t.reply (λ reused. let no : answer.Refused ≡ answer.Reused = is ∙ reused in cc)) (λ no. cc) (λ g. g) (λ q o. tt)
       by_answer own answer.Reused is =
           writing_new acts first d told k true (Some t.reply) h m Rest (with_higher o) None j tt
           (higher_fits first d (past_of told k) m.journal o j r (t, c, here, own, told_reused t.reply (sym is))) tt (λ one. absurd (omega (arith, one)))

@@ -1,38 +1,32 @@
 -- What is open can be settled by sending it again.
-use Rattle.std.proofs.Common.{◌≡◌, ◌≢◌, ◌⊎◌, inl, inr, ℕ, ◌+◌, ◌-◌, ◌^◌, ◌<◌, ◌≤◌, min, Bool, true, false, cond, not, nat_eq, List, [], ◌∷◌, ◌++◌, Option, Some, None, true≢false, arith, refl, sym, ap, ◌∙◌, subst}
-use Rattle.std.specs.Prelude.{◌==◌, ⊤}
-use Rattle.std.specs.List.{AllByRecursion, Contains}
-use Rattle.std.specs.FinMap as finite
+use Rattle.std.proofs.Common.{◌≡◌, ◌≢◌, inl, inr, ℕ, ◌+◌, ◌≤◌, Bool, true, false, cond, List, [], ◌∷◌, ◌++◌, Some, None, true≢false, arith, refl, sym, ap, ◌∙◌, subst}
+use Rattle.std.specs.Prelude.{◌==◌}
+use Rattle.std.specs.List.{Contains}
 use Rattle.std.proofs.lemmas.Bool.{eq-eqb, ne_eqb}
 use Rattle.ee_desk_model.specs.declared.acts.Act.{Act}
 use Rattle.ee_desk_model.specs.declared.acts.Request.{Request}
 use Rattle.ee_desk_model.specs.declared.refusals.Refusal.TheVariants.{NumberReused}
-use Rattle.ee_desk_model.specs.declared.replies.Reply.{Reply}
 use Rattle.ee_desk_model.specs.declared.replies.Reply.TheVariants.{Refused}
 use Rattle.ee_desk_model.specs.Answers.{answer}
-use Rattle.ee_desk_model.specs.Numbers.{number_of}
-use Rattle.ee_desk_model.specs.Repeats.{Content}
-use Rattle.ee_desk_laws.specs.Events.{Told, World, decided}
+use Rattle.ee_desk_laws.specs.Events.{Told, decided}
 use Rattle.ee_desk_laws.specs.Events.Event.{Deliver, Reopen}
 use Rattle.ee_desk_laws.proofs.Lemmas.{at_head}
 use Rattle.ee_client.specs.declared.journals.Open.{Open}
 use Rattle.ee_client.specs.declared.journals.Journal.{Journal}
 use Rattle.ee_client.specs.declared.events.Answer.{Answer}
 use Rattle.ee_client.specs.declared.events.Answer.TheVariants as answer_kind
-use Rattle.ee_client.specs.declared.events.Outcome.{Outcome}
-use Rattle.ee_client.specs.declared.events.Outcome.TheVariants.{Done, Refused as Was_refused, NotDone, GivenUp}
+use Rattle.ee_client.specs.declared.events.Outcome.TheVariants.{Done, Refused as Was_refused}
 use Rattle.ee_client.specs.declared.events.Event.TheVariants.{GoOn, Written, Answered, Killed}
 use Rattle.ee_client.specs.declared.events.Action.TheVariants.{Send, Wait}
-use Rattle.ee_client.specs.declared.machines.Phase.TheVariants.{Rest, Writing, Sent, Told as Was_told}
+use Rattle.ee_client.specs.declared.machines.Phase.TheVariants.{Rest, Writing, Sent}
 use Rattle.ee_client.specs.declared.machines.Machine.{Machine}
-use Rattle.ee_client.specs.declared.machines.Turn.{Turn}
-use Rattle.ee_client.specs.Turns.{capped, with_sending, rests, writes, gone_on, answered_to, turn}
-use Rattle.ee_client.specs.Desks.{Sending, Shown, Desk, Bank, Happening, answer_in, request_for, after_turn, moved, with_desk, Goes, GoOnward, opened}
+use Rattle.ee_client.specs.Turns.{capped, with_sending, rests, writes, gone_on, answered_to}
+use Rattle.ee_client.specs.Desks.{Shown, Desk, Bank, Happening, answer_in, request_for, after_turn, moved, with_desk, GoOnward, opened}
 use Rattle.ee_client.specs.Desks.Happening.{At_counter, At_desk, Reply_at}
-use Rattle.ee_client.specs.EndToEnd.{IsFresh, EndToEnd, HasReply, Settles}
+use Rattle.ee_client.specs.EndToEnd.{EndToEnd, HasReply, Settles}
 use Rattle.ee_client.proofs.Keeping.{RequestFits, past_of}
 use Rattle.ee_client.proofs.Moving.{told_reused, isn't_fault}
-use Rattle.ee_client.proofs.Whole.{Holds, goes_onward, begins}
+use Rattle.ee_client.proofs.Whole.{goes_onward, begins}
 
 onward_append : (acts : ℕ → ℕ → Act) (some others : List Happening) (a b c : Bank) → GoOnward acts a some b → GoOnward acts b others c → GoOnward acts a (some ++ others) c
 onward_append acts [] others a b c is on = subst (λ z. GoOnward acts z others c) is on

@@ -1,6 +1,6 @@
 -- What holds of all desks and the counter, whatever happens.
-use Rattle.std.proofs.Common.{◌≡◌, ◌≢◌, ◌⊎◌, inl, inr, ℕ, Bool, true, false, cond, nat_eq, List, [], ◌∷◌, Option, Some, None, true≢false, refl, sym, ap, ◌∙◌, subst}
-use Rattle.std.specs.Prelude.{IfSome, ⊤, ◌==◌}
+use Rattle.std.proofs.Common.{◌≡◌, ◌⊎◌, inl, inr, ℕ, Bool, true, false, cond, List, [], ◌∷◌, Option, Some, None, refl, sym, ap, subst}
+use Rattle.std.specs.Prelude.{IfSome, ◌==◌}
 use Rattle.std.specs.List.{AllByRecursion, Contains}
 use Rattle.std.proofs.lemmas.Bool.{eqb-true}
 use Rattle.ee_desk_model.specs.declared.acts.Act.{Act}
@@ -18,7 +18,7 @@ use Rattle.ee_client.specs.declared.events.Event.TheVariants.{Answered}
 use Rattle.ee_client.specs.declared.events.Action.{Action}
 use Rattle.ee_client.specs.declared.events.Action.TheVariants.{Write, Send, Show, Wait, Refuse}
 use Rattle.ee_client.specs.Turns.{turn}
-use Rattle.ee_client.specs.Desks.{Sending, Desk, Bank, Happening, answer_in, asked_with, request_for, after_action, moved, with_desk, WasSent, Goes, GoOnward, counter_events, opened}
+use Rattle.ee_client.specs.Desks.{Sending, Desk, Bank, Happening, answer_in, asked_with, after_action, moved, with_desk, WasSent, Goes, GoOnward, counter_events, opened}
 use Rattle.ee_client.specs.Desks.Happening.{At_counter, At_desk, Reply_at}
 use Rattle.ee_client.proofs.Keeping.{Keeps, keeps_told}
 use Rattle.ee_client.proofs.Moving.{event_keeps, reply_keeps, new_keeps}

@@ -1,5 +1,5 @@
 -- Journals, events and turns in plain numbers.
-use Rattle.std.specs.Prelude.{ℕ, Bool, not, ◌==◌, Option, Some, None, unwrap_or, if◌then◌else◌}
+use Rattle.std.specs.Prelude.{ℕ, not, ◌==◌, Option, Some, None, unwrap_or, if◌then◌else◌}
 use Rattle.ee_client.specs.declared.calls.ClientJournal.{ClientJournal}
 use Rattle.ee_client.specs.declared.calls.ClientEvent.{ClientEvent}
 use Rattle.ee_client.specs.declared.calls.ClientTurn.{ClientTurn}

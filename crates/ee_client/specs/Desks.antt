@@ -3,8 +3,6 @@ use Rattle.std.specs.Prelude.{◌≡◌, ℕ, Bool, true, false, not, ◌==◌, 
 use Rattle.std.specs.List.{AllByRecursion}
 use Rattle.ee_desk_model.specs.declared.acts.Act.{Act}
 use Rattle.ee_desk_model.specs.declared.acts.Request.{Request}
-use Rattle.ee_desk_model.specs.declared.refusals.Refusal.{Refusal}
-use Rattle.ee_desk_model.specs.declared.refusals.Refusal.TheVariants.{NumberReused}
 use Rattle.ee_desk_model.specs.declared.replies.Reply.{Reply}
 use Rattle.ee_desk_model.specs.declared.replies.Reply.TheVariants.{Refused}
 use Rattle.ee_desk_model.specs.Codes.{code_of}
@@ -15,7 +13,7 @@ use Rattle.ee_client.specs.declared.events.Answer.{Answer}
 use Rattle.ee_client.specs.declared.events.Answer.TheVariants as answer
 use Rattle.ee_client.specs.declared.events.Outcome.{Outcome}
 use Rattle.ee_client.specs.declared.events.Event.{Event}
-use Rattle.ee_client.specs.declared.events.Event.TheVariants.{Submit, GoOn, Written, Unwritten, Answered, GiveUp, Killed}
+use Rattle.ee_client.specs.declared.events.Event.TheVariants.{Submit, Answered}
 use Rattle.ee_client.specs.declared.events.Action.{Action}
 use Rattle.ee_client.specs.declared.events.Action.TheVariants.{Send, Show}
 use Rattle.ee_client.specs.declared.machines.Phase.TheVariants.{Rest}

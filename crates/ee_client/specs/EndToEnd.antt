@@ -1,20 +1,25 @@
 -- From a teller's act to the books and back (this project's rule).
-use Rattle.std.specs.Prelude.{◌≡◌, ℕ, ◌≤◌, ◌&&◌, Bool, true, false, ◌==◌, List, Contains, count_by, Option, Some, ⊤}
+use Rattle.std.specs.Prelude.{◌≡◌, ℕ, ◌≤◌, ◌&&◌, Bool, true, false, ◌==◌, List, Contains, count_by, Some, ⊤}
 use Rattle.std.specs.List.{AllByRecursion, list_any}
 use Rattle.std.specs.FinMap as finite
 use Rattle.ee_desk_model.specs.declared.acts.Act.{Act}
 use Rattle.ee_desk_model.specs.declared.acts.Request.{Request}
+use Rattle.ee_desk_model.specs.declared.refusals.Refusal.{Refusal}
 use Rattle.ee_desk_model.specs.declared.refusals.Refusal.TheVariants.{NumberReused}
 use Rattle.ee_desk_model.specs.declared.replies.Reply.{Reply}
 use Rattle.ee_desk_model.specs.declared.replies.Reply.TheVariants as reply
+use Rattle.ee_desk_model.specs.Acts.{books_after, reply_to}
 use Rattle.ee_desk_model.specs.Numbers.{same_number, number_of}
 use Rattle.ee_desk_model.specs.Paid.{paid_lines, NoneTwice}
+use Rattle.ee_desk_model.specs.PlainBooks.{PlainBooks}
 use Rattle.ee_desk_model.specs.Ranges.{IsActInRange}
 use Rattle.ee_desk_model.specs.Sound.{IsSound}
 use Rattle.ee_desk_model.specs.Repeats.{Content, once}
 use Rattle.ee_desk_model.specs.Contents.{content_after}
 use Rattle.ee_desk_laws.specs.Stops.{AreDone}
 use Rattle.ee_client.specs.declared.journals.Open.{Open}
+use Rattle.ee_client.specs.declared.events.Answer.{Answer}
+use Rattle.ee_client.specs.declared.events.Answer.TheVariants as answer
 use Rattle.ee_client.specs.declared.events.Outcome.{Outcome}
 use Rattle.ee_client.specs.declared.events.Outcome.TheVariants.{Done, Refused, NotDone, GivenUp}
 use Rattle.ee_client.specs.Desks.{Sending, Shown, Desk, Bank, Happening, answer_in, GoOnward, counter_events, opened}
@@ -27,18 +32,19 @@ is_for sent act q = list_any (λ x. (x.act == act) && same_number (number_of x.r
 abbrev pub times : Content → List Request → Desk → ℕ → ℕ
 times start done desk act = count_by (is_for desk.sent act) (once start done)
 
--- the reply that was shown is the one that the books keep under that number, for that act; if the start didn't keep that number, the
--- act was decided once
-pub record IsKept (acts : ℕ → ℕ → Act) (start now : Content) (done : List Request) (d : ℕ) (desk : Desk) (shown : Shown) : Type 0 where
+-- the reply that was shown, of this kind, is the one that the books keep under that number, for that act; if the start didn't keep
+-- that number, the act was decided once
+pub record IsKept (acts : ℕ → ℕ → Act) (start now : Content) (done : List Request) (d : ℕ) (desk : Desk) (shown : Shown) (kind : Answer) : Type 0 where
   pub reply : Reply
   pub shows : shown.reply ≡ Some reply
+  pub is : answer_in reply ≡ kind
   pub kept : finite.get now.kept (d, shown.number) ≡ Some (record { act = acts d shown.act; reply = reply })
   pub once : finite.contains_key start.kept (d, shown.number) ≡ false → times start done desk shown.act ≡ 1
 
 -- what is shown is so
 abbrev pub IsSo : (ℕ → ℕ → Act) → Content → Content → List Request → ℕ → Desk → Shown → Outcome → Type 0
-IsSo acts start now done d desk shown Done = IsKept acts start now done d desk shown
-IsSo acts start now done d desk shown Refused = IsKept acts start now done d desk shown
+IsSo acts start now done d desk shown Done = IsKept acts start now done d desk shown answer.Done
+IsSo acts start now done d desk shown Refused = IsKept acts start now done d desk shown answer.Refused
 IsSo acts start now done d desk shown NotDone = times start done desk shown.act ≡ 0
 IsSo acts start now done d desk shown GivenUp = ⊤
 
@@ -72,3 +78,7 @@ Settles = (acts : ℕ → ℕ → Act) (start : Content) (most : ℕ) (first : �
     → GoOnward acts (opened start most first) happenings bank
     → (d : ℕ) (o : Open) → (bank.desk d).machine.journal.request ≡ Some o → IsFresh start d (first d)
     → (more : List Happening) × (after : Bank) × (s : Shown) × GoOnward acts bank more after × Contains (after.desk d).shown s × (s.act ≡ o.act) × HasReply s.outcome
+
+-- an act that is refused leaves the books as they are
+abbrev pub RefusalsChangeNothing : Type 0
+RefusalsChangeNothing = (books : PlainBooks) (asked : Act) (refusal : Refusal) → reply_to books asked ≡ reply.Refused refusal → books_after books asked ≡ books

@@ -1,6 +1,6 @@
 -- The rules by which a request gets its one reply (this project's own). The request is written into the journal, with its number,
 -- before it is sent. It is sent again under that number until its reply has come. There is one request at a time.
-use Rattle.std.specs.Prelude.{ℕ, ◌+◌, ◌*◌, ◌-◌, ◌^◌, min, Bool, true, false, ◌==◌, nat_le, Option, Some, None, if◌then◌else◌}
+use Rattle.std.specs.Prelude.{ℕ, ◌+◌, ◌*◌, ◌-◌, ◌^◌, min, Bool, true, ◌==◌, nat_le, Option, Some, None, if◌then◌else◌}
 use Rattle.ee_client.specs.declared.journals.Open.{Open}
 use Rattle.ee_client.specs.declared.journals.Journal.{Journal}
 use Rattle.ee_client.specs.declared.events.Answer.{Answer}

@@ -1,6 +1,6 @@
 //! The law from a teller's act to the books and back. A body here does nothing; the clauses state the law.
 
-ghost use Rattle.ee_client.specs.EndToEnd.{EndToEnd, Settles};
+ghost use Rattle.ee_client.specs.EndToEnd.{EndToEnd, RefusalsChangeNothing, Settles};
 
 use ee_desk_laws::stops_and_retries_law;
 use ee_desk_model::acts_keep_sound_law;
@@ -18,10 +18,11 @@ use ee_desk_model::acts_keep_sound_law;
 ///   was lost, or taken back from a copy.
 /// - `bonds`: if the books were sound, no serial number is on two tickets.
 ///
-/// And `settles`: if the books keep no number from the journal's first on, a request that is open can be settled by
+/// An act that is refused changes nothing (`refused`). And `settles`: if the books keep no number from the journal's first on, a request that is open can be settled by
 /// sending it again.
 pub const fn end_to_end_law()
     ensures holds { EndToEnd }
+    ensures refused { RefusalsChangeNothing }
     ensures settles { Settles }
 {
     stops_and_retries_law();
