@@ -42,7 +42,7 @@ enum {
     EE_CLIENT_REFUSED = 2, /* a refusal other than NumberReused */
     EE_CLIENT_REUSED = 3,  /* NumberReused */
     EE_CLIENT_FAULT = 4,   /* a fault of what was sent, or that this user may not do it */
-    EE_CLIENT_NOTHING = 5  /* no answer, or one that tells nothing of what was sent */
+    EE_CLIENT_NOTHING = 5  /* no answer, or one that says nothing of the request */
 };
 
 struct ee_client_event {
