@@ -7,6 +7,7 @@ that is shown has to be the machine's. Wrong clients are found within a minute."
 from __future__ import annotations
 
 import itertools
+import subprocess
 import time
 from pathlib import Path
 from typing import Callable, Sequence, Union
@@ -29,6 +30,7 @@ from tests.client_machine.machine import DONE, NOT_DONE, REFUSED, Library
 from tests.client_machine.page_client import Node, PageClient
 from tests.client_machine.python_client import PythonClient, package
 
+TOP = Path(__file__).resolve().parents[2]
 #: The steps of a client: quickly, and at length.
 STEPS = [1_000, pytest.param(10_000, marks=pytest.mark.slow)]
 FATES = st.lists(st.sampled_from(Fate), max_size=4)
@@ -117,6 +119,35 @@ def run(started: Callable[[int], Client], examples: int, is_shrunk: bool = False
         ),
     )
     return steps[0]
+
+
+#: A submitted act is written with the next number, counted once it is written, and then sent.
+PROGRAM = """
+#include <stdio.h>
+#include "ee_client.h"
+
+int main(void) {
+    struct ee_client_journal journal = {1, 0, 0, 0, 0, 0};
+    struct ee_client_event events[] = {
+        {EE_CLIENT_SUBMIT, 0, 5, 0, 0}, {EE_CLIENT_WRITTEN, 0, 0, 0, 0}, {EE_CLIENT_WRITTEN, 0, 0, 0, 0}};
+    for (size_t count = 1; count <= 3; count++) {
+        struct ee_client_turn turn;
+        ee_client_turn(100, &journal, events, count, &turn);
+        printf("%d %d %d %d %d %d\\n", (int)turn.action, (int)turn.number, (int)turn.act,
+               (int)turn.written.next, (int)turn.written.number, (int)turn.written.sent);
+    }
+    return 0;
+}
+"""
+
+
+def test_header(built: Path) -> None:
+    """The header says what the library has."""
+    (built / "program.c").write_text(PROGRAM)
+    words = ["cc", "-Wall", "-Werror", f"-I{TOP / 'include'}", "program.c", "libee_client.so"]
+    subprocess.run([*words, "-Wl,-rpath,.", "-o", "program"], cwd=built, check=True)
+    ran = subprocess.run(["./program"], cwd=built, check=True, stdout=subprocess.PIPE, text=True)
+    assert ran.stdout.split("\n") == ["1 0 0 2 1 0", "1 0 0 2 1 1", "2 1 5 2 1 1", ""]
 
 
 def run_whole(started: Callable[[int], Client], least: int) -> None:
