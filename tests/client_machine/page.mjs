@@ -59,11 +59,6 @@ function ended(promise) {
   );
 }
 
-// Signed out, the page pauses until it is woken.
-function step(own, told) {
-  if (told.step === "pausing" && told.milliseconds === null) ask({ pause: null }).then(() => own === life && sender.sendNow());
-}
-
 const machine = (await WebAssembly.instantiate(await readFile(wasm), {})).instance.exports;
 
 // 6 numbers of the journal, 16 of the turn, and then 5 for each event, behind all that the module has for itself.
@@ -80,8 +75,7 @@ function turn(most, journal, events) {
 const COMMANDS = {
   start: ({ record }) => {
     life += 1;
-    const own = life;
-    sender = new Sender(new Journal(record), (told) => step(own, told));
+    sender = new Sender(new Journal(record), () => {});
     tell({ started: true });
   },
   submit: ({ path, fields, more }) => ended(sender.submit(path, fields, more)),

@@ -118,6 +118,7 @@ class PageClient:
         self.record: Json = {"desk": 3, "next": first, "open": None}
         self.beside = Beside(node, MOST, Record(first))
         self.shown: dict[int, int] = {}
+        self.followers: dict[int, int] = {}
         self.start()
 
     def close(self) -> None:
@@ -203,6 +204,8 @@ class PageClient:
         then = dict(zip(("path", "fields"), redemption(follower)))
         more: Json = {"then": then} if follower else {}
         self.beside.happens(SUBMIT, act=act, follower=follower)
+        if follower and not self.is_open:
+            self.followers[follower] = act
         self.node.does("submit", path=path, fields=fields, more=more)
         if self.is_open:
             assert self.beside.turn.action == REFUSE

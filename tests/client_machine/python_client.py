@@ -109,6 +109,7 @@ class PythonClient:
         Path(self.journal).write_text(json.dumps(start, separators=(",", ":")) + "\n")
         self.beside = Beside(machine, MOST, Record(first))
         self.shown: dict[int, int] = {}
+        self.followers: dict[int, int] = {}
         self.client = self.started()
 
     def close(self) -> None:

@@ -86,11 +86,13 @@ def rules(started: Callable[[int], Client], steps: list[int]) -> type[RuleBasedS
 
         @invariant()
         def is_so(self) -> None:
-            """What the client showed is so, and no act acted twice."""
+            """What the client showed is so; no act acts twice, nor one whose registration didn't."""
             if not hasattr(self, "client"):
                 return
             acted = self.client.counter.acted
             assert all(times == 1 for times in acted.values()), acted
+            for follower, act in self.client.followers.items():
+                assert acted.get(follower, 0) <= acted.get(act, 0), (act, follower)
             for act, outcome in self.client.shown.items():
                 if outcome in (DONE, REFUSED, NOT_DONE):
                     assert acted.get(act, 0) == int(outcome == DONE), (act, outcome)
