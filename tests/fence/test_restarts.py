@@ -9,6 +9,7 @@ import os
 import signal
 import sqlite3
 import threading
+import time
 from concurrent.futures import ThreadPoolExecutor
 from pathlib import Path
 from typing import Any, Iterator
@@ -26,6 +27,8 @@ DAY = "2012-02-06"
 #: Payments for each restart.
 EACH = 20
 NEVER = "given up"
+#: The seconds for which a teller sends a payment again.
+PATIENCE = 120
 
 
 @pytest.fixture
@@ -56,13 +59,16 @@ def restarted(site: Site, counter: Counter, nth: int) -> None:
 def pay(site: Site, number: int, is_again: bool) -> str:
     """The reply to a payment, which is sent until it comes if `is_again`. Its bond is that of its number."""
     value = {"desk": 1, "number": number, "day": DAY, "payee": 7, "serials": [f"B{number}EE"]}
-    for _ in range(300 if is_again else 1):
+    deadline = time.monotonic() + (PATIENCE if is_again else 0)
+    while True:
         with contextlib.suppress(OSError, http.client.HTTPException):
             answer = site.ask("anna", "POST", "/redeem", value)
             if answer.status == 200:
                 return answer.text
             assert answer.status == 502, answer
-    return NEVER
+        if time.monotonic() >= deadline:
+            return NEVER
+        time.sleep(0.05)
 
 
 def paid(site: Site, counter: Counter, restarts: int, is_again: bool = True) -> dict[int, str]:
@@ -79,7 +85,7 @@ def paid(site: Site, counter: Counter, restarts: int, is_again: bool = True) -> 
         for nth in range(restarts):
             allowed.release(EACH)
             restarted(site, counter, nth)
-        return dict(reply.result(timeout=120) for reply in told)
+        return dict(reply.result(timeout=2 * PATIENCE) for reply in told)
 
 
 def logged(site: Site) -> set[int]:
