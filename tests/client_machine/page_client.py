@@ -26,7 +26,6 @@ from tests.client_machine.machine import (
     NOTHING,
     REFUSE,
     REFUSED,
-    SHOW,
     SUBMIT,
     UNWRITTEN,
     WRITTEN,
