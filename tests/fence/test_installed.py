@@ -166,7 +166,7 @@ def test_the_auditors_report_finds_nothing_wrong(machine: Machine) -> None:
 
 
 def large_store(machine: Machine, program: Path, folder: Path, bonds: int) -> None:
-    """Puts a store of so many bonds in place of the machine's."""
+    """Puts a store of `bonds` bonds in place of the machine's."""
     file = folder / "large.db"
     maker = TOP / "benchmarks/make_version_one.py"
     subprocess.run([maker, file, str(bonds), str(bonds // 10)], check=True)

@@ -80,7 +80,7 @@ class Program(Counter):
 
 
 class InC:
-    """The server in C in that network. Each request takes so many microseconds more than it needs."""
+    """The server in C in that network. Each request takes `more` microseconds more than it needs."""
 
     def __init__(self, network: Network, folder: Path, more: int = 0) -> None:
         self.port, built = free_port(), folder / "server"

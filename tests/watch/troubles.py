@@ -113,7 +113,7 @@ def many_retries(w: World) -> Iterator[None]:
 
 
 def together(one: Callable[[], object], count: int) -> None:
-    """Runs a function in so many threads at once."""
+    """Runs a function in `count` threads at once."""
     threads = [threading.Thread(target=one) for _ in range(count)]
     for thread in threads:
         thread.start()
@@ -570,7 +570,7 @@ def certificate_ends_soon(w: World) -> Iterator[None]:
 
 
 def new_dates(w: World, list_days: int, authority_days: int) -> None:
-    """Lets the list and the authority end after so many days. The authority keeps its name, number and key."""
+    """Lets the list and the authority end after `list_days` and `authority_days` days. The authority keeps its name, number and key."""
     renewed = f"openssl x509 -in ca.crt -signkey private/ca.key -days {authority_days} -out new.crt"
     w.machine.follow(f"cd {STAFF} && {renewed} && mv new.crt ca.crt")
     w.machine.follow(f"{EASYRSA} --days={list_days} gen-crl")
