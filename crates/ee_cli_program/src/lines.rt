@@ -329,7 +329,7 @@ impl fmt::Display for Opening {
             ),
             OpenCause::NoDatabase => f.write_str("it is no SQLite database; correct the path"),
             OpenCause::Orphaned => f.write_str(
-                "it is missing or empty, and its log has changes; put the file back next to its log",
+                "it is missing or empty, and its log shows that it was there; put the file back next to its log",
             ),
             OpenCause::Damaged => f.write_str(
                 "it or its log is damaged, or a page's checksum is wrong; restore a copy",

@@ -1,5 +1,5 @@
 -- What two files hold when a store is opened in them, and what is left of them if it isn't.
-use Rattle.std.specs.Prelude.{◌≡◌, ◌⊎◌, ◌+◌, ◌<◌, ◌≤◌, ℕ, List, length, slice_index}
+use Rattle.std.specs.Prelude.{◌≡◌, ◌⊎◌, ◌<◌, ℕ, length}
 use Rattle.sqlite_disk.specs.declared.Disk.{Ghosts}
 use Rattle.sqlite_disk.specs.declared.Files.{Files}
 use Rattle.sqlite_pool.specs.Opening.{IsBlankFile}
@@ -11,17 +11,13 @@ use Rattle.sqlite.specs.Files.{image_of, HoldsDatabase, AreFoundIn, IsEmpty, Lea
 use Rattle.sqlite_store.specs.Unopened.{state_of}
 use Rattle.sqlite_store.specs.FileStore.{recovers}
 use Rattle.ee_store_files.specs.Damage.{IsDamaged}
-use Rattle.ee_store_files.specs.Orphans.{IsOrphan}
+use Rattle.ee_store_files.specs.Orphans.{IsMarked, IsOrphan}
 use Rattle.sqlite.specs.declared.file.Leftover.{Leftover}
 use Rattle.sqlite.specs.declared.file.Leftover.TheVariants as left
 
 -- a new store has pages of 1,024 bytes; each ends with a checksum of 8 bytes
 abbrev pub page_size : ℕ
 page_size = 1016
-
--- The log's header counts 2 ^ 32 - 1 checkpoints: it has that count only from when a file is created to its first checkpoint.
-abbrev pub IsMarked : List ℕ → Type 0
-IsMarked log = (16 ≤ length log) × ((i : ℕ) → i < 4 → slice_index log (12 + i) ≡ 255)
 
 -- the file is one byte, and no crash left it there as a database was created
 abbrev pub IsStray : Image → Type 0
@@ -37,7 +33,7 @@ pub record Finds (image : Image) (s : State) : Type 0 where
   pub holds : (db : Trees) → HoldsDatabase image db → s.committed.trees ≡ db
   pub reads : AreFoundIn image s.committed.trees ⊎ (IsUncreated image × IsEmpty s.committed.trees)
   pub taken : ¬ IsStray image
-  pub intact : IsUncreated image ⊎ (¬ IsDamaged image)
+  pub intact : (IsUncreated image × (0 < length image.db)) ⊎ (¬ IsDamaged image)
   pub with_its_file : ¬ IsOrphan image
   pub blank : IsUncreated image → IsEmpty s.committed.trees
 

@@ -25,7 +25,7 @@ pub enum OpenCause {
     NoRandom,
     /// The file is no database.
     NoDatabase,
-    /// The file is missing or empty, and its log has changes that recovery takes.
+    /// The file is missing or empty, and its log shows that it was there before.
     Orphaned,
     /// The database or its log is damaged.
     Damaged,

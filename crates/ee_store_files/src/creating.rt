@@ -2,18 +2,18 @@
 
 ghost use Rattle.std.specs.Prelude.{◌≡◌, ◌≤◌, ◌↔◌, [], true, IsTrue, IfOk, IfErr, OnOk};
 ghost use Rattle.sqlite_disk.specs.Disk.{CountsFault};
-ghost use Rattle.sqlite_wal.specs.Reads.{IsClean, AreClean, OnlyReads};
+ghost use Rattle.sqlite_wal.specs.Reads.{AreClean, OnlyReads};
 ghost use Rattle.sqlite.specs.Opening.{is_open_error};
 ghost use Rattle.sqlite.specs.State.{HasCleanDisk};
 ghost use Rattle.sqlite.specs.Held.{IsNew};
 ghost use Rattle.sqlite.specs.Files.{file_state, image_of, faults_of, faults_left, IsOpened, IsEmpty, IsCleanLeft, IsFullLeft};
 ghost use Rattle.sqlite_store.specs.FileStore.{view, state, faults, IsReady, is_shielded};
 ghost use Rattle.ee_store_files.specs.Orphans.{IsOrphan};
-ghost use Rattle.ee_store_files.specs.Files.{page_size, IsMarked, IsStray, IsUncreated, Leaves};
+ghost use Rattle.ee_store_files.specs.Files.{page_size, IsStray, IsUncreated, Leaves};
 ghost use Rattle.ee_store_files.specs.Opening.{Fails, FailsToRead};
 
 use crate::errors::{CANNOT_OPEN, IO, NO_DATABASE, NO_MEMORY, create_error, probe_error};
-use crate::orphans::is_orphan;
+use crate::orphans::{is_marked, is_orphan};
 use sqlite::{Connection, Error, FileStore, Files, Leftover, Options};
 use sqlite_disk::Disk;
 use sqlite_pager::{PageSize, Pager};
@@ -27,24 +27,6 @@ const NEW_PAGE: usize = 1024;
 
 /// Whether a new store's pages end in the checksum of SQLite's cksumvfs.
 const HAS_SUMS: bool = true;
-
-/// The offset of the checkpoint count in the log's header.
-const CHECKPOINTS: usize = 12;
-
-/// Whether the log's header has the checkpoint count that it gets when a database is created.
-fn is_marked<D: Disk>(log: &mut D) -> io::Result<bool>
-    requires { IsTrue (D.Disk.is_usable log.old) }
-    ensures ok { IfOk result (λ b. IsClean D.Disk log.new → (IsTrue b ↔ IsMarked (D.Disk.seen log.old))) }
-    ensures faults { CountsFault result (D.Disk.faults log.old) (D.Disk.faults log.new) }
-    ensures same { OnlyReads D.Disk log.old log.new }
-{
-    if log.len()? < CHECKPOINTS + 4 {
-        return Ok(false);
-    }
-    let mut count = [0; 4];
-    log.read_at(CHECKPOINTS, &mut count)?;
-    Ok(count.iter().all(|byte| *byte == 0xff))
-}
 
 /// Whether the file is a single byte that no crash left there while a database was created.
 fn is_stray<D: Disk>(files: &mut Files<D>) -> io::Result<bool>
@@ -62,9 +44,9 @@ fn is_stray<D: Disk>(files: &mut Files<D>) -> io::Result<bool>
     Ok(!is_marked)
 }
 
-/// Refuses a file that is a single stray byte, since it is no database, and an empty file whose log has commits.
-/// Writes nothing.
-fn refuse_strays<D: Disk>(alloc: Global, files: &mut Files<D>) -> Result<(), Error>
+/// Refuses a file that is a single stray byte, since it is no database, and an empty file whose log shows that it
+/// was there before. Writes nothing.
+fn refuse_strays<D: Disk>(files: &mut Files<D>) -> Result<(), Error>
     requires log { IsTrue (D.Disk.is_usable files.old.log) }
     requires db { IsTrue (D.Disk.is_usable files.old.db) }
     ensures named { IfErr result (λ e. IsTrue (is_open_error e)) }
@@ -81,10 +63,10 @@ fn refuse_strays<D: Disk>(alloc: Global, files: &mut Files<D>) -> Result<(), Err
         Ok(true) => return Err(NO_DATABASE),
         Err(_) => return Err(IO),
     }
-    match is_orphan(alloc, files) {
+    match is_orphan(files) {
         Ok(false) => Ok(()),
         Ok(true) => Err(CANNOT_OPEN),
-        Err(error) => Err(error),
+        Err(_) => Err(IO),
     }
 }
 
@@ -93,7 +75,7 @@ fn refuse_strays<D: Disk>(alloc: Global, files: &mut Files<D>) -> Result<(), Err
 ///
 /// # Errors
 ///
-/// A file that is a single stray byte, or an empty one whose log has commits, is refused.
+/// A file that is a single stray byte is refused, and so is an empty one whose log shows that it was there before.
 pub fn is_uncreated<D: Disk>(alloc: Global, files: &mut Files<D>) -> Result<bool, Error>
     requires log { IsTrue (D.Disk.is_usable files.old.log) }
     requires db { IsTrue (D.Disk.is_usable files.old.db) }
@@ -107,7 +89,7 @@ pub fn is_uncreated<D: Disk>(alloc: Global, files: &mut Files<D>) -> Result<bool
     ensures log { OnlyReads D.Disk files.old.log files.new.log }
     ensures db { OnlyReads D.Disk files.old.db files.new.db }
 {
-    refuse_strays(alloc, files)?;
+    refuse_strays(files)?;
     let size = PageSize::new(NEW_PAGE).unwrap();
     match probe_blank(alloc, files, size, HAS_SUMS) {
         Ok(is_blank) => Ok(is_blank),

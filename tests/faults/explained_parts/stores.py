@@ -27,7 +27,7 @@ NO_FILE = "SQLite takes it for no file; put ./ in front of it"
 JOURNAL = "a rollback journal of SQLite lies beside it; open it with sqlite3 first"
 VERSION = "its version is neither 2 nor 1; use the program that made it"
 ROWS = "its tables or rows are not those of this program; restore a copy"
-ORPHANED = "it is missing or empty, and its log has changes; put the file back next to its log"
+ORPHANED = "it is missing or empty, and its log shows that it was there; put the file back next to its log"
 FAILED = "a read or a write of it failed; look at the disk, and send the same requests again"
 
 

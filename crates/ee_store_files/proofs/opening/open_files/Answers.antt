@@ -7,6 +7,7 @@ use Rattle.ee_store_files.specs.Files.{IsUncreated}
 use Rattle.ee_store_files.specs.Opening.{Refuses}
 use Rattle.ee_store_files.proofs.Failing.{fails_wider}
 use Rattle.ee_store_files.proofs.Left.{leaves_after, holds_none}
+use Rattle.ee_store_files.proofs.Orphaned.{whole_if_empty}
 use Rattle.ee_store_files.proofs.opening.open_files.Goals as goal
 
 pub create-requires-clause-uncreated : goal.create-requires-clause-uncreated
@@ -22,7 +23,7 @@ returns-in-Ok-true-clause-found g c = IfOk-weaker c.create.result _ _ (λ conn m
       holds = λ db held. absurd (holds_none (image_of g.D.Disk c.args.files) db held uncreated);
       reads = inr (uncreated, empty);
       taken = c.in-Ok-true.ensures.taken clean;
-      intact = inl uncreated;
+      intact = whole_if_empty (image_of g.D.Disk c.args.files) uncreated (c.in-Ok-true.ensures.with_its_file clean);
       with_its_file = c.in-Ok-true.ensures.with_its_file clean;
       blank = λ _. empty;
     }) c.create.ensures.made
