@@ -9,7 +9,8 @@ import tarfile
 from io import BytesIO
 from pathlib import Path
 
-from tests.fence.conftest import TOP, Machine
+from tests.conftest import TOP
+from tests.fence.conftest import Machine
 
 #: Before the counter had a network of its own, and the last one with passwords. The number is the one that its package gets here.
 COMMITS = {"e30226db": "1.0.0-0", "5c41aef1": "1.0.0-1"}

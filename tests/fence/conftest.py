@@ -13,31 +13,12 @@ from typing import Iterator, Mapping, Protocol
 
 import pytest
 
+from tests.conftest import MEMORY, TOP
 from tests.fence.fresh import Fresh, bootstrap
 from tests.fence.site import Site, free_port
 
-TOP = Path(__file__).resolve().parents[2]
 #: Groups of the people of docs/INSTALL.md.
 GROUPS = {"anna": "teller", "bert": "supervisor", "cleo": "registrar", "dora": "office"}
-#: In memory if possible: a store waits for the disk at each sync.
-MEMORY = Path("/dev/shm") if os.path.isdir("/dev/shm") else Path(tempfile.gettempdir())
-
-
-@pytest.fixture(scope="session")
-def program() -> Path:
-    """The built ee_cli, as $EE_CLI or ./ee_cli has it."""
-    path = Path(os.environ.get("EE_CLI", TOP / "crates/ee_cli/out/ee_cli"))
-    if not path.exists():
-        pytest.skip(f"{path} isn't built: ./ee_cli, or name one by EE_CLI")
-    return path
-
-
-@pytest.fixture
-def folder() -> Iterator[Path]:
-    """An empty folder in memory, which everybody may enter."""
-    with tempfile.TemporaryDirectory(prefix="fence.", dir=MEMORY) as made:
-        os.chmod(made, 0o755)
-        yield Path(made)
 
 
 class Counter:

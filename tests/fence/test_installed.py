@@ -14,7 +14,8 @@ from typing import Iterator
 
 import pytest
 
-from tests.fence.conftest import TOP, Machine, blocks
+from tests.conftest import TOP
+from tests.fence.conftest import Machine, blocks
 
 pytestmark = [pytest.mark.root, pytest.mark.machine, pytest.mark.slow]
 

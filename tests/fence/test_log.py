@@ -14,7 +14,8 @@ from typing import Any, Iterator
 
 import pytest
 
-from tests.fence.conftest import TOP, Counter, MakeSite
+from tests.conftest import TOP
+from tests.fence.conftest import Counter, MakeSite
 from tests.fence.recorder import ANSWER, UNLIMITED, RecordedSite
 from tests.fence.site import Site, workers
 from tests.fence.wire import HEADERS, answer_in, connected, message, sent

@@ -11,7 +11,8 @@ from typing import Iterator
 
 import pytest
 
-from tests.fence.conftest import MEMORY, Machine, Release, blocks
+from tests.conftest import MEMORY
+from tests.fence.conftest import Machine, Release, blocks
 from tests.fence.fresh import bootstrap
 
 pytestmark = [pytest.mark.root, pytest.mark.machine, pytest.mark.slow]

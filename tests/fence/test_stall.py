@@ -14,7 +14,8 @@ from typing import Iterator, NamedTuple
 
 import pytest
 
-from tests.fence.conftest import TOP, Counter, MakeSite
+from tests.conftest import TOP
+from tests.fence.conftest import Counter, MakeSite
 from tests.fence.recorder import UNLIMITED
 from tests.fence.site import Site, free_port
 from tests.fence.test_load import GROUPS, DAY, redemption

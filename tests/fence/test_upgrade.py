@@ -9,7 +9,8 @@ from typing import Iterator
 import pytest
 
 from tests.fence.before import COMMITS, Before
-from tests.fence.conftest import MEMORY, Machine, MakeMachine, Release, blocks
+from tests.conftest import MEMORY
+from tests.fence.conftest import Machine, MakeMachine, Release, blocks
 
 pytestmark = [pytest.mark.root, pytest.mark.machine, pytest.mark.slow]
 

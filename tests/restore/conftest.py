@@ -3,7 +3,6 @@
 from __future__ import annotations
 
 import os
-import random
 import shutil
 import tempfile
 from pathlib import Path
@@ -11,30 +10,7 @@ from typing import Iterator
 
 import pytest
 
-from tests.restore.counter_day import TOP, Day, Served, run
-
-
-def pytest_collection_modifyitems(items: list[pytest.Item]) -> None:
-    for item in items:
-        if item.get_closest_marker("root") and os.getuid() != 0:
-            item.add_marker(pytest.mark.skip(reason="needs root"))
-
-
-@pytest.fixture(scope="session")
-def program() -> str:
-    """The built ee_cli, as $EE_CLI or ./ee_cli has it."""
-    path = Path(os.environ.get("EE_CLI", TOP / "crates/ee_cli/out/ee_cli"))
-    if not path.exists():
-        pytest.skip(f"{path} isn't built: ./ee_cli, or name one by EE_CLI")
-    return str(path.resolve())
-
-
-@pytest.fixture
-def dice() -> random.Random:
-    """Dice of a seed that a failed test prints; SEED names another."""
-    seed = int(os.environ.get("SEED", random.randrange(1 << 32)))
-    print(f"SEED={seed}")
-    return random.Random(seed)
+from tests.restore.counter_day import Day, Served, run
 
 
 @pytest.fixture(scope="session")
@@ -47,9 +23,9 @@ def memory() -> Iterator[Path]:
 
 
 @pytest.fixture(scope="session")
-def whole_day(program: str, memory: Path) -> Day:
+def whole_day(program: Path, memory: Path) -> Day:
     """A day with 200 payments, of which 150 are archived, 200 logged, and 100 on the second machine."""
-    found = Day(program, memory / "day")
+    found = Day(str(program), memory / "day")
     found.begin()
     found.pay(range(100))
     found.archive_now()

@@ -7,17 +7,12 @@ import os
 import shutil
 import signal
 import subprocess
-import sys
 import time
 from pathlib import Path
 from typing import Any, Iterable
 
-TOP = Path(__file__).resolve().parents[2]
-RESTORE = TOP / "samples" / "restore"
-sys.dont_write_bytecode = True
-sys.path[:0] = [str(TOP / "tests" / "shared"), str(RESTORE)]
-
-from counter_calls import (
+from tests.conftest import TOP
+from tests.shared.counter_calls import (
     TABLES,
     Answer,
     apply,
@@ -31,8 +26,9 @@ from counter_calls import (
     rows,
     serve,
     wait_for,
-)  # noqa: E402
+)
 
+RESTORE = TOP / "samples" / "restore"
 BONDS = 600
 OPENING = post("/day/open", {"number": 1_000_000, "day": day_text(0)}, b"")
 #: The requests before the first payment.

@@ -18,7 +18,7 @@ from typing import Iterator
 
 import pytest
 from tests.restore.counter_day import RESTORE, copied, entry_of, run, started
-from counter_calls import (
+from tests.shared.counter_calls import (
     Answer,
     Load,
     apply,
@@ -49,7 +49,7 @@ def done(*words: object) -> None:
 class Machine:
     """`serve` with an archiver over a disk of btrfs, a log of requests, and a second machine that pulls both."""
 
-    def __init__(self, program: str, folder: Path) -> None:
+    def __init__(self, program: Path, folder: Path) -> None:
         self.program, self.folder, self.count, self.at, self.lock = (
             program,
             folder,
@@ -125,7 +125,7 @@ class Machine:
 
 
 @pytest.fixture
-def machine(program: str, tmp_path: Path) -> Iterator[Machine]:
+def machine(program: Path, tmp_path: Path) -> Iterator[Machine]:
     found = Machine(program, tmp_path)
     yield found
     found.end()

@@ -14,9 +14,9 @@ from pathlib import Path
 from typing import Callable
 
 import pytest
+from tests.conftest import TOP
 from tests.restore.counter_day import (
     RESTORE,
-    TOP,
     Day,
     Ran,
     Served,
@@ -27,7 +27,7 @@ from tests.restore.counter_day import (
     run,
     started,
 )
-from counter_calls import apply, bond, make_version_one, post, rows
+from tests.shared.counter_calls import apply, bond, make_version_one, post, rows
 
 pytestmark = pytest.mark.slow
 
@@ -141,9 +141,9 @@ def test_nothing_missing(day: Day) -> None:
     assert "Nothing is missing" in whole(day.restore("--yes")) and day.store.read_bytes() == before
 
 
-def test_version_one(program: str, tmp_path: Path) -> None:
+def test_version_one(program: Path, tmp_path: Path) -> None:
     """A store of version 1 is archived once it is migrated, with a copy, and restored from that."""
-    day = Day(program, tmp_path)
+    day = Day(str(program), tmp_path)
     day.begin()
     day.lose()
     make_version_one(day.store, 500, 60)

@@ -15,7 +15,7 @@ import archives
 import machine_files
 import pytest
 from tests.restore.counter_day import RESTORE, Day, copied, entry_of, redemption, run, started
-from counter_calls import apply
+from tests.shared.counter_calls import apply
 
 
 def contents(folder: Path) -> dict[str, bytes]:

@@ -7,8 +7,9 @@ import sqlite3
 from pathlib import Path
 
 import pytest
-from tests.restore.counter_day import TOP, Day, Served, copied, run
-from counter_calls import rows
+from tests.conftest import TOP
+from tests.restore.counter_day import Day, Served, copied, run
+from tests.shared.counter_calls import rows
 
 TAKE_OVER = TOP / "samples" / "take_over"
 

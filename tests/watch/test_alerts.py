@@ -10,7 +10,7 @@ from typing import Iterator
 
 import pytest
 
-from tests.fence.conftest import TOP
+from tests.conftest import TOP
 
 pytestmark = pytest.mark.skipif(
     shutil.which("promtool") is None, reason="Debian's prometheus is missing"

@@ -14,7 +14,8 @@ from typing import Callable, Iterator
 
 import pytest
 
-from tests.fence.conftest import TOP, Counter
+from tests.conftest import TOP
+from tests.fence.conftest import Counter
 
 CHECK = TOP / "samples/watch/check_counter"
 LIMIT = 2.0

@@ -15,7 +15,7 @@ from typing import Iterator
 
 import pytest
 
-from tests.fence.conftest import TOP
+from tests.conftest import TOP
 
 WATCH = TOP / "samples/watch"
 DAY = '"day":"2012-02-06"'

@@ -7,18 +7,16 @@ import json
 import shutil
 import sqlite3
 import subprocess
-import sys
 from pathlib import Path
 from typing import Iterator, Sequence
 
 import pytest
 
-from tests.fence.conftest import TOP, Counter, MakeSite
+from tests.conftest import TOP
+from tests.fence.conftest import Counter, MakeSite
 from tests.fence.site import Site
 
-sys.path.insert(0, str(TOP / "samples/watch"))
-
-from watching.counts import UNLOGGED  # noqa: E402
+from watching.counts import UNLOGGED
 
 DAY = "2026-11-30"
 #: Desk, number, act and reply of kept requests: an import, a day's opening, two payments and a refusal.

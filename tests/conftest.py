@@ -1,0 +1,81 @@
+"""What all tests share: the built program, a folder in memory, dice with a seed, and what a marker needs."""
+
+from __future__ import annotations
+
+import importlib.util
+import os
+import random
+import shutil
+import tempfile
+from pathlib import Path
+from typing import Iterator
+
+import pytest
+
+TOP = Path(__file__).resolve().parents[1]
+#: In memory if possible: a store waits for the disk at each sync.
+MEMORY = Path("/dev/shm") if os.path.isdir("/dev/shm") else Path(tempfile.gettempdir())
+#: The commands that a marker needs, with Debian's packages.
+COMMANDS = {
+    "browser": {"chromedriver": "chromium-driver", "firefox-esr": "firefox-esr"},
+    "nginx": {"nginx": "nginx-light", "openssl": "openssl"},
+    "machine": {"debootstrap": "debootstrap", "unshare": "util-linux"},
+}
+#: The commands that a test names itself: pytest.mark.needs("strace", "module:selenium").
+PACKAGES = {"cc": "gcc and libc6-dev", "mkfs.btrfs": "btrfs-progs", "mkfs.xfs": "xfsprogs"}
+
+
+def missing(item: pytest.Item) -> list[str]:
+    """What the markers of a test need and this machine lacks."""
+    wanted = dict(PACKAGES)
+    names: list[str] = []
+    for marker, commands in COMMANDS.items():
+        if item.get_closest_marker(marker):
+            wanted.update(commands)
+            names.extend(commands)
+    for mark in item.iter_markers("needs"):
+        names.extend(mark.args)
+    found = []
+    if os.getuid() != 0 and (item.get_closest_marker("root") or item.get_closest_marker("machine")):
+        found.append("root")
+    for name in dict.fromkeys(names):
+        kind, _, rest = name.rpartition(":")
+        if kind == "module" and importlib.util.find_spec(rest) is None:
+            found.append(f"Python's module {rest}")
+        elif kind == "file" and not os.path.exists(rest):
+            found.append(rest)
+        elif not kind and shutil.which(rest) is None:
+            found.append(f"{rest} (Debian's {wanted.get(rest, rest)})")
+    return found
+
+
+def pytest_collection_modifyitems(items: list[pytest.Item]) -> None:
+    for item in items:
+        lacks = missing(item)
+        if lacks:
+            item.add_marker(pytest.mark.skip(reason=f"needs {', '.join(lacks)}"))
+
+
+@pytest.fixture(scope="session")
+def program() -> Path:
+    """The built ee_cli, as $EE_CLI or ./ee_cli has it."""
+    path = Path(os.environ.get("EE_CLI", TOP / "crates/ee_cli/out/ee_cli")).resolve()
+    if not path.exists():
+        pytest.skip(f"{path} isn't built: ./ee_cli, or name one by EE_CLI")
+    return path
+
+
+@pytest.fixture
+def folder() -> Iterator[Path]:
+    """An empty folder in memory, which everybody may enter."""
+    with tempfile.TemporaryDirectory(prefix="ladwenpik.", dir=MEMORY) as made:
+        os.chmod(made, 0o755)
+        yield Path(made)
+
+
+@pytest.fixture
+def dice() -> random.Random:
+    """Dice of a seed that a failed test prints; SEED names another."""
+    seed = int(os.environ.get("SEED", random.randrange(1 << 32)))
+    print(f"SEED={seed}")
+    return random.Random(seed)
