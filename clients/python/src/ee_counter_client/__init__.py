@@ -86,6 +86,7 @@ from .results import (
     Sheet,
     Ticket,
 )
+from .settlement import Settlement, settlement_of_day
 from .spelling import Bond, Month, Rates
 from .version import __version__
 
@@ -146,6 +147,7 @@ __all__ = [
     "Row",
     "SameCoowner",
     "SerialConflict",
+    "Settlement",
     "Sheet",
     "StillOpen",
     "Ticket",
@@ -163,4 +165,5 @@ __all__ = [
     "interest_of_ticket",
     "rates_in",
     "register",
+    "settlement_of_day",
 ]

@@ -22,6 +22,7 @@ from .files import rates_in, register
 from .interest import bonds_known, interest_of_day, interest_of_payee, interest_of_ticket
 from .lookups import ADDRESS, PATIENCE, Lookups
 from .results import Added, Batch, Interest, Opened, Row, Ticket
+from .settlement import batch_in_words, settlement_of_day
 from .spelling import MOST_ROWS
 from .version import __version__
 
@@ -76,13 +77,31 @@ def run_interest(ask: Callable[[], Interest]) -> int:
     try:
         found = ask()
     except Incomplete as lack:
-        print(lack.interest.text, end="", flush=True)
-        print(
-            "\n".join(f"missing: {printable(sentence)}" for sentence in lack.missing),
-            file=sys.stderr,
-        )
-        return 1
+        return in_part(lack.interest, lack.missing)
     print(found.text, end="", flush=True)
+    return 0
+
+
+def in_part(interest: Interest, missing: Sequence[str]) -> int:
+    """Prints the CSV, and names what it lacks."""
+    print(interest.text, end="", flush=True)
+    print("\n".join(f"missing: {printable(sentence)}" for sentence in missing), file=sys.stderr)
+    return 1
+
+
+def run_settlement(counter: Lookups, words: argparse.Namespace) -> int:
+    """Prints the CSV and what the batch says, and writes the page."""
+    try:
+        found = settlement_of_day(counter, words.day, bonds_known(*words.sources))
+    except Incomplete as lack:
+        return in_part(lack.interest, lack.missing)
+    if words.page is not None:
+        with open(words.page, "w", encoding="utf-8") as file:
+            file.write(found.page)
+    print(batch_in_words(found.batch), file=sys.stderr)
+    if found.missing:
+        return in_part(found.interest, found.missing)
+    print(found.interest.text, end="", flush=True)
     return 0
 
 
@@ -185,6 +204,12 @@ LOOK_UPS: Tuple[Tuple[str, str, Tuple[str, ...], LookUp], ...] = (
         lambda counter, words: run_interest(
             lambda: interest_of_day(counter, words.day, bonds_known(*words.sources))
         ),
+    ),
+    (
+        "settlement",
+        "prints the bonds of a closed day for the cash letter as CSV, whose sums are its batch's",
+        ("day", "sources"),
+        run_settlement,
     ),
     (
         "interest-payee",
@@ -301,6 +326,8 @@ def words_of(line: Optional[Sequence[str]]) -> argparse.Namespace:
             )
         if name in QUESTIONED:
             command.add_argument("--even-so", action="store_true", help=QUESTIONED[name])
+        if name == "settlement":
+            command.add_argument("--page", metavar="FILE", help="a page to print and sign, in HTML")
         for argument in arguments:
             text, sample = ARGUMENTS[argument]
             several = {"nargs": "+"} if argument in SEVERAL else {}
