@@ -19,7 +19,7 @@ import pytest
 
 from tests.watch.machine import TOP, Machine
 from tests.watch.troubles import FIRST, LAST, TROUBLES
-from tests.watch.world import World
+from tests.watch.world import DEBIANS, QUICK, World
 
 pytestmark = [pytest.mark.root, pytest.mark.nginx, pytest.mark.slow]
 
@@ -124,6 +124,27 @@ def test_quiet(today: World) -> None:
         firing |= today.firing()
         time.sleep(1)
     assert firing == set()
+
+
+def test_unlogged_within_a_minute(today: World) -> None:
+    """By the times that ship, with Debian's of Prometheus: the metrics come every 20 seconds, and are read and judged every 15."""
+    assert until(lambda: "Unlogged" not in today.firing())
+    today.write_rules((WATCH / "alerts.yml").read_text(), DEBIANS)
+    today.machine.follow("systemctl reload prometheus.service")
+    today.watch_quickly("20s")
+    steps, begun = TROUBLES["Unlogged"][0](today), time.monotonic()
+    try:
+        next(steps)
+        assert until(lambda: "Unlogged" in today.firing(), 60), today.state()
+        took = time.monotonic() - begun
+        print(f"the alert fired after {took:.0f} seconds")
+        assert took <= 60
+    finally:
+        today.watch_quickly("2s")
+        today.write_rules(quick_rules(), QUICK)
+        today.machine.follow("systemctl reload prometheus.service")
+        lingering.update({"Unlogged", "DiskFull"})
+        next(steps, None)
 
 
 def test_systemd_takes_the_units(world: World) -> None:

@@ -11,6 +11,7 @@ import ssl
 import time
 import urllib.parse
 import urllib.request
+from pathlib import Path
 from typing import Any, Iterator
 
 from tests.shared.counter_calls import Answer, bond, get, post, read_answer
@@ -23,7 +24,10 @@ EASYRSA = f"/usr/share/easy-rsa/easyrsa --batch --pki-dir={STAFF} --use-algo=ec 
 BONDS = 1100
 #: Not run in the machine, whose /usr has the packages already.
 LEFT_OUT = ("apt-get ",)
-PROMETHEUS = """global: {scrape_interval: 2s, scrape_timeout: 2s, evaluation_interval: 1s}
+#: The seconds between two readings and two looks at the rules: for these tests, and those of Debian's package.
+QUICK = "{scrape_interval: 2s, scrape_timeout: 2s, evaluation_interval: 1s}"
+DEBIANS = "{scrape_interval: 15s, evaluation_interval: 15s}"
+PROMETHEUS = """global: INTERVALS
 rule_files: [/etc/prometheus/counter-alerts.yml]
 scrape_configs:
 - {job_name: node, static_configs: [{targets: ["localhost:9100", "localhost:9101"]}]}
@@ -180,9 +184,7 @@ class World:
         m.follow(
             "touch /etc/default/prometheus; echo 'ARGS=\"--collector.disable-defaults --collector.textfile\"' > /etc/default/prometheus-node-exporter"
         )
-        for name, text in (("counter-alerts.yml", rules), ("prometheus.yml", PROMETHEUS)):
-            with open(f"{m.root}/etc/prometheus/{name}", "w", encoding="utf-8") as file:
-                file.write(text)
+        self.write_rules(rules, QUICK)
         m.follow(
             "ln -s /run/counter-metrics/counter.prom /var/lib/prometheus/node-exporter/counter.prom"
         )
@@ -191,6 +193,11 @@ class World:
         )
         self.start_second_exporter()
         self.wait_for_prometheus()
+
+    def write_rules(self, rules: str, intervals: str) -> None:
+        folder = Path(self.machine.root) / "etc/prometheus"
+        (folder / "counter-alerts.yml").write_text(rules, encoding="utf-8")
+        (folder / "prometheus.yml").write_text(PROMETHEUS.replace("INTERVALS", intervals))
 
     def start_second_exporter(self) -> None:
         """Stands for another host of the bank. It has the same metrics under another instance."""
