@@ -15,7 +15,10 @@ RUST = re.compile(
     r"""(?P<space>\s+|//[^\n]*)|(?P<block>/\*)|(?P<raw>b?r(?P<hashes>\#*)"(?:.|\n)*?"(?P=hashes))|(?P<text>b?"(?:[^"\\]|\\(?:.|\n))*")"""
     r"""|(?P<char>b?'(?:[^'\\\n]|\\x[0-9a-fA-F]{2}|\\u\{[0-9a-fA-F_]+\}|\\.)')|(?P<life>'\w+)|(?P<word>«[^»]*»|\w+)|(?P<mark>->|=>|::|.)"""
 )
-ANTT = re.compile(r"""(?P<text>"(?:[^"\\]|\\.)*")|(?P<line>(?:(?<=\s)|(?<=^)|(?<=[(){}]))--(?=\s|$)[^\n]*)|(?P<block>\{-)|(?P<open>[({])|(?P<close>[)}])""", re.M)
+ANTT = re.compile(
+    r"""(?P<text>"(?:[^"\\]|\\.)*")|(?P<line>(?:(?<=\s)|(?<=^)|(?<=[(){}]))--(?=\s|$)[^\n]*)|(?P<block>\{-)|(?P<open>[({])|(?P<close>[)}])""",
+    re.M,
+)
 CLAUSES = ("requires", "ensures", "ghost")
 OPEN, CLOSE = {"(": ")", "[": "]", "{": "}"}, {")", "]", "}"}
 
@@ -126,7 +129,10 @@ def imports_of(line: str) -> Iterator[tuple[str, str]]:
     path, names, alias = found.groups()
     for name in [""] if names is None else filter(None, map(str.strip, names.split(","))):
         whole, _, other = name.partition(" as ")
-        yield (alias or path.rpartition(".")[2], path) if names is None else (other or whole, f"{path}.{whole}")
+        yield (alias or path.rpartition(".")[2], path) if names is None else (
+            other or whole,
+            f"{path}.{whole}",
+        )
 
 
 def cited(text: str, imported: dict[str, str]) -> frozenset[tuple[str, str]]:
@@ -141,7 +147,11 @@ def cited(text: str, imported: dict[str, str]) -> frozenset[tuple[str, str]]:
         first, dot, rest = word.partition(".")
         for path in parts.get(word, ()) or parts.get(first, ()):
             inner = rest.split(".")[0]
-            names.add((f"{first}.{inner}", f"{path}.{inner}") if dot and inner and word not in parts and path.rpartition(".")[2] != first else (first, path))
+            names.add(
+                (f"{first}.{inner}", f"{path}.{inner}")
+                if dot and inner and word not in parts and path.rpartition(".")[2] != first
+                else (first, path)
+            )
     return frozenset(names)
 
 
@@ -232,7 +242,11 @@ class Rust:
     # What stands in a file.
 
     def read(self) -> None:
-        parts = [part for part in Path(self.file).with_suffix("").parts[3:] if part not in ("lib", "main", "mod")]
+        parts = [
+            part
+            for part in Path(self.file).with_suffix("").parts[3:]
+            if part not in ("lib", "main", "mod")
+        ]
         module = "::".join([self.crate, *parts])
         try:
             self.items_until("", module, "", False)
@@ -241,11 +255,22 @@ class Rust:
         for begin in clause_words(self.text):
             if begin not in self.seen:
                 self.unread.append((begin, "a clause that stands nowhere that is read"))
-        self.items = [item._replace(clauses=tuple(clause._replace(names=cited(clause.text, self.seen_by(item))) for clause in item.clauses)) for item in self.items]
+        self.items = [
+            item._replace(
+                clauses=tuple(
+                    clause._replace(names=cited(clause.text, self.seen_by(item)))
+                    for clause in item.clauses
+                )
+            )
+            for item in self.items
+        ]
 
     def seen_by(self, item: Item) -> dict[str, str]:
         """What is imported in an item's module, and in its `impl`."""
-        return {**self.imported[item.module, ""], **self.imported[item.module, item.owner or item.name]}
+        return {
+            **self.imported[item.module, ""],
+            **self.imported[item.module, item.owner or item.name],
+        }
 
     def items_until(self, end: str, module: str, owner: str, open_to_all: bool) -> list[Clause]:
         """Reads items up to `end`, which is taken. Returns the ghost members and types among them."""
@@ -262,7 +287,9 @@ class Rust:
         self.next()
         return members
 
-    def item(self, word: str, module: str, owner: str, open_to_all: bool, members: list[Clause]) -> None:
+    def item(
+        self, word: str, module: str, owner: str, open_to_all: bool, members: list[Clause]
+    ) -> None:
         if word == "#":
             self.next()
             self.take("!")
@@ -284,7 +311,9 @@ class Rust:
                 return
         begin, word = self.at, self.next()
         if word == "fn":
-            self.function(module, owner, public or open_to_all or self.text[begin:].startswith("fn main("))
+            self.function(
+                module, owner, public or open_to_all or self.text[begin:].startswith("fn main(")
+            )
         elif word == "static":
             self.constant(module, owner, public, members)
         elif word == "use":
@@ -306,13 +335,31 @@ class Rust:
             self.next()
             inside = self.items_until("}", module, f"trait {name}", True)
             self.imported[module, name] = self.imported[module, f"trait {name}"]
-            self.add(Item("type", module, "", name, self.file, public, f"trait {name} {header}", (Clause("trait", "", header), *inside)))
+            self.add(
+                Item(
+                    "type",
+                    module,
+                    "",
+                    name,
+                    self.file,
+                    public,
+                    f"trait {name} {header}",
+                    (Clause("trait", "", header), *inside),
+                )
+            )
         elif word == "impl":
             header = self.until("{")
             self.next()
-            inside = self.items_until("}", module, f"impl {header}", bool(re.search(r"(^| )for ", re.sub(r"\bfor <[^>]*>", "", header))))
+            inside = self.items_until(
+                "}",
+                module,
+                f"impl {header}",
+                bool(re.search(r"(^| )for ", re.sub(r"\bfor <[^>]*>", "", header))),
+            )
             if inside:
-                self.add(Item("impl", module, "", f"impl {header}", self.file, True, "", tuple(inside)))
+                self.add(
+                    Item("impl", module, "", f"impl {header}", self.file, True, "", tuple(inside))
+                )
         elif word == "macro_rules" or self.peek() == "!":
             self.must("!")
             if self.peek() not in OPEN:
@@ -351,7 +398,18 @@ class Rust:
         if owner:
             members.append(Clause("const", name, text))
         elif name != "_":
-            self.add(Item("constant", module, owner, name, self.file, public, "", (Clause("const", "", text),)))
+            self.add(
+                Item(
+                    "constant",
+                    module,
+                    owner,
+                    name,
+                    self.file,
+                    public,
+                    "",
+                    (Clause("const", "", text),),
+                )
+            )
 
     def declared(self, kind: str, module: str, public: bool) -> None:
         """A struct or an enum: its fields or variants, and its ghost fields."""
@@ -378,12 +436,16 @@ class Rust:
                 depth += (word in OPEN) - (word in CLOSE)
                 words.append(self.next())
             text += " ".join(words).replace(", }", " }")
-        self.add(Item("type", module, "", name, self.file, public, "", (Clause(kind, "", text), *ghosts)))
+        self.add(
+            Item("type", module, "", name, self.file, public, "", (Clause(kind, "", text), *ghosts))
+        )
 
     def function(self, module: str, owner: str, public: bool) -> None:
         name = self.next()
         signature = self.until(*CLAUSES, "{", ";").replace(", )", " )")
-        item = Item("function", module, owner, name, self.file, public, signature, tuple(self.clauses()))
+        item = Item(
+            "function", module, owner, name, self.file, public, signature, tuple(self.clauses())
+        )
         if not self.take(";"):
             self.skip()
             begin = self.at
@@ -410,8 +472,12 @@ class Rust:
             word = self.peek()
             if not word:
                 raise Unread(begin, "a body without its end")
-            if word in CLAUSES and re.match(rf"{word}\*?(\s+\w+)?\s*(:\s*)?\{{", self.text[self.at :]):
-                inside += [clause._replace(kind=f"closure's {clause.kind}") for clause in self.clauses()]
+            if word in CLAUSES and re.match(
+                rf"{word}\*?(\s+\w+)?\s*(:\s*)?\{{", self.text[self.at :]
+            ):
+                inside += [
+                    clause._replace(kind=f"closure's {clause.kind}") for clause in self.clauses()
+                ]
                 continue
             if word == "ghost":
                 raise Unread(self.at, "a ghost item in a body")
@@ -432,7 +498,10 @@ def clause_words(text: str) -> Iterator[int]:
             yield found.start()
 
 
-BEGINS = re.compile(r"(?P<marks>(?:(?:abbrev|unfoldable|axiom|pub|record|data)\s+)*)(?P<name>[^\s:(){}]+)(?P<rest>.*)", re.S)
+BEGINS = re.compile(
+    r"(?P<marks>(?:(?:abbrev|unfoldable|axiom|pub|record|data)\s+)*)(?P<name>[^\s:(){}]+)(?P<rest>.*)",
+    re.S,
+)
 
 
 def chunks(text: str) -> Iterator[tuple[int, str]]:
@@ -469,9 +538,13 @@ def parts_of(text: str) -> Iterator[tuple[int, str, str]]:
             yield line + inner, " ".join(filter(None, (f"module _ {found[1]}", heads))), part
 
 
-def read_definitions(crate: str, file: str, text: str) -> tuple[list[Item], dict[str, str], list[str]]:
+def read_definitions(
+    crate: str, file: str, text: str
+) -> tuple[list[Item], dict[str, str], list[str]]:
     """The definitions of a file of specs/, the paths that it passes on, and what couldn't be read."""
-    module = "::".join([crate, *[part for part in Path(file).with_suffix("").parts[3:] if part != "Lib"]])
+    module = "::".join(
+        [crate, *[part for part in Path(file).with_suffix("").parts[3:] if part != "Lib"]]
+    )
     here = "Rattle." + ".specs.".join([crate, ".".join(module.split("::")[1:])]).rstrip(".")
     imported: dict[str, str] = {}
     passed_on: dict[str, str] = {}
@@ -490,7 +563,9 @@ def read_definitions(crate: str, file: str, text: str) -> tuple[list[Item], dict
                 unread.append(f"{file}:{line}: {fault}")
                 continue
             imported.update(found)
-            passed_on.update({f"{here}.{name}": path for name, path in found.items()} if first == "pub" else {})
+            passed_on.update(
+                {f"{here}.{name}": path for name, path in found.items()} if first == "pub" else {}
+            )
         elif first == "mod" or (first, second) == ("pub", "mod"):
             continue
         elif first in ("infixl", "infixr", "infix"):
@@ -500,15 +575,24 @@ def read_definitions(crate: str, file: str, text: str) -> tuple[list[Item], dict
         else:
             found_name = BEGINS.fullmatch(chunk)
             name = found_name["name"] if found_name else ""
-            begins = found_name is not None and (bool(found_name["marks"]) or re.match(r"\s*(\(.*\)|\{.*\}|\s)*\s*:\s", found_name["rest"], re.S) is not None and name != last)
+            begins = found_name is not None and (
+                bool(found_name["marks"])
+                or re.match(r"\s*(\(.*\)|\{.*\}|\s)*\s*:\s", found_name["rest"], re.S) is not None
+                and name != last
+            )
             if begins and found_name is not None and name not in texts:
                 last = name
                 texts[name] = [*([plain(block)] if block else []), plain(chunk)]
                 marks[name] = "pub" in found_name["marks"].split()
-            elif last and any(part in re.split(r"\s=\s", chunk, maxsplit=1)[0].split() for part in [last, *filter(None, last.split("◌"))]):
+            elif last and any(
+                part in re.split(r"\s=\s", chunk, maxsplit=1)[0].split()
+                for part in [last, *filter(None, last.split("◌"))]
+            ):
                 texts[last].append(plain(chunk))
             else:
-                unread.append(f"{file}:{line}: a definition that begins with {' '.join(chunk.split()[:4])}")
+                unread.append(
+                    f"{file}:{line}: a definition that begins with {' '.join(chunk.split()[:4])}"
+                )
     for line_of in fixity:
         operator = line_of.split()[-1]
         if operator in texts:
@@ -519,8 +603,21 @@ def read_definitions(crate: str, file: str, text: str) -> tuple[list[Item], dict
     items = []
     for name, parts in texts.items():
         whole = "\n".join(parts)
-        names = cited(whole, {**imported, **local}) - {(part, local[name]) for part in [name, *name.split("◌")]}
-        items.append(Item("definition", module, "", name, file, marks[name], "", (Clause("definition", "", whole, names),)))
+        names = cited(whole, {**imported, **local}) - {
+            (part, local[name]) for part in [name, *name.split("◌")]
+        }
+        items.append(
+            Item(
+                "definition",
+                module,
+                "",
+                name,
+                file,
+                marks[name],
+                "",
+                (Clause("definition", "", whole, names),),
+            )
+        )
     return items, passed_on, unread
 
 
@@ -532,7 +629,11 @@ def read_file(name: str, text: str) -> State:
     if (folder, ending) == ("src", "rt"):
         rust = Rust(crate, name, text)
         rust.read()
-        return State(rust.items, {}, [f"{name}:{text.count(chr(10), 0, at) + 1}: {why}" for at, why in rust.unread])
+        return State(
+            rust.items,
+            {},
+            [f"{name}:{text.count(chr(10), 0, at) + 1}: {why}" for at, why in rust.unread],
+        )
     return State([], {}, [f"{name}: a file that isn't read there"])
 
 
@@ -544,5 +645,7 @@ def read_state(files: Iterable[tuple[str, str]]) -> State:
         state.passed_on.update(passed_on)
         state.unread.extend(unread)
     twice = [key for key, count in Counter(item.key() for item in state.items).items() if count > 1]
-    state.unread.extend(f"{'::'.join(filter(None, key[1:]))}: {key[0]} twice, so compared once" for key in twice)
+    state.unread.extend(
+        f"{'::'.join(filter(None, key[1:]))}: {key[0]} twice, so compared once" for key in twice
+    )
     return state

@@ -22,12 +22,26 @@ CUSTOMERS, MONTH = range(1, COMMANDS + 1), "2026-11"
 
 
 def by_commands(store: Path) -> bytes:
-    return b"".join(subprocess.run([PROGRAM, "sheet", str(customer), MONTH, "--db", store], stdout=subprocess.PIPE, check=True).stdout for customer in CUSTOMERS)
+    return b"".join(
+        subprocess.run(
+            [PROGRAM, "sheet", str(customer), MONTH, "--db", store],
+            stdout=subprocess.PIPE,
+            check=True,
+        ).stdout
+        for customer in CUSTOMERS
+    )
 
 
 def by_one(store: Path) -> bytes:
-    queries = "".join(f"GET /inventory/{customer}/{MONTH} HTTP/1.1\r\n\r\n" for customer in CUSTOMERS)
-    text = subprocess.run([PROGRAM, "apply", "--db", store], input=queries.encode(), stdout=subprocess.PIPE, check=True).stdout
+    queries = "".join(
+        f"GET /inventory/{customer}/{MONTH} HTTP/1.1\r\n\r\n" for customer in CUSTOMERS
+    )
+    text = subprocess.run(
+        [PROGRAM, "apply", "--db", store],
+        input=queries.encode(),
+        stdout=subprocess.PIPE,
+        check=True,
+    ).stdout
     return re.sub(rb"HTTP/1\.1 200 OK\r\n(?:[^\r\n]+\r\n)*\r\n", b"", text)
 
 
@@ -50,11 +64,18 @@ def measured(way: Callable[[Path], bytes], store: Path) -> tuple[bytes, float, f
 FOLDER.mkdir()
 STORE = FOLDER / "day.db"
 made(PROGRAM, STORE, BONDS)
-print("| Sheets of customers | Seconds | Seconds of the processor | Memory at most |\n|---|---|---|---|")
+print(
+    "| Sheets of customers | Seconds | Seconds of the processor | Memory at most |\n|---|---|---|---|"
+)
 texts = []
-for name, way in (("by `apply`, all in one command", by_one), ("by `sheet`, a command each", by_commands)):
+for name, way in (
+    ("by `apply`, all in one command", by_one),
+    ("by `sheet`, a command each", by_commands),
+):
     text, clock, processor, memory = measured(way, STORE)
     texts.append(text)
     print(f"| {COMMANDS} {name} | {clock:,.0f} | {processor:,.0f} | {memory:,.0f} MB |", flush=True)
-assert texts[0] == texts[1] and texts[0].count(b"Total") == COMMANDS, "both ways print the same bytes"
+assert (
+    texts[0] == texts[1] and texts[0].count(b"Total") == COMMANDS
+), "both ways print the same bytes"
 assert texts[0] != by_one(STORE).replace(b"Total", b"total", 1), "a byte that differs is seen"

@@ -25,7 +25,11 @@ def ask(connection: socket.socket, message: bytes, first: bytes = b"HTTP/1.1 200
     while b"\r\n\r\n" not in got:
         got += connection.recv(65536)
     head, body = got.split(b"\r\n\r\n", 1)
-    length = next(int(line.split(b":")[1]) for line in head.split(b"\r\n") if line.lower().startswith(b"content-length"))
+    length = next(
+        int(line.split(b":")[1])
+        for line in head.split(b"\r\n")
+        if line.lower().startswith(b"content-length")
+    )
     while len(body) < length:
         body += connection.recv(65536)
     if not head.startswith(first):
@@ -51,19 +55,45 @@ def served(name: str | None, messages: list[bytes]) -> None:
     took = time.perf_counter() - start
     connection.close()
     if name:
-        print(f"{name}: {took / len(messages) * 1e6:.0f} microseconds a request, {len(messages) / took:.0f} a second")
+        print(
+            f"{name}: {took / len(messages) * 1e6:.0f} microseconds a request, {len(messages) / took:.0f} a second"
+        )
 
 
-rows = [{"serial": f"A{i}EE", "denom": 50, "issued": "2010-05", "owner": i // 100 + 1} for i in range(1, bonds + 1)]
-imports = [post("/bonds", {"number": 2 + i // 500, "bonds": rows[i : i + 500]}) for i in range(0, bonds, 500)]
-setup = [post("/rates", {"number": 1, "rates": [{"from": "2010-05", "rate": "3.50"}]}), *imports, post("/day/open", {"number": 10**9, "day": "2015-05-04"})]
+rows = [
+    {"serial": f"A{i}EE", "denom": 50, "issued": "2010-05", "owner": i // 100 + 1}
+    for i in range(1, bonds + 1)
+]
+imports = [
+    post("/bonds", {"number": 2 + i // 500, "bonds": rows[i : i + 500]})
+    for i in range(0, bonds, 500)
+]
+setup = [
+    post("/rates", {"number": 1, "rates": [{"from": "2010-05", "rate": "3.50"}]}),
+    *imports,
+    post("/day/open", {"number": 10**9, "day": "2015-05-04"}),
+]
 groups = [setup[i : i + count] for i in range(0, len(setup), count)]
 step = max(bonds // count, 1)
-redemptions = [post("/redeem", {"number": 2 * 10**9 + i, "day": "2015-05-04", "payee": (i * step + 1) // 100 + 1, "serials": [f"A{i * step + 1}EE"]}) for i in range(min(count, bonds))]
+redemptions = [
+    post(
+        "/redeem",
+        {
+            "number": 2 * 10**9 + i,
+            "day": "2015-05-04",
+            "payee": (i * step + 1) // 100 + 1,
+            "serials": [f"A{i * step + 1}EE"],
+        },
+    )
+    for i in range(min(count, bonds))
+]
 values = [get("/value/50/2010-05/2015-05") for _ in range(count)]
 sheets = [get(f"/inventory/{i * step // 100 + 1}/2015-05") for i in range(count)]
 
-server = subprocess.Popen([program, "serve", "--db", store, "--port", str(port), "--connections", str(len(groups) + 4)], stdout=subprocess.DEVNULL)
+server = subprocess.Popen(
+    [program, "serve", "--db", store, "--port", str(port), "--connections", str(len(groups) + 4)],
+    stdout=subprocess.DEVNULL,
+)
 for group in groups:
     served(None, group)
 print(f"{bonds} bonds")

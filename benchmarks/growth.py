@@ -41,7 +41,9 @@ class Row(NamedTuple):
 
 def opening(store: Path) -> tuple[float, float]:
     """Seconds of the processor, and megabytes of memory at most."""
-    process = subprocess.Popen([PROGRAM, "export", "999999999", "--db", store], stdout=subprocess.DEVNULL)
+    process = subprocess.Popen(
+        [PROGRAM, "export", "999999999", "--db", store], stdout=subprocess.DEVNULL
+    )
     _, status, usage = os.wait4(process.pid, 0)
     process.returncode = os.waitstatus_to_exitcode(status)
     assert process.returncode == 0
@@ -63,22 +65,51 @@ def measured(count: int) -> Row:
     with served(PROGRAM, store) as server:
         server.ask(post("/day/open", {"number": 10**15, "day": DAY}))
         paid = [
-            spent(server, post("/redeem", {"desk": 1, "number": place + 1, "day": DAY, "payee": place * step // EACH + 1, "serials": [f"A{place * step + 1}EE"]}))
+            spent(
+                server,
+                post(
+                    "/redeem",
+                    {
+                        "desk": 1,
+                        "number": place + 1,
+                        "day": DAY,
+                        "payee": place * step // EACH + 1,
+                        "serials": [f"A{place * step + 1}EE"],
+                    },
+                ),
+            )
             for place in range(TICKETS)
         ]
-        shown = [spent(server, get(f"/inventory/{place * (count // EACH // INVENTORIES) + 2}/{MONTH}")) for place in range(INVENTORIES)]
+        shown = [
+            spent(server, get(f"/inventory/{place * (count // EACH // INVENTORIES) + 2}/{MONTH}"))
+            for place in range(INVENTORIES)
+        ]
         closed = spent(server, post("/day/close", {"number": 10**15 + 1, "day": DAY}))
-    return Row(size, seconds, memory, statistics.median(paid) * 1e6, statistics.median(shown) * 1e6, closed * 1e3)
+    return Row(
+        size,
+        seconds,
+        memory,
+        statistics.median(paid) * 1e6,
+        statistics.median(shown) * 1e6,
+        closed * 1e3,
+    )
 
 
 def reckoned(small: int, less: Row, large: int, more: Row) -> Row:
     straight = (RECKONED - large) / (large - small)
     by_levels = math.log(RECKONED / large) / math.log(large / small)
-    return Row(*(after + (after - before) * (straight if place < 3 else by_levels) for place, (before, after) in enumerate(zip(less, more))))
+    return Row(
+        *(
+            after + (after - before) * (straight if place < 3 else by_levels)
+            for place, (before, after) in enumerate(zip(less, more))
+        )
+    )
 
 
 FOLDER.mkdir(exist_ok=True)
-print("| Bonds | File | Opening | Its memory | A redemption | An inventory of ten | Closing a day of 1,000 tickets |\n|---|---|---|---|---|---|---|")
+print(
+    "| Bonds | File | Opening | Its memory | A redemption | An inventory of ten | Closing a day of 1,000 tickets |\n|---|---|---|---|---|---|---|"
+)
 rows = {}
 for size in SIZES:
     rows[size] = measured(size)

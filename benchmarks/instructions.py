@@ -18,7 +18,25 @@ from typing import Callable, NamedTuple
 
 sys.dont_write_bytecode = True
 
-from asking import HALF_PAID, IMPORT, LISTS, MANY, MANY_AGAIN, ONE, ONE_AGAIN, PAYEE, VALUE, beginning, bonds_of, built_peer, entered, get, inventory, redemption, value  # noqa: E402
+from asking import (
+    HALF_PAID,
+    IMPORT,
+    LISTS,
+    MANY,
+    MANY_AGAIN,
+    ONE,
+    ONE_AGAIN,
+    PAYEE,
+    VALUE,
+    beginning,
+    bonds_of,
+    built_peer,
+    entered,
+    get,
+    inventory,
+    redemption,
+    value,
+)  # noqa: E402
 
 PROGRAM, FOLDER = os.path.abspath(sys.argv[1]), Path(sys.argv[2])
 COPY, PROFILE = FOLDER / "copy.db", FOLDER / "profile"
@@ -53,7 +71,13 @@ class Program(NamedTuple):
     def apply(self, file: Path, stream: list[bytes], *before: str) -> None:
         for first in range(0, len(stream), 900):
             part = stream[first : first + 900]
-            ran = subprocess.run([*before, *self.words, str(file), *self.after], input=b"".join(part), stdout=subprocess.PIPE, stderr=subprocess.PIPE, check=True)
+            ran = subprocess.run(
+                [*before, *self.words, str(file), *self.after],
+                input=b"".join(part),
+                stdout=subprocess.PIPE,
+                stderr=subprocess.PIPE,
+                check=True,
+            )
             assert ran.stdout.count(b"HTTP/1.1 200 OK") == len(part), ran.stdout
 
     def counted(self, messages: list[bytes]) -> collections.Counter[str]:
@@ -61,11 +85,22 @@ class Program(NamedTuple):
         for end in ("", "-wal", "-shm"):
             COPY.with_name(COPY.name + end).unlink(missing_ok=True)
         shutil.copy(self.store, COPY)
-        self.apply(COPY, WARM + messages, "valgrind", "--tool=callgrind", "--dump-line=no", f"--callgrind-out-file={PROFILE}")
+        self.apply(
+            COPY,
+            WARM + messages,
+            "valgrind",
+            "--tool=callgrind",
+            "--dump-line=no",
+            f"--callgrind-out-file={PROFILE}",
+        )
         return costs(PROFILE)
 
-    def difference(self, message: Callable[[int], bytes], few: int, more: int) -> collections.Counter[str]:
-        less, all_ = (self.counted([message(n) for n in range(1, count + 1)]) for count in (few, more))
+    def difference(
+        self, message: Callable[[int], bytes], few: int, more: int
+    ) -> collections.Counter[str]:
+        less, all_ = (
+            self.counted([message(n) for n in range(1, count + 1)]) for count in (few, more)
+        )
         all_.subtract(less)
         return all_
 
@@ -99,34 +134,74 @@ def group_of(name: str) -> str:
     return next(group for group, pattern in GROUPS.items() if re.search(pattern, name))
 
 
-def print_row(programs: list[Program], kind: str, message: Callable[[int], bytes], few: int = 20, more: int = 120) -> None:
+def print_row(
+    programs: list[Program],
+    kind: str,
+    message: Callable[[int], bytes],
+    few: int = 20,
+    more: int = 120,
+) -> None:
     ours, *others = (program.difference(message, few, more) for program in programs)
     calls = ours.pop(CALLS, 0)
     whole = sum(ours.values())
     cells = [f"{whole / (more - few):,.0f}"]
     for other in others:
-        cells += [f"{sum(other.values()) / (more - few):,.0f}", f"{sum(other.values()) / whole:.2f}"]
+        cells += [
+            f"{sum(other.values()) / (more - few):,.0f}",
+            f"{sum(other.values()) / whole:.2f}",
+        ]
     parts: collections.Counter[str] = collections.Counter()
     for name, cost in ours.items():
         parts[group_of(name)] += cost
-    print(f"| {' | '.join([kind, *cells, *(f'{100 * parts[group] / whole:.0f} %' for group in GROUPS), f'{100 * calls / whole:.0f} %'])} |", flush=True)
+    print(
+        f"| {' | '.join([kind, *cells, *(f'{100 * parts[group] / whole:.0f} %' for group in GROUPS), f'{100 * calls / whole:.0f} %'])} |",
+        flush=True,
+    )
 
 
 def main() -> None:
     FOLDER.mkdir()
     peer = built_peer(FOLDER)
-    programs = [Program("The counter", [PROGRAM, "apply", "--db"], []), Program("C, default pages", [peer, "apply"], ["default"]), Program("C, the best", [peer, "apply"], ["best"])]
+    programs = [
+        Program("The counter", [PROGRAM, "apply", "--db"], []),
+        Program("C, default pages", [peer, "apply"], ["default"]),
+        Program("C, the best", [peer, "apply"], ["best"]),
+    ]
     for program in programs:
-        program.apply(program.store, beginning(100, MOST_BONDS) + [redemption(100_000 + n, PAYEE, "F", n, n) for n in range(1, 201)])
-    print(f"| Response | The counter | C, default pages | Ratio | C, the best | Ratio | {' | '.join([*GROUPS, CALLS])} |\n|{'---|' * (len(GROUPS) + 7)}")
+        program.apply(
+            program.store,
+            beginning(100, MOST_BONDS)
+            + [redemption(100_000 + n, PAYEE, "F", n, n) for n in range(1, 201)],
+        )
+    print(
+        f"| Response | The counter | C, default pages | Ratio | C, the best | Ratio | {' | '.join([*GROUPS, CALLS])} |\n|{'---|' * (len(GROUPS) + 7)}"
+    )
     print_row(programs, VALUE, value)
     print_row(programs, ONE, lambda n: redemption(200_000 + n, PAYEE, "F", 200 + n, 200 + n))
     print_row(programs, ONE_AGAIN, lambda n: redemption(100_000 + n, PAYEE, "F", n, n))
-    print_row(programs, MANY, lambda n: redemption(200_000 + n, PAYEE, "F", 100 * n + 101, 100 * n + 200), 2, 12)
-    print_row(programs, MANY_AGAIN, lambda n: redemption(60_000 + 100 * n - 99, HALF_PAID, "E", 100 * n - 99, 100 * n), 2, 12)
+    print_row(
+        programs,
+        MANY,
+        lambda n: redemption(200_000 + n, PAYEE, "F", 100 * n + 101, 100 * n + 200),
+        2,
+        12,
+    )
+    print_row(
+        programs,
+        MANY_AGAIN,
+        lambda n: redemption(60_000 + 100 * n - 99, HALF_PAID, "E", 100 * n - 99, 100 * n),
+        2,
+        12,
+    )
     for kind, owner in LISTS.items():
         print_row(programs, kind, functools.partial(asked_again, inventory(owner)), 5, 15)
-    print_row(programs, IMPORT, lambda n: entered(300_000 + n, bonds_of(PAYEE, "G", 500 * n, 500 * n + 499))[0], 1, 4)
+    print_row(
+        programs,
+        IMPORT,
+        lambda n: entered(300_000 + n, bonds_of(PAYEE, "G", 500 * n, 500 * n + 499))[0],
+        1,
+        4,
+    )
     shutil.rmtree(FOLDER)
 
 

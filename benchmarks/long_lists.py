@@ -13,15 +13,23 @@ store = os.path.join(tempfile.mkdtemp(), "day.db")
 with socket.socket() as free:
     free.bind(("127.0.0.1", 0))
     port = free.getsockname()[1]
-server = subprocess.Popen([program, "serve", "--db", store, "--port", str(port)], stdout=subprocess.DEVNULL)
+server = subprocess.Popen(
+    [program, "serve", "--db", store, "--port", str(port)], stdout=subprocess.DEVNULL
+)
 time.sleep(0.5)
 number = 0
 
 RATES = [{"from": "2010-11", "rate": "3.50"}] * 31_774
-BONDS = [{"serial": f"A{n}EE", "denom": 50, "issued": "2010-11", "owner": 7} for n in range(1, 17_091)]
+BONDS = [
+    {"serial": f"A{n}EE", "denom": 50, "issued": "2010-11", "owner": 7} for n in range(1, 17_091)
+]
 SERIALS = [f"A{n}EE" for n in range(1, 96_329)]
 #: Path, the key of the list, its rows, and how many are allowed.
-LISTS: list[tuple[str, str, Sequence[object], int]] = [("/rates", "rates", RATES, 500), ("/bonds", "bonds", BONDS, 500), ("/redeem", "serials", SERIALS, 100)]
+LISTS: list[tuple[str, str, Sequence[object], int]] = [
+    ("/rates", "rates", RATES, 500),
+    ("/bonds", "bonds", BONDS, 500),
+    ("/redeem", "serials", SERIALS, 100),
+]
 
 
 def timed(client: socket.socket, stream: bytes) -> float:
@@ -53,10 +61,17 @@ try:
                 again: list[float] = []
                 for _ in range(rounds):
                     number += 1
-                    value = {"number": number, **({"day": "2012-02-06", "payee": 7} if key == "serials" else {}), key: rows[:count]}
+                    value = {
+                        "number": number,
+                        **({"day": "2012-02-06", "payee": 7} if key == "serials" else {}),
+                        key: rows[:count],
+                    }
                     stream = message(path, value)
                     new.append(timed(client, stream))
                     again.append(timed(client, stream))
-                print(f"| {path} | {count:,} | {len(stream):,} | {told(new)} | {told(again)} |", flush=True)
+                print(
+                    f"| {path} | {count:,} | {len(stream):,} | {told(new)} | {told(again)} |",
+                    flush=True,
+                )
 finally:
     server.kill()

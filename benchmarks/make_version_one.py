@@ -57,7 +57,10 @@ def owner(bond: int) -> int:
 
 
 def import_of(first: int, end: int) -> Texts:
-    rows = ",".join(f'{{"denom":50,"issued":"2010-05","owner":{owner(bond)},"serial":"A{bond}EE"}}' for bond in range(first, end))
+    rows = ",".join(
+        f'{{"denom":50,"issued":"2010-05","owner":{owner(bond)},"serial":"A{bond}EE"}}'
+        for bond in range(first, end)
+    )
     return f'{{"act":"bonds","bonds":[{rows}]}}', f'{{"new":{end - first},"same":0}}'
 
 
@@ -88,7 +91,10 @@ class Books:
         self.marks[bond] = ticket
         act = f'{{"act":"redeem","day":"{day}","payee":{owner(bond)},"serials":["A{bond}EE"]}}'
         line = f'{{"paid":"{money(cents)}","serial":"A{bond}EE"}}'
-        return act, f'{{"day":"{day}","lines":[{line}],"payee":{owner(bond)},"ticket":{ticket},"total":"{money(cents)}"}}'
+        return (
+            act,
+            f'{{"day":"{day}","lines":[{line}],"payee":{owner(bond)},"ticket":{ticket},"total":"{money(cents)}"}}',
+        )
 
     def a_day(self, place: int) -> Iterator[Texts]:
         """The replies of the day of that place, from 0 on."""
@@ -132,10 +138,16 @@ def make(path: str, bonds: int, replies: int, with_extensions: bool) -> None:
     store.execute("BEGIN")
     for statement in TABLES if with_extensions else TABLES[:-1]:
         store.execute(statement)
-    store.executemany("INSERT INTO replies VALUES (?, ?, ?)", ((number, *texts) for number, texts in enumerate(history(books), 1)))
+    store.executemany(
+        "INSERT INTO replies VALUES (?, ?, ?)",
+        ((number, *texts) for number, texts in enumerate(history(books), 1)),
+    )
     store.execute("INSERT INTO desk VALUES (1, 1, NULL, ?)", (books.day,))
     store.execute("INSERT INTO rates VALUES (?, ?)", (PERIOD, RATE))
-    marked = ((1, bond, 50, PERIOD, owner(bond), None, books.marks.get(bond)) for bond in range(1, bonds + 1))
+    marked = (
+        (1, bond, 50, PERIOD, owner(bond), None, books.marks.get(bond))
+        for bond in range(1, bonds + 1)
+    )
     store.executemany("INSERT INTO bonds VALUES (?, ?, ?, ?, ?, ?, ?)", marked)
     store.executemany("INSERT INTO tickets VALUES (?, ?, ?, ?, ?)", books.tickets)
     store.executemany("INSERT INTO paid VALUES (?, ?, ?, ?, ?)", books.paid)
@@ -143,7 +155,9 @@ def make(path: str, bonds: int, replies: int, with_extensions: bool) -> None:
     store.execute("COMMIT")
     kept = store.execute("SELECT count(*) FROM replies").fetchone()[0]
     store.close()
-    print(f"{bonds} bonds, {kept} replies, {len(books.tickets)} tickets, {len(books.batches)} days, {os.path.getsize(path)} bytes")
+    print(
+        f"{bonds} bonds, {kept} replies, {len(books.tickets)} tickets, {len(books.batches)} days, {os.path.getsize(path)} bytes"
+    )
 
 
 words = [word for word in sys.argv[1:] if word != "--without-extensions"]

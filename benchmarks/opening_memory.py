@@ -28,12 +28,27 @@ def pay_all(store: Path) -> None:
     """Pays each bond on a ticket of its own, on as many days as that takes."""
     with served(PROGRAM, store) as server:
         for first in range(1, BONDS + 1, DAY_TICKETS):
-            day, number = (FIRST_DAY + datetime.timedelta(first // DAY_TICKETS)).isoformat(), 10**15 + 2 * first
+            day, number = (
+                FIRST_DAY + datetime.timedelta(first // DAY_TICKETS)
+            ).isoformat(), 10**15 + 2 * first
             server.ask(post("/day/open", {"number": number, "day": day}))
             for n in range(first, min(first + DAY_TICKETS, BONDS + 1)):
-                server.ask(post("/redeem", {"desk": 1, "number": n, "day": day, "payee": (n - 1) // EACH + 1, "serials": [f"A{n}EE"]}))
+                server.ask(
+                    post(
+                        "/redeem",
+                        {
+                            "desk": 1,
+                            "number": n,
+                            "day": day,
+                            "payee": (n - 1) // EACH + 1,
+                            "serials": [f"A{n}EE"],
+                        },
+                    )
+                )
             server.ask(post("/day/close", {"number": number + 1, "day": day}))
-    subprocess.run([PROGRAM, "export", "999999999", "--db", store], stdout=subprocess.DEVNULL, check=True)
+    subprocess.run(
+        [PROGRAM, "export", "999999999", "--db", store], stdout=subprocess.DEVNULL, check=True
+    )
 
 
 def refused(store: Path) -> Path:
@@ -43,7 +58,9 @@ def refused(store: Path) -> Path:
         copy.execute("PRAGMA page_size = 1024")
         copy.execute("PRAGMA journal_mode = WAL")
         copy.execute("ATTACH ? AS old", (str(store),))
-        for kind, name, text in copy.execute("SELECT type, name, sql FROM old.sqlite_schema WHERE sql IS NOT NULL ORDER BY rowid").fetchall():
+        for kind, name, text in copy.execute(
+            "SELECT type, name, sql FROM old.sqlite_schema WHERE sql IS NOT NULL ORDER BY rowid"
+        ).fetchall():
             copy.execute(text)
             if kind == "table":
                 copy.execute(f"INSERT INTO main.{name} SELECT * FROM old.{name}")
@@ -54,12 +71,19 @@ def refused(store: Path) -> Path:
 
 def memory(store: Path, status: int) -> int:
     """The bytes that the process had at most."""
-    process = subprocess.Popen([PROGRAM, "export", "999999999", "--db", store], stdout=subprocess.DEVNULL, stderr=subprocess.PIPE)
+    process = subprocess.Popen(
+        [PROGRAM, "export", "999999999", "--db", store],
+        stdout=subprocess.DEVNULL,
+        stderr=subprocess.PIPE,
+    )
     assert process.stderr
     words = process.stderr.read().decode()
     _, ended, usage = os.wait4(process.pid, 0)
     process.returncode = os.waitstatus_to_exitcode(ended)
-    assert (process.returncode == 0) == (status == 0) and (status == 0 or WRONG_VERSION in words), (process.returncode, words)
+    assert (process.returncode == 0) == (status == 0) and (status == 0 or WRONG_VERSION in words), (
+        process.returncode,
+        words,
+    )
     most: int = usage.ru_maxrss * 1024
     return most
 
@@ -72,7 +96,10 @@ def main() -> None:
     pay_all(paid)
     base = memory(none, 0)
     print("| Store | Opening | `sqlite`'s part |\n|---|---|---|")
-    for name, store in ((f"{BONDS:,} bonds, none paid", unpaid), (f"{BONDS:,} bonds, all paid, one a ticket", paid)):
+    for name, store in (
+        (f"{BONDS:,} bonds, none paid", unpaid),
+        (f"{BONDS:,} bonds, all paid, one a ticket", paid),
+    ):
         whole, alone = (memory(*of) - base for of in ((store, 0), (refused(store), 1)))
         print(f"| {name} | {whole / BONDS:,.0f} bytes a bond | {alone / BONDS:,.0f} |", flush=True)
 

@@ -24,7 +24,28 @@ from typing import Sequence
 
 sys.dont_write_bytecode = True
 
-from asking import HALF_PAID, HUNDRED, IMPORT, LISTS, MANY, MANY_AGAIN, ONE, ONE_AGAIN, PAYEE, TEN, TWO_THOUSAND, VALUE, Bonds, beginning, bonds_of, built_peer, entered, inventory, redemption, value  # noqa: E402
+from asking import (
+    HALF_PAID,
+    HUNDRED,
+    IMPORT,
+    LISTS,
+    MANY,
+    MANY_AGAIN,
+    ONE,
+    ONE_AGAIN,
+    PAYEE,
+    TEN,
+    TWO_THOUSAND,
+    VALUE,
+    Bonds,
+    beginning,
+    bonds_of,
+    built_peer,
+    entered,
+    inventory,
+    redemption,
+    value,
+)  # noqa: E402
 
 PROGRAM, FOLDER = os.path.abspath(sys.argv[1]), Path(sys.argv[2])
 BONDS, ROUNDS = (int(word) for word in (sys.argv[3:5] + ["1000", "8"][len(sys.argv[3:5]) :]))
@@ -43,7 +64,10 @@ class Server:
         with socket.socket() as free:
             free.bind(("127.0.0.1", 0))
             self.port: int = free.getsockname()[1]
-        self.process = subprocess.Popen([word.format(store=self.store, port=self.port) for word in words], stdout=subprocess.DEVNULL)
+        self.process = subprocess.Popen(
+            [word.format(store=self.store, port=self.port) for word in words],
+            stdout=subprocess.DEVNULL,
+        )
 
     def connected(self) -> socket.socket:
         for _ in range(500):
@@ -57,7 +81,13 @@ class Server:
 
     def busy(self) -> float:
         """Microseconds of the processor so far, of all threads."""
-        return sum(int(file.read_text().split()[0]) for file in Path(f"/proc/{self.process.pid}/task").glob("*/schedstat")) / 1000
+        return (
+            sum(
+                int(file.read_text().split()[0])
+                for file in Path(f"/proc/{self.process.pid}/task").glob("*/schedstat")
+            )
+            / 1000
+        )
 
     def asked(self, messages: list[bytes]) -> tuple[list[bytes], float]:
         """The responses, and microseconds of the processor for one of them."""
@@ -82,7 +112,9 @@ class Server:
 def whole_answer(client: socket.socket, message: bytes) -> bytes:
     client.sendall(message)
     text = client.recv(1 << 20)
-    while (end := text.find(b"\r\n\r\n")) < 0 or len(text) < end + 4 + int(text[text.index(b"Length: ") + 8 : text.index(b"\r\n", text.index(b"Length: "))]):
+    while (end := text.find(b"\r\n\r\n")) < 0 or len(text) < end + 4 + int(
+        text[text.index(b"Length: ") + 8 : text.index(b"\r\n", text.index(b"Length: "))]
+    ):
         more = client.recv(1 << 20)
         assert more, text
         text += more
@@ -92,7 +124,11 @@ def whole_answer(client: socket.socket, message: bytes) -> bytes:
 def kinds(place: int) -> dict[str, list[bytes]]:
     """The requests of a round, by their kinds."""
     single = range(place * SINGLE + 1, (place + 1) * SINGLE + 1)
-    tickets = range(SINGLE * ROUNDS + place * MANY_TICKETS * 100 + 1, SINGLE * ROUNDS + (place + 1) * MANY_TICKETS * 100, 100)
+    tickets = range(
+        SINGLE * ROUNDS + place * MANY_TICKETS * 100 + 1,
+        SINGLE * ROUNDS + (place + 1) * MANY_TICKETS * 100,
+        100,
+    )
     new: Bonds = bonds_of(PAYEE, "G", place * IMPORTS * 500 + 1, (place + 1) * IMPORTS * 500)
     found = {
         VALUE: [value(n) for n in range(200)],
@@ -103,7 +139,11 @@ def kinds(place: int) -> dict[str, list[bytes]]:
         **{name: [inventory(owner)] * QUERIES[owner] for name, owner in LISTS.items()},
         IMPORT: entered(3_000_000 + place * 10_000, new),
     }
-    return {kind: messages for kind, messages in found.items() if not WRITES or kind in (ONE, MANY, IMPORT)}
+    return {
+        kind: messages
+        for kind, messages in found.items()
+        if not WRITES or kind in (ONE, MANY, IMPORT)
+    }
 
 
 def differing(answers: Sequence[bytes], others: Sequence[bytes]) -> list[int]:
@@ -116,14 +156,20 @@ def compare(kind: str, got: dict[str, tuple[list[bytes], float]]) -> None:
     ours = got[COUNTER][0]
     for name, (answers, _) in got.items():
         for place in differing(ours, answers):
-            sys.exit(f"peers.py: {kind}: the counter answers\n{ours[place]!r}\n{name}:\n{answers[place]!r}")
+            sys.exit(
+                f"peers.py: {kind}: the counter answers\n{ours[place]!r}\n{name}:\n{answers[place]!r}"
+            )
     assert all(answer.startswith(b"HTTP/1.1 200 OK") for answer in ours), kind
-    assert differing(ours, [*ours[:-1], ours[-1] + b" "]) == [len(ours) - 1], "a response that differs is seen"
+    assert differing(ours, [*ours[:-1], ours[-1] + b" "]) == [
+        len(ours) - 1
+    ], "a response that differs is seen"
 
 
 def rows(store: Path) -> list[list[tuple[object, ...]]]:
     with contextlib.closing(sqlite3.connect(store)) as books:
-        return [sorted(books.execute(f"SELECT * FROM {table}").fetchall(), key=repr) for table in TABLES]
+        return [
+            sorted(books.execute(f"SELECT * FROM {table}").fetchall(), key=repr) for table in TABLES
+        ]
 
 
 def cell(figures: Sequence[float]) -> str:
@@ -131,13 +177,19 @@ def cell(figures: Sequence[float]) -> str:
 
 
 def printed(figures: dict[str, dict[str, list[float]]], names: list[str]) -> None:
-    print(f"{BONDS:,} bonds, {ROUNDS} rounds, stores in {FOLDER}, load of the machine {os.getloadavg()[0]:.1f}\n")
+    print(
+        f"{BONDS:,} bonds, {ROUNDS} rounds, stores in {FOLDER}, load of the machine {os.getloadavg()[0]:.1f}\n"
+    )
     heads = [head for name in names for head in ([name] if name == COUNTER else [name, "Ratio"])]
     print(f"| Response | {' | '.join(heads)} |\n|{'---|' * (len(heads) + 1)}")
     for kind, runs in figures.items():
         cells = [cell(runs[COUNTER])]
         for name in names[1:]:
-            cells += [cell(runs[name]), f"{median(runs[name]) / median(runs[COUNTER]):.2f}"] if name in runs else ["", ""]
+            cells += (
+                [cell(runs[name]), f"{median(runs[name]) / median(runs[COUNTER]):.2f}"]
+                if name in runs
+                else ["", ""]
+            )
         print(f"| {kind} | {' | '.join(cells)} |")
 
 
@@ -151,14 +203,25 @@ servers = [
 try:
     for server in servers:
         server.fed(beginning(BONDS, ROUNDS * (SINGLE + 100 * MANY_TICKETS)))
-    with contextlib.closing(sqlite3.connect(servers[1].store)) as made, contextlib.closing(sqlite3.connect(FOLDER / f"{PYTHON}.db")) as copy:
+    with contextlib.closing(sqlite3.connect(servers[1].store)) as made, contextlib.closing(
+        sqlite3.connect(FOLDER / f"{PYTHON}.db")
+    ) as copy:
         made.backup(copy)
-    servers.append(Server(PYTHON, [sys.executable, str(Path(__file__).with_name("server.py")), "{store}", "{port}"]))
+    servers.append(
+        Server(
+            PYTHON,
+            [sys.executable, str(Path(__file__).with_name("server.py")), "{store}", "{port}"],
+        )
+    )
     figures: dict[str, dict[str, list[float]]] = {}
     for place in range(ROUNDS):
         for turn, (kind, messages) in enumerate(kinds(place).items()):
             first = (place + turn) % len(servers)
-            got = {server.name: server.asked(messages) for server in servers[first:] + servers[:first] if (kind, server.name) != (IMPORT, PYTHON)}
+            got = {
+                server.name: server.asked(messages)
+                for server in servers[first:] + servers[:first]
+                if (kind, server.name) != (IMPORT, PYTHON)
+            }
             compare(kind, got)
             for name, (_, busy) in got.items():
                 figures.setdefault(kind, {}).setdefault(name, []).append(busy)

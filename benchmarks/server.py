@@ -59,7 +59,9 @@ def unit_values(rate: int, extension: int) -> list[int]:
     values: list[int] = []
     for half in range(60):
         growth = 1 + decimal.Decimal(rate if half < 40 else extension) / 20000
-        *within, start = [rounded(start * growth ** (decimal.Decimal(months) / 6)) for months in range(7)]
+        *within, start = [
+            rounded(start * growth ** (decimal.Decimal(months) / 6)) for months in range(7)
+        ]
         values += within
         if half == 39:
             start = max(start, 2500)
@@ -79,10 +81,22 @@ def row(denom: int, issued: int, now: int, rates: tuple[int, int]) -> Row:
     age, price = now - issued, denom * 50
     if age < 0:
         return 0, 0, 0, None, None, None, "NI"
-    value = price if age < 12 else unit_values(*rates)[min(age - 3 if age < 60 else age, 360)] * denom // 25
+    value = (
+        price
+        if age < 12
+        else unit_values(*rates)[min(age - 3 if age < 60 else age, 360)] * denom // 25
+    )
     if age >= 360:
         return price, value - price, value, None, None, issued + 360, "MA"
-    return price, value - price, value, rates[age >= 240], now + 1, issued + 360, "NE" if age < 12 else "P5" if age < 60 else ""
+    return (
+        price,
+        value - price,
+        value,
+        rates[age >= 240],
+        now + 1,
+        issued + 360,
+        "NE" if age < 12 else "P5" if age < 60 else "",
+    )
 
 
 def month_text(count: int | None) -> str:
@@ -94,12 +108,37 @@ def sheet_month(count: int | None) -> str:
 
 
 def value(denom: str, issued: str, now: str) -> str:
-    price, interest, paid, rate, following, final, note = row(int(denom), month(issued), month(now), terms(month(issued)))
-    return compact({"denom": int(denom), "final": month_text(final), "interest": dollars(interest), "issued": issued, "next": month_text(following), "note": note,
-                    "price": dollars(price), "rate": "" if rate is None else dollars(rate) + "%", "value": dollars(paid)})
+    price, interest, paid, rate, following, final, note = row(
+        int(denom), month(issued), month(now), terms(month(issued))
+    )
+    return compact(
+        {
+            "denom": int(denom),
+            "final": month_text(final),
+            "interest": dollars(interest),
+            "issued": issued,
+            "next": month_text(following),
+            "note": note,
+            "price": dollars(price),
+            "rate": "" if rate is None else dollars(rate) + "%",
+            "value": dollars(paid),
+        }
+    )
 
 
-def line(serial: str, series: str, denom: int | str, issued: str, following: str, final: str, price: str, interest: str, rate: str, paid: str, note: str) -> str:
+def line(
+    serial: str,
+    series: str,
+    denom: int | str,
+    issued: str,
+    following: str,
+    final: str,
+    price: str,
+    interest: str,
+    rate: str,
+    paid: str,
+    note: str,
+) -> str:
     text = f"{serial:13} {series:6} {denom:>6} {issued:7} {following:7} {final:7} {price:>12} {interest:>14} {rate:>6} {paid:>14}"
     return f"{text} {note}\n" if note else text + "\n"
 
@@ -107,23 +146,59 @@ def line(serial: str, series: str, denom: int | str, issued: str, following: str
 def inventory(customer: str, shown: str) -> str:
     now, lines, sums = month(shown), [HEADING], [0, 0, 0]
     rates: dict[int, tuple[int, int]] = {}
-    bonds = store.execute("SELECT letter, number, denom, issued FROM bonds WHERE owner = ? AND ticket IS NULL ORDER BY letter, number", (int(customer),))
+    bonds = store.execute(
+        "SELECT letter, number, denom, issued FROM bonds WHERE owner = ? AND ticket IS NULL ORDER BY letter, number",
+        (int(customer),),
+    )
     for letter, number, denom, issued in bonds.fetchall():
         period = issued - issued % 6
         if period not in rates:
             rates[period] = terms(issued)
         price, interest, paid, rate, following, final, note = row(denom, issued, now, rates[period])
         sums = [sums[0] + price, sums[1] + interest, sums[2] + paid]
-        lines.append(line(f"{chr(64 + letter)}{number}EE", "EE", denom, sheet_month(issued), sheet_month(following), sheet_month(final), dollars(price),
-                          dollars(interest), "" if rate is None else dollars(rate) + "%", dollars(paid), note))
-    lines.append(line("Total", "", "", "", "", "", dollars(sums[0]), dollars(sums[1]), "", dollars(sums[2]), ""))
+        lines.append(
+            line(
+                f"{chr(64 + letter)}{number}EE",
+                "EE",
+                denom,
+                sheet_month(issued),
+                sheet_month(following),
+                sheet_month(final),
+                dollars(price),
+                dollars(interest),
+                "" if rate is None else dollars(rate) + "%",
+                dollars(paid),
+                note,
+            )
+        )
+    lines.append(
+        line(
+            "Total",
+            "",
+            "",
+            "",
+            "",
+            "",
+            dollars(sums[0]),
+            dollars(sums[1]),
+            "",
+            dollars(sums[2]),
+            "",
+        )
+    )
     return "".join(lines)
 
 
 def pay(request: Redemption, act: str) -> str:
     """A new redemption, within a transaction: its reply, which is kept."""
-    day, payee, serials = (date.fromisoformat(request["day"]) - date(1970, 1, 1)).days, request["payee"], request["serials"]
-    _, open_day, _ = store.execute("SELECT version, day, last_day FROM desk WHERE id = 1").fetchone()
+    day, payee, serials = (
+        (date.fromisoformat(request["day"]) - date(1970, 1, 1)).days,
+        request["payee"],
+        request["serials"],
+    )
+    _, open_day, _ = store.execute(
+        "SELECT version, day, last_day FROM desk WHERE id = 1"
+    ).fetchone()
     assert open_day == day and len(set(serials)) == len(serials) <= 100
     now = (int(request["day"][:4]) - 2005) * 12 + int(request["day"][5:7]) - 5
     found: list[tuple[tuple[int, int], str, int, int]] = []
@@ -131,35 +206,68 @@ def pay(request: Redemption, act: str) -> str:
     lines: list[tuple[tuple[int, int], str, int]] = []
     for serial in serials:
         key = ord(serial[0]) - 64, int(serial[1:-2])
-        denom, issued, owner, coowner, ticket = store.execute("SELECT denom, issued, owner, coowner, ticket FROM bonds WHERE letter = ? AND number = ?", key).fetchone()
+        denom, issued, owner, coowner, ticket = store.execute(
+            "SELECT denom, issued, owner, coowner, ticket FROM bonds WHERE letter = ? AND number = ?",
+            key,
+        ).fetchone()
         assert ticket is None and payee in (owner, coowner) and now - issued >= 12
         found.append((key, serial, denom, issued))
     for _, _, _, issued in found:
         if issued - issued % 6 not in rates:
             rates[issued - issued % 6] = terms(issued)
     last = store.execute("SELECT ticket FROM tickets ORDER BY ticket DESC LIMIT 1").fetchone()
-    first = store.execute("SELECT ticket FROM tickets WHERE day = ? ORDER BY ticket LIMIT 1", (day,)).fetchone()
+    first = store.execute(
+        "SELECT ticket FROM tickets WHERE day = ? ORDER BY ticket LIMIT 1", (day,)
+    ).fetchone()
     ticket = last[0] + 1 if last else 1
     assert not first or ticket - first[0] < 1000
     for key, serial, denom, issued in found:
         lines.append((key, serial, row(denom, issued, now, rates[issued - issued % 6])[2]))
     total = sum(cents for _, _, cents in lines)
-    store.execute("INSERT INTO tickets (ticket, day, payee, bonds, total) VALUES (?, ?, ?, ?, ?)", (ticket, day, payee, len(lines), total))
-    store.executemany("INSERT INTO paid (ticket, place, letter, number, cents) VALUES (?, ?, ?, ?, ?)",
-                      [(ticket, place, *key, cents) for place, (key, _, cents) in enumerate(lines, 1)])
-    store.executemany("UPDATE bonds SET ticket = ? WHERE letter = ? AND number = ?", [(ticket, *key) for key, _, _ in lines])
-    reply = compact({"day": request["day"], "lines": [{"paid": dollars(cents), "serial": serial} for _, serial, cents in lines], "payee": payee, "ticket": ticket,
-                     "total": dollars(total)})
-    store.execute("INSERT INTO answers (desk, number, act, reply) VALUES (?, ?, ?, ?)", (request.get("desk", 0), request["number"], act, reply))
+    store.execute(
+        "INSERT INTO tickets (ticket, day, payee, bonds, total) VALUES (?, ?, ?, ?, ?)",
+        (ticket, day, payee, len(lines), total),
+    )
+    store.executemany(
+        "INSERT INTO paid (ticket, place, letter, number, cents) VALUES (?, ?, ?, ?, ?)",
+        [(ticket, place, *key, cents) for place, (key, _, cents) in enumerate(lines, 1)],
+    )
+    store.executemany(
+        "UPDATE bonds SET ticket = ? WHERE letter = ? AND number = ?",
+        [(ticket, *key) for key, _, _ in lines],
+    )
+    reply = compact(
+        {
+            "day": request["day"],
+            "lines": [{"paid": dollars(cents), "serial": serial} for _, serial, cents in lines],
+            "payee": payee,
+            "ticket": ticket,
+            "total": dollars(total),
+        }
+    )
+    store.execute(
+        "INSERT INTO answers (desk, number, act, reply) VALUES (?, ?, ?, ?)",
+        (request.get("desk", 0), request["number"], act, reply),
+    )
     return reply
 
 
 def redeem(body: bytes) -> str:
     request: Redemption = json.loads(body)
-    act = compact({"act": "redeem", "day": request["day"], "payee": request["payee"], "serials": request["serials"]})
+    act = compact(
+        {
+            "act": "redeem",
+            "day": request["day"],
+            "payee": request["payee"],
+            "serials": request["serials"],
+        }
+    )
     store.execute("BEGIN")
     try:
-        kept = store.execute("SELECT act, reply FROM answers WHERE desk = ? AND number = ?", (request.get("desk", 0), request["number"])).fetchone()
+        kept = store.execute(
+            "SELECT act, reply FROM answers WHERE desk = ? AND number = ?",
+            (request.get("desk", 0), request["number"]),
+        ).fetchone()
         assert not kept or kept[0] == act
         reply: str = kept[1] if kept else pay(request, act)
         store.execute("COMMIT")

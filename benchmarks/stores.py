@@ -22,7 +22,9 @@ class Served:
         with socket.socket() as free:
             free.bind(("127.0.0.1", 0))
             self.port: int = free.getsockname()[1]
-        self.process = subprocess.Popen([program, "serve", "--db", store, "--port", str(self.port)], stdout=subprocess.DEVNULL)
+        self.process = subprocess.Popen(
+            [program, "serve", "--db", store, "--port", str(self.port)], stdout=subprocess.DEVNULL
+        )
         self.client, self.left = self.connected(), 900
 
     def connected(self) -> socket.socket:
@@ -42,7 +44,9 @@ class Served:
         self.left -= 1
         self.client.sendall(message)
         text = self.client.recv(1 << 20)
-        while (end := text.find(b"\r\n\r\n")) < 0 or len(text) < end + 4 + int(text[text.index(b"Length: ") + 8 : text.index(b"\r\n", text.index(b"Length: "))]):
+        while (end := text.find(b"\r\n\r\n")) < 0 or len(text) < end + 4 + int(
+            text[text.index(b"Length: ") + 8 : text.index(b"\r\n", text.index(b"Length: "))]
+        ):
             more = self.client.recv(1 << 20)
             assert more, text
             text += more
@@ -55,7 +59,9 @@ class Served:
 
     def memory(self) -> int:
         """Kilobytes of memory at most."""
-        return int(Path(f"/proc/{self.process.pid}/status").read_text().split("VmHWM:")[1].split()[0])
+        return int(
+            Path(f"/proc/{self.process.pid}/status").read_text().split("VmHWM:")[1].split()[0]
+        )
 
     def end(self) -> None:
         self.client.close()
@@ -73,14 +79,38 @@ def served(program: str, store: Path) -> Iterator[Served]:
 
 
 def bonds(first: int, last: int) -> Bonds:
-    return [{"serial": f"A{n}EE", "denom": DENOMS[n % 8], "issued": ISSUES[n % 72], "owner": (n - 1) // EACH + 1} for n in range(first, last + 1)]
+    return [
+        {
+            "serial": f"A{n}EE",
+            "denom": DENOMS[n % 8],
+            "issued": ISSUES[n % 72],
+            "owner": (n - 1) // EACH + 1,
+        }
+        for n in range(first, last + 1)
+    ]
 
 
 def made(program: str, store: Path, count: int) -> None:
     """Makes a store of as many unpaid bonds, ten of a customer, and writes its log back."""
     with served(program, store) as server:
-        server.ask(post("/rates", {"number": 1, "rates": [{"from": f"{2005 + half // 2}-{5 + half % 2 * 6:02}", "rate": f"{1 + half % 4}.{half:02}"} for half in range(20)]}))
+        server.ask(
+            post(
+                "/rates",
+                {
+                    "number": 1,
+                    "rates": [
+                        {
+                            "from": f"{2005 + half // 2}-{5 + half % 2 * 6:02}",
+                            "rate": f"{1 + half % 4}.{half:02}",
+                        }
+                        for half in range(20)
+                    ],
+                },
+            )
+        )
         for first in range(1, count + 1, 500):
             for message in entered(10 + first // 500, bonds(first, min(first + 499, count))):
                 server.ask(message)
-    subprocess.run([program, "export", "999999999", "--db", store], stdout=subprocess.DEVNULL, check=True)
+    subprocess.run(
+        [program, "export", "999999999", "--db", store], stdout=subprocess.DEVNULL, check=True
+    )

@@ -18,7 +18,10 @@ def main() -> int:
     except ModuleNotFoundError as missing:
         if missing.name != "ee_counter_client":
             raise
-        print(f"the package ee_counter_client is missing: install its wheel, or keep {SOURCE} with its content", file=sys.stderr)
+        print(
+            f"the package ee_counter_client is missing: install its wheel, or keep {SOURCE} with its content",
+            file=sys.stderr,
+        )
         return 3
     return command()
 

@@ -20,11 +20,18 @@ def short(identity: str) -> str:
 
 def component(part: dict[str, Any]) -> dict[str, Any]:
     """A part. A Debian package is named by its purl; of a crate the purl names what it was ported from, its ancestor."""
-    found = {"type": TYPES[part["primaryPackagePurpose"]], "bom-ref": short(part["SPDXID"]), "name": part["name"], "version": part["versionInfo"]}
+    found = {
+        "type": TYPES[part["primaryPackagePurpose"]],
+        "bom-ref": short(part["SPDXID"]),
+        "name": part["name"],
+        "version": part["versionInfo"],
+    }
     if "comment" in part:
         found["description"] = part["comment"]
     if "checksums" in part:
-        found["hashes"] = [{"alg": "SHA-256", "content": item["checksumValue"]} for item in part["checksums"]]
+        found["hashes"] = [
+            {"alg": "SHA-256", "content": item["checksumValue"]} for item in part["checksums"]
+        ]
     if part["licenseDeclared"] != NO_LICENCE:
         found["licenses"] = [{"expression": part["licenseDeclared"]}]
     if part["copyrightText"] != NO_LICENCE:
@@ -35,7 +42,9 @@ def component(part: dict[str, Any]) -> dict[str, Any]:
             found["purl"] = purl
         else:
             name, version = purl.rsplit("/", 1)[1].split("@")
-            found["pedigree"] = {"ancestors": [{"type": "library", "name": name, "version": version, "purl": purl}]}
+            found["pedigree"] = {
+                "ancestors": [{"type": "library", "name": name, "version": version, "purl": purl}]
+            }
     return found
 
 
@@ -51,7 +60,10 @@ def dependencies(listed: dict[str, Any], names: list[str]) -> list[dict[str, Any
 def document(listed: dict[str, Any]) -> dict[str, Any]:
     """The document, from that of SPDX. Its serial number follows from the name of that one, so the same sources give the same bytes."""
     parts = [component(part) for part in listed["packages"]]
-    tools = [{"type": "application", "name": "packaging/build"}, *(part for part in parts if part["bom-ref"] == TOOLCHAIN)]
+    tools = [
+        {"type": "application", "name": "packaging/build"},
+        *(part for part in parts if part["bom-ref"] == TOOLCHAIN),
+    ]
     parts = [part for part in parts if part["bom-ref"] != TOOLCHAIN]
     name, version = listed["name"].split("-", 1)
     return {
@@ -63,7 +75,12 @@ def document(listed: dict[str, Any]) -> dict[str, Any]:
             "timestamp": listed["creationInfo"]["created"],
             "tools": {"components": tools},
             "authors": [{"name": "Ladwenpik maintainers"}],
-            "component": {"type": "application", "bom-ref": WHOLE, "name": name, "version": version},
+            "component": {
+                "type": "application",
+                "bom-ref": WHOLE,
+                "name": name,
+                "version": version,
+            },
         },
         "components": parts,
         "dependencies": dependencies(listed, [WHOLE, *(part["bom-ref"] for part in parts)]),

@@ -40,7 +40,9 @@ class Facts(NamedTuple):
 
 
 def time_text(seconds: int) -> str:
-    return datetime.datetime.fromtimestamp(seconds, datetime.timezone.utc).strftime("%Y-%m-%dT%H:%M:%SZ")
+    return datetime.datetime.fromtimestamp(seconds, datetime.timezone.utc).strftime(
+        "%Y-%m-%dT%H:%M:%SZ"
+    )
 
 
 def kit() -> str:
@@ -65,8 +67,14 @@ def section(lines: list[str], crate: str) -> list[str]:
 def verdict_of(lines: list[str], crate: str) -> str:
     """The toolchain's last line on a crate, if it is a verdict from nothing by the toolchain that README names."""
     found = [line for line in section(lines, crate) if line.startswith("logic=")]
-    if not found or not VERDICT.fullmatch(found[-1]) or f"sum={kit().split()[-1]} " not in found[-1]:
-        raise Unfit(f"its line on {crate} is no verdict from nothing by {kit()}: {found[-1] if found else 'it has none'}")
+    if (
+        not found
+        or not VERDICT.fullmatch(found[-1])
+        or f"sum={kit().split()[-1]} " not in found[-1]
+    ):
+        raise Unfit(
+            f"its line on {crate} is no verdict from nothing by {kit()}: {found[-1] if found else 'it has none'}"
+        )
     return found[-1]
 
 
@@ -78,7 +86,11 @@ def count_of_sources() -> int:
 def tested_gate(log: Path) -> list[str]:
     """The lines of a log of the gate, if it is of these sources and of the program in crates/ee_cli/out, and everything was
     done in that run. Unfit says what it isn't."""
-    lines, own, count = log.read_text(errors="replace").splitlines(), sources.record_of_sources(), count_of_sources()
+    lines, own, count = (
+        log.read_text(errors="replace").splitlines(),
+        sources.record_of_sources(),
+        count_of_sources(),
+    )
     try:
         if lines[: len(own)] != own or lines[-len(own) - 1 : -1] != own:
             raise Unfit("it isn't of these sources. packaging/build --prove writes a log that is")
@@ -90,7 +102,9 @@ def tested_gate(log: Path) -> list[str]:
             raise Unfit(f"it doesn't say that {ALL_ANEW}")
         last = lines[-len(own) - 2]
         if last != f"{count} passed, 0 failed":
-            raise Unfit(f"these sources have {count} crates and must-fail edits, and it ends with {last!r}")
+            raise Unfit(
+                f"these sources have {count} crates and must-fail edits, and it ends with {last!r}"
+            )
     except Unfit as fault:
         raise Unfit(f"{log} is no verdict on this program: {fault}") from None
     return lines
@@ -180,7 +194,12 @@ def text(facts: Facts, materials: list[Path]) -> str:
         "Program and library": of_files(facts),
         "The gate, rt ci --anew": of_gate(facts),
         "Axioms, by docs/ASSUMPTIONS.md": of_axioms(),
-        "Packages, and the list of what they are made of, in SPDX and CycloneDX": of_packages(facts, materials),
+        "Packages, and the list of what they are made of, in SPDX and CycloneDX": of_packages(
+            facts, materials
+        ),
     }
-    body = "".join(f"\n{title}\n\n" + "".join(f"  {line}".rstrip() + "\n" for line in lines) for title, lines in parts.items())
+    body = "".join(
+        f"\n{title}\n\n" + "".join(f"  {line}".rstrip() + "\n" for line in lines)
+        for title, lines in parts.items()
+    )
     return f"Evidence of ladwenpik {facts.version}\n{body}"

@@ -25,7 +25,9 @@ class Crates:
             self.ported = {row["name"]: row for row in csv.DictReader(file)}
         reached = sources.closure([PROGRAM, LIBRARY], self.uses)
         self.own = sorted(name for name in reached if name in self.uses)
-        lacking = sorted(name for name in reached if name not in self.uses and name not in self.ported)
+        lacking = sorted(
+            name for name in reached if name not in self.uses and name not in self.ported
+        )
         if lacking:
             raise Unfit(f"packaging/ported_crates.csv lacks {', '.join(lacking)}")
 
@@ -57,7 +59,13 @@ def sha256(path: Path) -> list[dict[str, str]]:
 
 
 def own_crate(name: str, version: str) -> dict[str, Any]:
-    return package(spdx_id("crate", name), name, version, primaryPackagePurpose="LIBRARY", licenseComments=OWN_LICENCE)
+    return package(
+        spdx_id("crate", name),
+        name,
+        version,
+        primaryPackagePurpose="LIBRARY",
+        licenseComments=OWN_LICENCE,
+    )
 
 
 def ported_crate(row: dict[str, str], kit: str) -> dict[str, Any]:
@@ -65,19 +73,45 @@ def ported_crate(row: dict[str, str], kit: str) -> dict[str, Any]:
     more: dict[str, Any] = {"primaryPackagePurpose": "LIBRARY"}
     if row["ported_from"]:
         more["licenseDeclared"] = row["licence"]
-        more["comment"] = f"After the Rust crate {row['ported_from']} {row['version']}, ported to Rattle. The toolchain's pages say what was taken over."
-        more["externalRefs"] = [{"referenceCategory": "PACKAGE-MANAGER", "referenceType": "purl", "referenceLocator": f"pkg:cargo/{row['ported_from']}@{row['version']}", "comment": "what it was ported from, not what it is"}]
+        more[
+            "comment"
+        ] = f"After the Rust crate {row['ported_from']} {row['version']}, ported to Rattle. The toolchain's pages say what was taken over."
+        more["externalRefs"] = [
+            {
+                "referenceCategory": "PACKAGE-MANAGER",
+                "referenceType": "purl",
+                "referenceLocator": f"pkg:cargo/{row['ported_from']}@{row['version']}",
+                "comment": "what it was ported from, not what it is",
+            }
+        ]
     else:
-        more["comment"] = "A crate of the toolchain, which names no Rust crate of one version that it was ported from."
+        more[
+            "comment"
+        ] = "A crate of the toolchain, which names no Rust crate of one version that it was ported from."
     if row["holder"]:
-        more["copyrightText"] = "; ".join(f"Copyright (c) {holder}" for holder in row["holder"].split("; "))
+        more["copyrightText"] = "; ".join(
+            f"Copyright (c) {holder}" for holder in row["holder"].split("; ")
+        )
     return package(spdx_id("crate", row["name"]), row["name"], kit, **more)
 
 
 def debian_package(path: Path) -> dict[str, Any]:
     name, version, architecture = path.stem.split("_")
-    reference = {"referenceCategory": "PACKAGE-MANAGER", "referenceType": "purl", "referenceLocator": f"pkg:deb/{name}@{version}?arch={architecture}"}
-    return package(spdx_id("deb", name), name, version, packageFileName=path.name, checksums=sha256(path), externalRefs=[reference], licenseComments=OWN_LICENCE, primaryPackagePurpose="INSTALL")
+    reference = {
+        "referenceCategory": "PACKAGE-MANAGER",
+        "referenceType": "purl",
+        "referenceLocator": f"pkg:deb/{name}@{version}?arch={architecture}",
+    }
+    return package(
+        spdx_id("deb", name),
+        name,
+        version,
+        packageFileName=path.name,
+        checksums=sha256(path),
+        externalRefs=[reference],
+        licenseComments=OWN_LICENCE,
+        primaryPackagePurpose="INSTALL",
+    )
 
 
 def relation(one: str, kind: str, other: str) -> dict[str, str]:
@@ -86,9 +120,23 @@ def relation(one: str, kind: str, other: str) -> dict[str, str]:
 
 def document(facts: evidence.Facts, crates: Crates) -> dict[str, Any]:
     kit, release = evidence.kit(), facts.version.rsplit("-", 1)[0]
-    program = package(spdx_id("program", PROGRAM), PROGRAM, release, checksums=sha256(facts.program), licenseComments=OWN_LICENCE, primaryPackagePurpose="APPLICATION")
+    program = package(
+        spdx_id("program", PROGRAM),
+        PROGRAM,
+        release,
+        checksums=sha256(facts.program),
+        licenseComments=OWN_LICENCE,
+        primaryPackagePurpose="APPLICATION",
+    )
     shared = Path(facts.library) / "libee_value.so.1"
-    library = package(spdx_id("library", "ee_value"), "libee_value", release, checksums=sha256(shared), licenseComments=OWN_LICENCE, primaryPackagePurpose="LIBRARY")
+    library = package(
+        spdx_id("library", "ee_value"),
+        "libee_value",
+        release,
+        checksums=sha256(shared),
+        licenseComments=OWN_LICENCE,
+        primaryPackagePurpose="LIBRARY",
+    )
     toolchain = package("SPDXRef-toolchain", "rattle-kit", kit, primaryPackagePurpose="APPLICATION")
     debs = [debian_package(path) for path in facts.packages]
     made = [program, library, toolchain, *debs]
@@ -100,7 +148,10 @@ def document(facts: evidence.Facts, crates: Crates) -> dict[str, Any]:
         "SPDXID": "SPDXRef-DOCUMENT",
         "name": f"ladwenpik-{facts.version}",
         "documentNamespace": f"https://ladwenpik.example/spdx/{facts.version}/{sources.sum_of(facts.program)}",
-        "creationInfo": {"created": evidence.time_text(facts.epoch), "creators": ["Tool: packaging/build", "Organization: Ladwenpik maintainers"]},
+        "creationInfo": {
+            "created": evidence.time_text(facts.epoch),
+            "creators": ["Tool: packaging/build", "Organization: Ladwenpik maintainers"],
+        },
         "packages": made,
         "relationships": relations(crates, [deb["SPDXID"] for deb in debs]),
     }
@@ -110,10 +161,18 @@ def relations(crates: Crates, debs: list[str]) -> list[dict[str, str]]:
     program, library = spdx_id("program", PROGRAM), spdx_id("library", "ee_value")
     contained = {"ladwenpik": program, "libee-value1": library, "libee-value-dev": library}
     yielded = [relation("SPDXRef-DOCUMENT", "DESCRIBES", deb) for deb in debs]
-    yielded += [relation(spdx_id("deb", name), "CONTAINS", inner) for name, inner in contained.items()]
+    yielded += [
+        relation(spdx_id("deb", name), "CONTAINS", inner) for name, inner in contained.items()
+    ]
     yielded += [relation("SPDXRef-toolchain", "BUILD_TOOL_OF", made) for made in (program, library)]
-    yielded += [relation(program, "CONTAINS", spdx_id("crate", PROGRAM)), relation(library, "CONTAINS", spdx_id("crate", LIBRARY))]
-    yielded += [relation(spdx_id("crate", name), "DEPENDS_ON", spdx_id("crate", used)) for name, used in crates.edges()]
+    yielded += [
+        relation(program, "CONTAINS", spdx_id("crate", PROGRAM)),
+        relation(library, "CONTAINS", spdx_id("crate", LIBRARY)),
+    ]
+    yielded += [
+        relation(spdx_id("crate", name), "DEPENDS_ON", spdx_id("crate", used))
+        for name, used in crates.edges()
+    ]
     direct = {used for _, used in crates.edges()}
     below = [name for name in sorted(crates.ported) if name not in direct]
     return yielded + [relation(program, "DEPENDS_ON", spdx_id("crate", name)) for name in below]

@@ -31,7 +31,9 @@ class Unfit(Exception):
 
 def told(*words: str | Path, cwd: Path = TOP, env: dict[str, str] | None = None) -> str:
     """What a command printed; Unfit if it fails."""
-    ran = subprocess.run(words, cwd=cwd, env=env, stdout=subprocess.PIPE, stderr=subprocess.STDOUT, text=True)
+    ran = subprocess.run(
+        words, cwd=cwd, env=env, stdout=subprocess.PIPE, stderr=subprocess.STDOUT, text=True
+    )
     if ran.returncode != 0:
         raise Unfit(f"{' '.join(map(str, words))} ended with status {ran.returncode}\n{ran.stdout}")
     return ran.stdout
@@ -45,7 +47,9 @@ def checksum(name: str, **env: str) -> str:
     """The checksum of the sources of a program or a library of this repository, as ./ee_cli computes it. That sorts names
     by the locale: LC_ALL=C gives a checksum that is the same everywhere."""
     script = (TOP / "ee_cli").read_text()
-    matches = [re.search(rf"^{function}\(\) \{{\n.*?^\}}\n", script, re.M | re.S) for function in FUNCTIONS]
+    matches = [
+        re.search(rf"^{function}\(\) \{{\n.*?^\}}\n", script, re.M | re.S) for function in FUNCTIONS
+    ]
     found = [match[0] for match in matches if match is not None]
     if len(found) != len(FUNCTIONS):
         raise Unfit("./ee_cli no longer has the functions that compute the checksum of sources")
@@ -63,13 +67,17 @@ def proved_program() -> Path:
         raise Unfit(f"{name} isn't the program of the sources as they are: {again}")
     if not STAMP.exists() or not STAMP.read_text().endswith(sum_of(PROGRAM)):
         stamp = f"{STAMP.name} doesn't end with its checksum"
-        raise Unfit(f"{name} isn't the program that the toolchain built: {stamp}. Remove it, and {again}")
+        raise Unfit(
+            f"{name} isn't the program that the toolchain built: {stamp}. Remove it, and {again}"
+        )
     return PROGRAM
 
 
 def record_of_sources() -> list[str]:
     """The lines of a log of the gate that say what it is of."""
-    return [f"packaging: sources of {name} {checksum(name, LC_ALL='C').split()[0]}" for name in CRATES]
+    return [
+        f"packaging: sources of {name} {checksum(name, LC_ALL='C').split()[0]}" for name in CRATES
+    ]
 
 
 def record_of_program() -> str:
@@ -78,7 +86,8 @@ def record_of_program() -> str:
 
 def prove(log: Path) -> None:
     """Proves everything from nothing by `rt ci --anew`, which leaves its program in crates/ee_cli/out. The log has what rt
-    prints. Before it stand the checksums of the sources; after it these again, and the program's."""
+    prints. Before it stand the checksums of the sources; after it these again, and the program's.
+    """
     if shutil.which("rt") is None:
         raise Unfit("the toolchain's command rt is not on the PATH")
     say = f"packaging: proving everything from nothing, which takes an hour and more; {log} has what rt prints"
@@ -86,7 +95,9 @@ def prove(log: Path) -> None:
     with open(log, "w") as file:
         print(*record_of_sources(), sep="\n", file=file, flush=True)
         words = ["rt", "ci", "--anew"]
-        status = subprocess.run(words, cwd=TOP, stdin=subprocess.DEVNULL, stdout=file, stderr=subprocess.STDOUT).returncode
+        status = subprocess.run(
+            words, cwd=TOP, stdin=subprocess.DEVNULL, stdout=file, stderr=subprocess.STDOUT
+        ).returncode
         if status != 0:
             raise Unfit(f"rt ci --anew ended with status {status}: read {log}")
         print(*record_of_sources(), record_of_program(), sep="\n", file=file)
@@ -104,8 +115,14 @@ def proved_library() -> Path:
     if is_there and LIBRARY_SOURCES.exists() and LIBRARY_SOURCES.read_text() == library_record():
         return LIBRARY
     if shutil.which("rt") is None:
-        raise Unfit("the library of values isn't proved and built from these sources, and the toolchain's command rt is not on the PATH")
-    print("packaging: proving and building the library of values, which takes some minutes the first time", file=sys.stderr, flush=True)
+        raise Unfit(
+            "the library of values isn't proved and built from these sources, and the toolchain's command rt is not on the PATH"
+        )
+    print(
+        "packaging: proving and building the library of values, which takes some minutes the first time",
+        file=sys.stderr,
+        flush=True,
+    )
     LIBRARY_SOURCES.unlink(missing_ok=True)
     told("clients/value/build", "--jobs", "1")
     LIBRARY_SOURCES.write_text(library_record())
@@ -117,7 +134,10 @@ def commit() -> tuple[str | None, int | None, list[str] | None]:
     if not (TOP / ".git").exists() or shutil.which("git") is None:
         return None, None, None
     name, seconds = told("git", "log", "-1", "--format=%H %ct").split()
-    changed = [line[3:] for line in told("git", "status", "--porcelain", "--untracked-files=all").splitlines()]
+    changed = [
+        line[3:]
+        for line in told("git", "status", "--porcelain", "--untracked-files=all").splitlines()
+    ]
     return name, int(seconds), changed
 
 
@@ -125,11 +145,15 @@ def check_tag(version: str) -> None:
     """A release is of a commit that has its number as a tag, with nothing changed since."""
     name, _, changed = commit()
     if name is None or changed is None:
-        raise Unfit(f"a release is built in a clone at its tag v{version}, and this is no checkout of git")
+        raise Unfit(
+            f"a release is built in a clone at its tag v{version}, and this is no checkout of git"
+        )
     if f"v{version}" not in told("git", "tag", "--points-at", "HEAD").split():
         raise Unfit(f"a release is built at its tag: commit {name[:12]} has no tag v{version}")
     if changed:
-        raise Unfit(f"a release is built at its tag, and these files differ from v{version}: {', '.join(changed)}")
+        raise Unfit(
+            f"a release is built at its tag, and these files differ from v{version}: {', '.join(changed)}"
+        )
 
 
 def moment(seconds: int | None) -> int:
@@ -142,7 +166,11 @@ def moment(seconds: int | None) -> int:
 
 def crates_file() -> dict[str, list[str]]:
     """The crates of crates.txt, each with what it stands on."""
-    lines = [line for line in (TOP / "crates.txt").read_text().splitlines() if line and not line.startswith("#")]
+    lines = [
+        line
+        for line in (TOP / "crates.txt").read_text().splitlines()
+        if line and not line.startswith("#")
+    ]
     return {line.split(":")[0].split()[0]: line.split(":")[1].split() for line in lines}
 
 

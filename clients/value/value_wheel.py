@@ -20,7 +20,14 @@ import typing
 import zipfile
 
 HERE = pathlib.Path(__file__).resolve().parent
-SOURCES = ("ee_value/__init__.py", "ee_value/py.typed", "examples/inventory.py", "pyproject.toml", "value_wheel.py", "README-python.md")
+SOURCES = (
+    "ee_value/__init__.py",
+    "ee_value/py.typed",
+    "examples/inventory.py",
+    "pyproject.toml",
+    "value_wheel.py",
+    "README-python.md",
+)
 #: Where `build` puts the library of a processor, and the number of that processor in an ELF file.
 LIBRARIES = {"x86_64": ("out", 62), "aarch64": ("out/aarch64", 183)}
 #: The least version of the C library of which an index knows a tag, by processor.
@@ -49,7 +56,9 @@ Settings = typing.Optional[typing.Dict[str, str]]
 
 def version() -> str:
     """Returns the version as its three parts, by the number in the module."""
-    found = re.search(r"^VERSION = ([0-9]+)$", (HERE / "ee_value" / "__init__.py").read_text(), re.M)
+    found = re.search(
+        r"^VERSION = ([0-9]+)$", (HERE / "ee_value" / "__init__.py").read_text(), re.M
+    )
     assert found is not None
     number = int(found[1])
     return f"{number // 10000}.{number // 100 % 100}.{number % 100}"
@@ -68,12 +77,16 @@ def moment() -> int:
 def library_of(processor: str) -> bytes:
     """Returns the shared object of a processor. One sentence says what is missing."""
     if processor not in LIBRARIES:
-        raise SystemExit(f"there is no library for {processor}: the setting processor is one of {', '.join(LIBRARIES)}")
+        raise SystemExit(
+            f"there is no library for {processor}: the setting processor is one of {', '.join(LIBRARIES)}"
+        )
     folder, machine = LIBRARIES[processor]
     shared = HERE / folder / "libee_value.so.1"
     if not shared.exists():
         words = "" if processor == "x86_64" else f" {processor}"
-        raise SystemExit(f"the library is missing: there is no {shared}; `clients/value/build{words}` of the repository proves and builds it")
+        raise SystemExit(
+            f"the library is missing: there is no {shared}; `clients/value/build{words}` of the repository proves and builds it"
+        )
     data = shared.read_bytes()
     if data[:4] != b"\x7fELF" or int.from_bytes(data[18:20], "little") != machine:
         raise SystemExit(f"{shared} is no library for {processor}")
@@ -82,12 +95,20 @@ def library_of(processor: str) -> bytes:
 
 def tag_of(data: bytes, processor: str) -> str:
     """Returns the tag of a wheel with this library: for every Linux whose C library has the versions of symbols that it names, and no earlier one than an index knows."""
-    needed = max([int(minor) for minor in re.findall(rb"GLIBC_2\.([0-9]+)", data)] + [LEAST[processor]])
-    legacy = {("x86_64", 5): ".manylinux1_x86_64", ("aarch64", 17): ".manylinux2014_aarch64"}.get((processor, needed), "")
+    needed = max(
+        [int(minor) for minor in re.findall(rb"GLIBC_2\.([0-9]+)", data)] + [LEAST[processor]]
+    )
+    legacy = {("x86_64", 5): ".manylinux1_x86_64", ("aarch64", 17): ".manylinux2014_aarch64"}.get(
+        (processor, needed), ""
+    )
     return f"py3-none-manylinux_2_{needed}_{processor}{legacy}"
 
 
-def build_wheel(wheel_directory: str, config_settings: Settings = None, metadata_directory: typing.Optional[str] = None) -> str:
+def build_wheel(
+    wheel_directory: str,
+    config_settings: Settings = None,
+    metadata_directory: typing.Optional[str] = None,
+) -> str:
     """Makes a wheel, and returns its name."""
     processor = (config_settings or {}).get("processor", "x86_64")
     library = library_of(processor)
@@ -103,10 +124,16 @@ def build_wheel(wheel_directory: str, config_settings: Settings = None, metadata
     record = "".join(f"{path},sha256={digest(data)},{len(data)}\n" for path, data in files.items())
     files[f"{name}.dist-info/RECORD"] = (record + f"{name}.dist-info/RECORD,,\n").encode()
     wheel = f"{name}-{tag}.whl"
-    with zipfile.ZipFile(pathlib.Path(wheel_directory) / wheel, "w", zipfile.ZIP_DEFLATED) as archive:
+    with zipfile.ZipFile(
+        pathlib.Path(wheel_directory) / wheel, "w", zipfile.ZIP_DEFLATED
+    ) as archive:
         for path, data in files.items():
             entry = zipfile.ZipInfo(path, time.gmtime(moment())[:6])
-            entry.compress_type, entry.external_attr, entry.create_system = zipfile.ZIP_DEFLATED, 0o100644 << 16, 3
+            entry.compress_type, entry.external_attr, entry.create_system = (
+                zipfile.ZIP_DEFLATED,
+                0o100644 << 16,
+                3,
+            )
             archive.writestr(entry, data)
     return wheel
 
@@ -122,7 +149,9 @@ def build_sdist(sdist_directory: str, config_settings: Settings = None) -> str:
             entry = tarfile.TarInfo(f"{name}/{path}")
             entry.size, entry.mtime, entry.mode = len(data), moment(), 0o644
             archive.addfile(entry, io.BytesIO(data))
-    with open(pathlib.Path(sdist_directory) / f"{name}.tar.gz", "wb") as file, gzip.GzipFile("", "wb", 9, file, moment()) as packed:
+    with open(pathlib.Path(sdist_directory) / f"{name}.tar.gz", "wb") as file, gzip.GzipFile(
+        "", "wb", 9, file, moment()
+    ) as packed:
         packed.write(text.getvalue())
     return f"{name}.tar.gz"
 

@@ -17,7 +17,19 @@ import struct
 import subprocess
 import sys
 import tempfile
-from typing import IO, Any, ContextManager, Dict, Iterator, List, NamedTuple, Optional, Sequence, Tuple, TypedDict
+from typing import (
+    IO,
+    Any,
+    ContextManager,
+    Dict,
+    Iterator,
+    List,
+    NamedTuple,
+    Optional,
+    Sequence,
+    Tuple,
+    TypedDict,
+)
 
 LINES, END, FIRST = "requests.jsonl", "end.json", "first.db"
 #: The two files of a copy of a store: the key of each one's checksum in an archive's first line, and the end of its name.
@@ -27,8 +39,16 @@ UNREADABLE = (ValueError, KeyError, TypeError, AttributeError, RecursionError)
 #: With this the names of folders begin in which a copy of a store is read.
 READ = "counter-read-"
 TIME = rb"\d{4}-\d\d-\d\dT\d\d:\d\d:\d\d\.\d{3}Z"
-LINE = re.compile(rb'\{"before":"([0-9a-f]{64})","time":"(' + TIME + rb')","row":([1-9]\d*),"desk":(\d{1,3}),"number":([1-9]\d*),"act":(\{.*?\}),"reply":(\{.*\})\}')
-SENT = re.compile(rb'\{"before":"([0-9a-f]{64})","time":"(' + TIME + rb')","desk":(\d{1,3}),"number":([1-9]\d*),"act":(\{.*?\})(?:,"reply":(\{.*\}))?\}')
+LINE = re.compile(
+    rb'\{"before":"([0-9a-f]{64})","time":"('
+    + TIME
+    + rb')","row":([1-9]\d*),"desk":(\d{1,3}),"number":([1-9]\d*),"act":(\{.*?\}),"reply":(\{.*\})\}'
+)
+SENT = re.compile(
+    rb'\{"before":"([0-9a-f]{64})","time":"('
+    + TIME
+    + rb')","desk":(\d{1,3}),"number":([1-9]\d*),"act":(\{.*?\})(?:,"reply":(\{.*\}))?\}'
+)
 #: Rows, and the checksums of their lines as they are found.
 Marks = Dict[int, Optional[str]]
 #: The bytes of a read, and of an archive's end.
@@ -167,14 +187,20 @@ def is_begun(folder: str) -> bool:
     names = sorted(os.listdir(folder))
     left = [name for name in names if not name.endswith(".new")]
     if LINES not in names and (END in names or (left and LINES + ".new" not in names)):
-        raise BadArchive(f"{folder} has {END if END in names else left[0]}, and no {LINES}: its lines were lost")
+        raise BadArchive(
+            f"{folder} has {END if END in names else left[0]}, and no {LINES}: its lines were lost"
+        )
     return LINES in names
 
 
 def head_in(line: bytes, where: str) -> Head:
     try:
         head: Head = json.loads(line)
-        is_head = list(head) == ["archive", "of", "id", "time", "row", "first"] and head["archive"] == 1 and head["of"] == "store"
+        is_head = (
+            list(head) == ["archive", "of", "id", "time", "row", "first"]
+            and head["archive"] == 1
+            and head["of"] == "store"
+        )
     except UNREADABLE:
         is_head = False
     if not is_head or (compact(head) + "\n").encode() != line:
@@ -216,7 +242,11 @@ class Archive:
             with open(path, encoding="ascii", errors="replace") as file:
                 self.end = end_in(file.read(), path)
         elif self.is_new:
-            self.end = {"row": self.head["row"], "checksum": checksum(self.head_line[:-1]), "time": self.head["time"]}
+            self.end = {
+                "row": self.head["row"],
+                "checksum": checksum(self.head_line[:-1]),
+                "time": self.head["time"],
+            }
         elif is_begun(folder):
             raise BadArchive(f"{path} is missing")
         else:
@@ -241,8 +271,14 @@ class Archive:
                     self.cut = line
                     break
                 named, request = request_in(line[:-1])
-                if request is None or (row is not None and before is not None and (named != before or request.row != row + 1)):
-                    raise BadArchive(f"{self.folder}: the line behind {'byte ' + str(at) if row is None else 'row ' + str(row)} isn't the one that was written")
+                if request is None or (
+                    row is not None
+                    and before is not None
+                    and (named != before or request.row != row + 1)
+                ):
+                    raise BadArchive(
+                        f"{self.folder}: the line behind {'byte ' + str(at) if row is None else 'row ' + str(row)} isn't the one that was written"
+                    )
                 before, row, at = checksum(line[:-1]), request.row, at + len(line)
                 self.mark(marks, row, before, at)
                 yield request
@@ -251,7 +287,9 @@ class Archive:
             return
         self.last_row, self.last_checksum, self.whole = row, before, at
         if row < self.end["row"] or (self.sealed is None and not near_end):
-            raise BadArchive(f"{self.folder}: it ends with row {row}, and had {self.end['row']} rows on {self.end['time']}")
+            raise BadArchive(
+                f"{self.folder}: it ends with row {row}, and had {self.end['row']} rows on {self.end['time']}"
+            )
 
     def mark(self, marks: Marks, row: Optional[int], found: Optional[str], at: int) -> None:
         if row in marks:
@@ -270,7 +308,9 @@ class Archive:
     def last(self, most: int = 1) -> List[Request]:
         """The last requests, which `tail` keeps."""
         found = collections.deque(self.checked(near_end=True), most)
-        self.tail = list(found if self.sealed is not None else collections.deque(self.checked(), most))
+        self.tail = list(
+            found if self.sealed is not None else collections.deque(self.checked(), most)
+        )
         return self.tail
 
     def checksum_of(self, row: int) -> Optional[str]:
@@ -306,7 +346,12 @@ class Archive:
         assert self.sealed is not None  # `last` found it
         if os.path.getsize(self.path) > self.sealed:
             os.truncate(self.path, self.sealed)
-        self.last_row, self.last_checksum, self.whole, self.cut = self.end["row"], self.end["checksum"], self.sealed, b""
+        self.last_row, self.last_checksum, self.whole, self.cut = (
+            self.end["row"],
+            self.end["checksum"],
+            self.sealed,
+            b"",
+        )
 
     def seal(self) -> None:
         """Writes end.json before the first line is written behind the head."""
@@ -324,8 +369,27 @@ def begin(folder: str, row: int, first: Optional[str], time: str) -> Archive:
     """Begins an archive in an empty folder: with a copy of the store's file and log at `first`, which had rows up to `row` at `time`, or with an empty store."""
     with replacing(os.path.join(folder, LINES)) as file:
         target = os.path.join(folder, FIRST)
-        sums = first and {part: copied(open(first + end, "rb"), target + end) if os.path.exists(first + end) else None for part, end in PARTS}
-        file.write((compact({"archive": 1, "of": "store", "id": os.urandom(16).hex(), "time": time, "row": row, "first": sums}) + "\n").encode())
+        sums = first and {
+            part: copied(open(first + end, "rb"), target + end)
+            if os.path.exists(first + end)
+            else None
+            for part, end in PARTS
+        }
+        file.write(
+            (
+                compact(
+                    {
+                        "archive": 1,
+                        "of": "store",
+                        "id": os.urandom(16).hex(),
+                        "time": time,
+                        "row": row,
+                        "first": sums,
+                    }
+                )
+                + "\n"
+            ).encode()
+        )
     return Archive(folder)
 
 
@@ -345,13 +409,19 @@ class Source:
     def read(self, name: str, start: int = 0) -> Iterator[IO[bytes]]:
         """The bytes of a file from `start` on. Raises OSError if the command failed."""
         words = ["tail", "-c", f"+{start + 1}", os.path.join(self.folder, name)]
-        process = subprocess.Popen([*self.over, shlex.join(words)] if self.over else words, stdin=subprocess.DEVNULL, stdout=subprocess.PIPE)
+        process = subprocess.Popen(
+            [*self.over, shlex.join(words)] if self.over else words,
+            stdin=subprocess.DEVNULL,
+            stdout=subprocess.PIPE,
+        )
         assert process.stdout is not None
         try:
             yield process.stdout
             is_read = not process.stdout.read(1)
             if is_read and process.wait() != 0:
-                raise OSError(f"{name} of {self.folder} can't be read: the command ended with status {process.returncode}")
+                raise OSError(
+                    f"{name} of {self.folder} can't be read: the command ended with status {process.returncode}"
+                )
         finally:
             process.kill()
             process.stdout.close()
@@ -365,21 +435,30 @@ def begin_as(source: Source, folder: str) -> Archive:
     first = head_in(line, source.folder)["first"] or {}
     with replacing(os.path.join(folder, LINES)) as file:
         for part, end in PARTS:
-            if first.get(part) and copied(source.read(FIRST + end), os.path.join(folder, FIRST + end)) != first[part]:
-                raise BadArchive(f"{FIRST}{end} of {source.folder} isn't the file with which the archive begins")
+            if (
+                first.get(part)
+                and copied(source.read(FIRST + end), os.path.join(folder, FIRST + end))
+                != first[part]
+            ):
+                raise BadArchive(
+                    f"{FIRST}{end} of {source.folder} isn't the file with which the archive begins"
+                )
         file.write(line)
     return Archive(folder)
 
 
 def bring(source: Source, folder: str) -> Archive:
     """Appends what `source` has more than the archive in `folder`, up to the row that its end.json names. Every line is verified before the first is appended; until then they
-    are in a file of their own, which a broken connection leaves for the next time. Raises BadArchive if `source` has less, or lines that don't chain on to those that are there."""
+    are in a file of their own, which a broken connection leaves for the next time. Raises BadArchive if `source` has less, or lines that don't chain on to those that are there.
+    """
     archive = Archive(folder) if is_begun(folder) else begin_as(source, folder)
     archive.last()
     archive.seal()
     until, part = source.end, archive.path + ".part"
     if until["row"] < archive.last_row:
-        raise BadArchive(f"{source.folder} has {until['row']} requests, and {folder} {archive.last_row}: {source.folder} was taken back")
+        raise BadArchive(
+            f"{source.folder} has {until['row']} requests, and {folder} {archive.last_row}: {source.folder} was taken back"
+        )
     with open(part, "a+b") as file:
         is_there, row, before = chained(archive, file, until["row"])
         if row < until["row"]:
@@ -389,14 +468,20 @@ def bring(source: Source, folder: str) -> Archive:
                         break
                     named, request = request_in(line[:-1])
                     is_next = request is not None and named == before and request.row == row + 1
-                    if not is_next or (row == archive.last_row and not line.startswith(archive.cut)):
+                    if not is_next or (
+                        row == archive.last_row and not line.startswith(archive.cut)
+                    ):
                         os.remove(part)
-                        raise BadArchive(f"{source.folder} doesn't go on from row {row} of {folder}: it was changed, or is another archive")
+                        raise BadArchive(
+                            f"{source.folder} doesn't go on from row {row} of {folder}: it was changed, or is another archive"
+                        )
                     file.write(line)
                     row, before = row + 1, checksum(line[:-1])
         if (row, before) != (until["row"], until["checksum"]):
             os.remove(part)
-            raise BadArchive(f"{source.folder} doesn't have the row {until['row']} that its {END} names, or {folder} has another row {row}")
+            raise BadArchive(
+                f"{source.folder} doesn't have the row {until['row']} that its {END} names, or {folder} has another row {row}"
+            )
         file.seek(len(archive.cut))
         with open(archive.path, "ab") as end:
             shutil.copyfileobj(file, end, BLOCK)
@@ -413,7 +498,12 @@ def chained(archive: Archive, file: IO[bytes], most: int) -> Tuple[int, int, str
     file.seek(0)
     for line in file:
         named, request = request_in(line[:-1])
-        if request is None or not line.endswith(b"\n") or (named, request.row) != (before, row + 1) or row == most:
+        if (
+            request is None
+            or not line.endswith(b"\n")
+            or (named, request.row) != (before, row + 1)
+            or row == most
+        ):
             break
         at, row, before = at + len(line), row + 1, checksum(line[:-1])
     file.truncate(at)
@@ -434,24 +524,39 @@ class Store:
 
     def count(self) -> int:
         """How many requests are kept. Rows are numbered from 1 on, and none is taken out."""
-        rows, most = self.ask("SELECT count(*), ifnull(max(rowid), 0) FROM answers")[0] if self.has_table("answers") else (0, 0)
+        rows, most = (
+            self.ask("SELECT count(*), ifnull(max(rowid), 0) FROM answers")[0]
+            if self.has_table("answers")
+            else (0, 0)
+        )
         if rows != most:
             raise BadStore(f"the store has {rows} requests, and its last row is {most}")
         return int(rows)
 
     def last(self) -> int:
-        return int(self.ask("SELECT ifnull(max(rowid), 0) FROM answers")[0][0]) if self.has_table("answers") else 0
+        return (
+            int(self.ask("SELECT ifnull(max(rowid), 0) FROM answers")[0][0])
+            if self.has_table("answers")
+            else 0
+        )
 
     def has_table(self, name: str) -> bool:
-        tables = [table for (table,) in self.ask("SELECT name FROM sqlite_schema WHERE type = 'table'")]
+        tables = [
+            table for (table,) in self.ask("SELECT name FROM sqlite_schema WHERE type = 'table'")
+        ]
         if tables and "answers" not in tables:
-            raise BadStore("it isn't a store of version 2. Let any command of the program open a store of version 1 first")
+            raise BadStore(
+                "it isn't a store of version 2. Let any command of the program open a store of version 1 first"
+            )
         return name in tables
 
     def requests(self, above: int = 0) -> Iterator[Request]:
         if not self.has_table("answers"):
             return
-        for row in self.books.execute("SELECT rowid, desk, number, act, reply FROM answers WHERE rowid > ? ORDER BY rowid", (above,)):
+        for row in self.books.execute(
+            "SELECT rowid, desk, number, act, reply FROM answers WHERE rowid > ? ORDER BY rowid",
+            (above,),
+        ):
             yield Request(*row)
 
     def reply(self, desk: int, number: int) -> Optional[str]:
@@ -491,10 +596,16 @@ def opened(path: str, room: Optional[str] = None) -> Iterator[Store]:
 
 def copy(path: str, target: str) -> None:
     """Copies a file, by reflink if the file system can."""
-    ran = subprocess.run(["cp", "--reflink=auto", "--", path, target], stderr=subprocess.PIPE, text=True)
+    ran = subprocess.run(
+        ["cp", "--reflink=auto", "--", path, target], stderr=subprocess.PIPE, text=True
+    )
     if ran.returncode != 0:
         free, size = shutil.disk_usage(os.path.dirname(target)).free, os.path.getsize(path)
-        full = f": {os.path.dirname(os.path.dirname(target))} has no room for a copy of {path}: {size >> 10} KiB are needed, and {free >> 10} are free" if "No space" in ran.stderr else ""
+        full = (
+            f": {os.path.dirname(os.path.dirname(target))} has no room for a copy of {path}: {size >> 10} KiB are needed, and {free >> 10} are free"
+            if "No space" in ran.stderr
+            else ""
+        )
         raise OSError(errno.ENOSPC if full else errno.EIO, (full or ran.stderr.strip()).strip(": "))
 
 
@@ -517,4 +628,6 @@ def refuse_older_log(path: str, together: int) -> None:
     except (BadStore, sqlite3.Error):
         return
     if alone > together:
-        raise BadStore(f"the file has {alone} requests, and with the log beside it {together}: the log is of an earlier moment. Put both files of one copy there, or restore")
+        raise BadStore(
+            f"the file has {alone} requests, and with the log beside it {together}: the log is of an earlier moment. Put both files of one copy there, or restore"
+        )

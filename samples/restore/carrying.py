@@ -37,8 +37,17 @@ def said_by(pipe: IO[bytes] | None) -> str:
 
 def opened_by(program: str, store: str) -> str | None:
     """Has the program open a store, which it tests, and write its log back. Returns why it refuses it, or None."""
-    ran = subprocess.run([program, "apply", "--db", store, "--explain"], stdin=subprocess.DEVNULL, stdout=subprocess.DEVNULL, stderr=subprocess.PIPE)
-    return None if ran.returncode == 0 else ", ".join(ran.stderr.decode(errors="replace").split("\n")[:2])
+    ran = subprocess.run(
+        [program, "apply", "--db", store, "--explain"],
+        stdin=subprocess.DEVNULL,
+        stdout=subprocess.DEVNULL,
+        stderr=subprocess.PIPE,
+    )
+    return (
+        None
+        if ran.returncode == 0
+        else ", ".join(ran.stderr.decode(errors="replace").split("\n")[:2])
+    )
 
 
 class Carrier:
@@ -47,7 +56,12 @@ class Carrier:
     def __init__(self, program: str, store: str) -> None:
         self.program, self.store, self.messages, self.held = program, store, 0, b""
         self.client: socket.socket | None = None
-        self.process = subprocess.Popen([program, "serve", "--db", store, "--port", str(PORT), "--explain"], stdout=subprocess.DEVNULL, stderr=subprocess.PIPE, preexec_fn=end_with_parent)
+        self.process = subprocess.Popen(
+            [program, "serve", "--db", store, "--port", str(PORT), "--explain"],
+            stdout=subprocess.DEVNULL,
+            stderr=subprocess.PIPE,
+            preexec_fn=end_with_parent,
+        )
 
     def connection(self) -> socket.socket:
         """A connection that may have one message more. The program listens once it has opened the store."""
@@ -92,7 +106,9 @@ class Carrier:
     def failure(self) -> Failed:
         """Ends the program, and says what it said."""
         self.end()
-        return Failed(f"the program ended with status {self.process.returncode}: {said_by(self.process.stderr)}")
+        return Failed(
+            f"the program ended with status {self.process.returncode}: {said_by(self.process.stderr)}"
+        )
 
     def end(self) -> None:
         if self.client:
@@ -106,10 +122,19 @@ class Carrier:
 def into_own_network() -> None:
     """Brings this process into a network of its own, which nothing else reaches, with its loopback up."""
     user, group = os.getuid(), os.getgid()
-    if ctypes.CDLL(None, use_errno=True).unshare(NEW_NETWORK if user == 0 else NEW_NETWORK | NEW_USER) != 0:
+    if (
+        ctypes.CDLL(None, use_errno=True).unshare(
+            NEW_NETWORK if user == 0 else NEW_NETWORK | NEW_USER
+        )
+        != 0
+    ):
         raise OSError(ctypes.get_errno(), "the restore needs a network of its own: run it as root")
     if user != 0:
-        for name, text in (("setgroups", "deny"), ("uid_map", f"{user} {user} 1"), ("gid_map", f"{group} {group} 1")):
+        for name, text in (
+            ("setgroups", "deny"),
+            ("uid_map", f"{user} {user} 1"),
+            ("gid_map", f"{group} {group} 1"),
+        ):
             with open(f"/proc/self/{name}", "w") as file:
                 file.write(text)
     with socket.socket() as any_socket:

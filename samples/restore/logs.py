@@ -9,7 +9,13 @@ from typing import IO, Any, Dict, Iterator, List, NamedTuple, Optional, Tuple
 
 from archives import SENT, UNREADABLE, BadArchive, checksum
 
-ROUTES = {"rates": "/rates", "bonds": "/bonds", "open": "/day/open", "redeem": "/redeem", "close": "/day/close"}
+ROUTES = {
+    "rates": "/rates",
+    "bonds": "/bonds",
+    "open": "/day/open",
+    "redeem": "/redeem",
+    "close": "/day/close",
+}
 ACT = re.compile(r'\{"act":"(\w+)",(.*)\}', re.S)
 RATE = re.compile(r'("(?:rate|extension)":"\d+)(?:\.00|(\.\d)0|(\.\d\d))%"')
 NUMBER_REUSED = 10
@@ -97,7 +103,9 @@ def asked_in(paths: List[str]) -> Tuple[List[Asked], List[str]]:
         logs.setdefault(name, []).append((path == name, asked[0].at if asked else 0.0, asked))
     refuse_cut(cut, texts)
     for files in logs.values():
-        for one in in_place([one for _, _, asked in sorted(files, key=lambda file: file[:2]) for one in asked]):
+        for one in in_place(
+            [one for _, _, asked in sorted(files, key=lambda file: file[:2]) for one in asked]
+        ):
             found[one.key] = better(found.get(one.key), one)
     return list(found.values()), notes
 
@@ -117,7 +125,9 @@ def refuse_cut(cut: List[Tuple[str, str]], texts: List[str]) -> None:
     for where, text in cut:
         after = bisect.bisect_right(whole, text)
         if not NAMED.search(text) or after == len(whole) or not whole[after].startswith(text):
-            raise BadArchive(f"{where} isn't whole, and a request of it may have been done: {text[:300]}")
+            raise BadArchive(
+                f"{where} isn't whole, and a request of it may have been done: {text[:300]}"
+            )
 
 
 def better(had: Optional[Asked], one: Asked) -> Asked:
@@ -125,8 +135,13 @@ def better(had: Optional[Asked], one: Asked) -> Asked:
     if had is None:
         return one
     if had.reply is not None and one.reply is not None and had.reply != one.reply:
-        raise BadArchive(f"desk {one.desk}, number {one.number} has two replies: {had.reply} in {had.source}, {one.reply} in {one.source}")
-    rank = [(had.reply is not None, had.status is not None), (one.reply is not None, one.status is not None)]
+        raise BadArchive(
+            f"desk {one.desk}, number {one.number} has two replies: {had.reply} in {had.source}, {one.reply} in {one.source}"
+        )
+    rank = [
+        (had.reply is not None, had.status is not None),
+        (one.reply is not None, one.status is not None),
+    ]
     return one if rank[1] > rank[0] else had
 
 
@@ -139,14 +154,28 @@ def of_client(path: str, lines: List[str]) -> List[Asked]:
         if parts is None or not line.isascii():
             raise BadArchive(f"{path}: line {count} isn't a line of an archive")
         if parts[1].decode() != before:
-            raise BadArchive(f"{path}: line {count} doesn't follow line {count - 1}: one of them was changed, taken out or moved")
+            raise BadArchive(
+                f"{path}: line {count} doesn't follow line {count - 1}: one of them was changed, taken out or moved"
+            )
         before = checksum(line)
         desk, number, act = int(parts[3]), int(parts[4]), parts[5].decode()
         way, body = body_of_act(desk, number, act)
         reply = parts[6].decode() if parts[6] else None
         time = parts[2].decode()
         status = None if reply is None else 409 if '"refused":' in reply else 200
-        found.append(Asked(desk, number, way, body, reply, status, seconds_of(time.replace("Z", "+00:00")), time, path))
+        found.append(
+            Asked(
+                desk,
+                number,
+                way,
+                body,
+                reply,
+                status,
+                seconds_of(time.replace("Z", "+00:00")),
+                time,
+                path,
+            )
+        )
     return found
 
 
@@ -154,9 +183,12 @@ def seconds_of(time: str) -> float:
     return datetime.datetime.fromisoformat(time).timestamp()
 
 
-def of_proxy(path: str, lines: List[str], notes: List[str], cut: List[Tuple[str, str]]) -> List[Asked]:
+def of_proxy(
+    path: str, lines: List[str], notes: List[str], cut: List[Tuple[str, str]]
+) -> List[Asked]:
     """The requests of a proxy's log that reached the counter. If an entry that the counter answered 200 or 409 can't be read as a request, the log
-    is refused: the store would lack what it did. `cut` gets every line that isn't whole, and where it stands."""
+    is refused: the store would lack what it did. `cut` gets every line that isn't whole, and where it stands.
+    """
     found, others = [], 0
     for count, text in enumerate(lines, 1):
         entry: Any = None
@@ -166,7 +198,9 @@ def of_proxy(path: str, lines: List[str], notes: List[str], cut: List[Tuple[str,
             one = entry_in(entry, path)
         except UNREADABLE as fault:
             if status_in(entry) is not None:
-                raise BadArchive(f"{path}: line {count} was answered {entry['counter']} by the counter, and can't be read as a request: {text[:300]}") from fault
+                raise BadArchive(
+                    f"{path}: line {count} was answered {entry['counter']} by the counter, and can't be read as a request: {text[:300]}"
+                ) from fault
             if entry is None and start >= 0:
                 cut.append((f"{path}: line {count}", text[start:]))
             else:
@@ -209,7 +243,9 @@ def entry_in(entry: Dict[str, Any], path: str) -> Optional[Asked]:
     if reply is not None and f'{{"code":{NUMBER_REUSED},' in reply:
         return None
     at = float(entry["at"]) if "at" in entry else seconds_of(entry["time"])
-    return Asked(desk, number, entry["route"], entry["body"], reply, status, at, entry["time"], path)
+    return Asked(
+        desk, number, entry["route"], entry["body"], reply, status, at, entry["time"], path
+    )
 
 
 def reply_in(text: str) -> Optional[str]:
@@ -237,8 +273,18 @@ def place_of(reply: Dict[str, Any]) -> Optional[Tuple[str, int, int]]:
 def in_order(asked: List[Asked], next_ticket: int) -> Tuple[List[Asked], List[Asked]]:
     """The answered requests in the order in which they act, and those without a reply. A request without a reply that a missing ticket must belong to is among the
     first."""
-    answered = [(one, json.loads(one.reply) if one.reply else {}) for one in asked if one.status is not None]
-    placed = sorted(((place, one) for one, reply in answered for place in [place_of(reply)] if place is not None), key=lambda pair: pair[0])
+    answered = [
+        (one, json.loads(one.reply) if one.reply else {}) for one in asked if one.status is not None
+    ]
+    placed = sorted(
+        (
+            (place, one)
+            for one, reply in answered
+            for place in [place_of(reply)]
+            if place is not None
+        ),
+        key=lambda pair: pair[0],
+    )
     times: List[Tuple[float, int]] = []
     tickets: Dict[int, int] = {}
     for index, (place, one) in enumerate(placed):
@@ -258,16 +304,22 @@ def in_order(asked: List[Asked], next_ticket: int) -> Tuple[List[Asked], List[As
     return with_missing_tickets(ordered, waiting, next_ticket)
 
 
-def with_missing_tickets(ordered: List[Asked], waiting: List[Asked], next_ticket: int) -> Tuple[List[Asked], List[Asked]]:
+def with_missing_tickets(
+    ordered: List[Asked], waiting: List[Asked], next_ticket: int
+) -> Tuple[List[Asked], List[Asked]]:
     """Puts redemptions without a reply where a ticket is missing, if there is one way to do so."""
     found: List[Asked] = []
     for one in ordered:
         reply = json.loads(one.reply) if one.reply else {}
         if "lines" in reply:
             gap = reply["ticket"] - next_ticket
-            able = [other for other in waiting if other.path == "/redeem" and other.when <= one.when]
+            able = [
+                other for other in waiting if other.path == "/redeem" and other.when <= one.when
+            ]
             if gap > 0 and len(able) != gap:
-                raise BadArchive(f"tickets {next_ticket} to {reply['ticket'] - 1} are missing, and {len(able)} redemptions without a reply may be theirs: they were sent another way, or a log is missing")
+                raise BadArchive(
+                    f"tickets {next_ticket} to {reply['ticket'] - 1} are missing, and {len(able)} redemptions without a reply may be theirs: they were sent another way, or a log is missing"
+                )
             if gap > 0:
                 found += able
                 waiting = [other for other in waiting if other not in able]

@@ -21,8 +21,20 @@ def kept(top: str) -> Iterator[str]:
     """The kept folders and files that are there: of the units' folder only what names the counter."""
     for name in KEPT:
         path = os.path.join(top, name)
-        found = [path] if os.path.isfile(path) else sorted(os.path.join(folder, one) for folder, folders, names in os.walk(path) for one in (*folders, *names))
-        yield from (one for one in found if not name.endswith("system") or os.path.relpath(one, path).startswith("counter"))
+        found = (
+            [path]
+            if os.path.isfile(path)
+            else sorted(
+                os.path.join(folder, one)
+                for folder, folders, names in os.walk(path)
+                for one in (*folders, *names)
+            )
+        )
+        yield from (
+            one
+            for one in found
+            if not name.endswith("system") or os.path.relpath(one, path).startswith("counter")
+        )
 
 
 def packed(top: str = "/") -> bytes:
@@ -53,7 +65,11 @@ def lacking(copies: list[str]) -> str | None:
 
 
 def told(copy: str | None) -> str:
-    return f"\nMachine:  {os.path.dirname(SIGN)} is lost; its files are restored from {copy}" if copy else ""
+    return (
+        f"\nMachine:  {os.path.dirname(SIGN)} is lost; its files are restored from {copy}"
+        if copy
+        else ""
+    )
 
 
 def restore(copy: str | None, top: str = "/") -> None:
@@ -63,7 +79,9 @@ def restore(copy: str | None, top: str = "/") -> None:
     with tarfile.open(copy) as tar:
         for member in tar:
             target = os.path.normpath(os.path.join(top, member.name))
-            if not (member.isfile() or member.isdir()) or not any(os.path.relpath(target, top).startswith(name) for name in KEPT):
+            if not (member.isfile() or member.isdir()) or not any(
+                os.path.relpath(target, top).startswith(name) for name in KEPT
+            ):
                 raise OSError(f"{copy} has {member.name}, which is no file of the counter")
         for member in tar:
             target = os.path.join(top, member.name)

@@ -77,7 +77,9 @@ def room(folder: str | None, needed: int, beside: str) -> Iterator[str]:
 def require_room(folder: str, needed: int) -> None:
     free = shutil.disk_usage(folder).free
     if free < needed:
-        raise Refused(f"{folder} has no room: {needed >> 10} KiB are needed, and {free >> 10} are free")
+        raise Refused(
+            f"{folder} has no room: {needed >> 10} KiB are needed, and {free >> 10} are free"
+        )
 
 
 def say(text: str) -> None:
@@ -92,7 +94,10 @@ def say(text: str) -> None:
 def is_written(link: str) -> bool:
     """Whether a process has a file open to write it, as the one that serves it does: proc_pid_fdinfo(5)."""
     with open(link.replace("/fd/", "/fdinfo/"), encoding="ascii") as file:
-        return any(line.startswith("flags:") and int(line.split()[1], 8) & os.O_ACCMODE == os.O_RDWR for line in file)
+        return any(
+            line.startswith("flags:") and int(line.split()[1], 8) & os.O_ACCMODE == os.O_RDWR
+            for line in file
+        )
 
 
 def served(store: str) -> Served | None:
@@ -129,7 +134,12 @@ class Stores:
     """The stores from which a restore can continue. Every one is copied, and opened by the program, which tests every row."""
 
     def __init__(self, program: str, folder: str, archive: Archive | None) -> None:
-        self.program, self.folder, self.archive, self.found = program, folder, archive, list[Begun]()
+        self.program, self.folder, self.archive, self.found = (
+            program,
+            folder,
+            archive,
+            list[Begun](),
+        )
 
     def new(self, name: str) -> Begun:
         folder = os.path.join(self.folder, str(len(self.found)))
@@ -154,9 +164,13 @@ class Stores:
             if refused:
                 raise BadStore(f"the program refuses it: {refused}")
             with archives.opened(begun.path) as store:
-                begun.rows = compared(store, self.archive, self.folder) if self.archive else store.count()
+                begun.rows = (
+                    compared(store, self.archive, self.folder) if self.archive else store.count()
+                )
         except FileNotFoundError:
-            begun.fault = "its file is missing" + (", and its log is there" if log and os.path.exists(log) else "")
+            begun.fault = "its file is missing" + (
+                ", and its log is there" if log and os.path.exists(log) else ""
+            )
         except (BadStore, sqlite3.Error) as fault:
             begun.fault = str(fault)
         return begun
@@ -164,17 +178,25 @@ class Stores:
     def nothing(self) -> Begun:
         """The archive's first copy, or no file at all."""
         first = self.archive.first() if self.archive else None
-        return self.take("the archive's first copy", first, first + "-wal") if first else self.new("nothing")
+        return (
+            self.take("the archive's first copy", first, first + "-wal")
+            if first
+            else self.new("nothing")
+        )
 
 
 def compared(store: archives.Store, archive: Archive, folder: str) -> int:
     """Refuses a store whose requests aren't the archive's, row by row, as far as both go. Returns how many it has."""
     has = store.count()
     if has < archive.head["row"]:
-        raise BadStore(f"it has {has} requests, and the archive begins with a copy that has {archive.head['row']}")
+        raise BadStore(
+            f"it has {has} requests, and the archive begins with a copy that has {archive.head['row']}"
+        )
     for held, wanted in zip(store.requests(), archive.rows(folder)):
         if held[:5] != wanted[:5]:
-            raise BadStore(f"row {wanted.row} is {held.desk}/{held.number} in it and {wanted.desk}/{wanted.number} in the archive, or their texts differ: it has another history")
+            raise BadStore(
+                f"row {wanted.row} is {held.desk}/{held.number} in it and {wanted.desk}/{wanted.number} in the archive, or their texts differ: it has another history"
+            )
     return has
 
 
@@ -223,7 +245,9 @@ def longest(sources: Sources) -> Archive | None:
     for folder in sources.archives:
         say(f"reads {folder}")
         try:
-            with contextlib.suppress(OSError, BadArchive), open(os.path.join(folder, archives.END), encoding="ascii") as file:
+            with contextlib.suppress(OSError, BadArchive), open(
+                os.path.join(folder, archives.END), encoding="ascii"
+            ) as file:
                 sources.most = max(sources.most, archives.end_in(file.read(), folder)["row"])
             archive = Archive(folder)
             archive.check()
@@ -233,7 +257,9 @@ def longest(sources: Sources) -> Archive | None:
     best = max(sources.whole.values(), key=lambda archive: archive.last_row, default=None)
     for folder, archive in sources.whole.items():
         if best is not None and best.checksum_of(archive.end["row"]) != archive.end["checksum"]:
-            raise Refused(f"{folder} isn't a front of {best.folder}: they have different histories. Name the right one by --from")
+            raise Refused(
+                f"{folder} isn't a front of {best.folder}: they have different histories. Name the right one by --from"
+            )
     return best
 
 
@@ -242,7 +268,13 @@ def is_whole_copy(path: str) -> str:
     folder = os.path.dirname(path)
     if not os.path.exists(os.path.join(folder, "SHA256SUMS")):
         return ""
-    ran = subprocess.run(["sha256sum", "--quiet", "-c", "SHA256SUMS"], cwd=folder, stdout=subprocess.PIPE, stderr=subprocess.STDOUT, text=True)
+    ran = subprocess.run(
+        ["sha256sum", "--quiet", "-c", "SHA256SUMS"],
+        cwd=folder,
+        stdout=subprocess.PIPE,
+        stderr=subprocess.STDOUT,
+        text=True,
+    )
     return "" if ran.returncode == 0 else ran.stdout.strip().split("\n")[0]
 
 

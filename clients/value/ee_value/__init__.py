@@ -60,13 +60,25 @@ __all__ = [
 #: The version of the library that this module is for: 10000 times the first part, 100 times the second, and the third.
 VERSION = 10000
 
-DONE, BAD_DENOMINATION, BAD_ISSUE_MONTH, BAD_MONTH, BAD_RATE, BAD_EXTENSION, NOT_ISSUED, NOT_ELIGIBLE, UNSETTLED = range(9)
+(
+    DONE,
+    BAD_DENOMINATION,
+    BAD_ISSUE_MONTH,
+    BAD_MONTH,
+    BAD_RATE,
+    BAD_EXTENSION,
+    NOT_ISSUED,
+    NOT_ELIGIBLE,
+    UNSETTLED,
+) = range(9)
 
 #: The notes of a row by their number, as the Savings Bond Calculator prints them.
 NOTES = ("", "NI", "NE", "P5", "MA")
 
 #: The layouts of what rows_into reads and writes, as numpy.dtype takes them.
-QUESTION_FIELDS: list[tuple[str, str]] = [(name, "u4") for name in ("dollars", "issued", "month", "rate", "extension")]
+QUESTION_FIELDS: list[tuple[str, str]] = [
+    (name, "u4") for name in ("dollars", "issued", "month", "rate", "extension")
+]
 ROW_FIELDS: list[tuple[str, str]] = [
     *((name, "u8") for name in ("payable_cents", "price_cents", "interest_cents", "value_cents")),
     *((name, "u4") for name in ("status", "note", "next_accrual", "final_maturity")),
@@ -75,7 +87,10 @@ ROW_FIELDS: list[tuple[str, str]] = [
 #: A row's fields in a buffer, by struct: the four amounts, the status, the number of the note (NOTES), and two months YYYYMM or 0.
 ROW = struct.Struct("=4Q4I")
 
-_TYPES: dict[str, type[ctypes.c_uint32] | type[ctypes.c_uint64]] = {"u4": ctypes.c_uint32, "u8": ctypes.c_uint64}
+_TYPES: dict[str, type[ctypes.c_uint32] | type[ctypes.c_uint64]] = {
+    "u4": ctypes.c_uint32,
+    "u8": ctypes.c_uint64,
+}
 
 # A number that the library refuses in every place.
 _NO_NUMBER = 2**32 - 1
@@ -87,7 +102,8 @@ MonthLike = typing.Union[str, datetime.date, typing.SupportsIndex]
 RateLike = typing.Union[str, decimal.Decimal, typing.SupportsIndex]
 #: A question of `rows`: dollars, issued, month, rate and perhaps the rate of extended maturity.
 Question = typing.Union[
-    typing.Tuple[Whole, MonthLike, MonthLike, RateLike], typing.Tuple[Whole, MonthLike, MonthLike, RateLike, typing.Optional[RateLike]]
+    typing.Tuple[Whole, MonthLike, MonthLike, RateLike],
+    typing.Tuple[Whole, MonthLike, MonthLike, RateLike, typing.Optional[RateLike]],
 ]
 #: What rows_into reads and writes: whatever has the buffer protocol, as arrays of numpy, array.array and bytearray.
 Buffer = typing.Any
@@ -113,7 +129,11 @@ def _opened() -> tuple[ctypes.CDLL, str]:
     """Open the library: where the variable says, with the module, or where the system has its libraries."""
     named = os.environ.get("EE_VALUE_LIBRARY")
     here = pathlib.Path(__file__).resolve().parent
-    places = [pathlib.Path(named)] if named else [here / "libee_value.so.1", here.parent / "out" / "libee_value.so.1"]
+    places = (
+        [pathlib.Path(named)]
+        if named
+        else [here / "libee_value.so.1", here.parent / "out" / "libee_value.so.1"]
+    )
     found = next((str(it.resolve()) for it in places if it.exists()), None)
     missing = f"the library is missing: there is no {' and no '.join(map(str, places))}; clients/value/build makes it"
     if found is None and named:
@@ -122,7 +142,11 @@ def _opened() -> tuple[ctypes.CDLL, str]:
         library = ctypes.CDLL(found or "libee_value.so.1")
         library.ee_value_version
     except (OSError, AttributeError) as fault:
-        raise ImportError(missing if found is None else f"{found} is no library for this module on this machine: {fault}") from None
+        raise ImportError(
+            missing
+            if found is None
+            else f"{found} is no library for this module on this machine: {fault}"
+        ) from None
     return library, found or "libee_value.so.1"
 
 
@@ -134,7 +158,12 @@ def _load() -> ctypes.CDLL:
     library.ee_value_row.argtypes, library.ee_value_row.restype = numbers, _Row
     library.ee_value_row_into.argtypes = [*numbers, ctypes.POINTER(_Row)]
     library.ee_value_row_into.restype = ctypes.c_uint32
-    library.ee_value_rows.argtypes = [ctypes.c_void_p, ctypes.c_size_t, ctypes.c_void_p, ctypes.c_size_t]
+    library.ee_value_rows.argtypes = [
+        ctypes.c_void_p,
+        ctypes.c_size_t,
+        ctypes.c_void_p,
+        ctypes.c_size_t,
+    ]
     library.ee_value_rows.restype = ctypes.c_size_t
     library.ee_value_status_text.argtypes = [ctypes.c_uint32, ctypes.c_char_p, ctypes.c_size_t]
     library.ee_value_status_text.restype = ctypes.c_size_t
@@ -220,11 +249,17 @@ def hundredths(value: RateLike) -> int:
         whole, part = divmod(value, 1)
         part *= 100
         return 100 * int(whole) + int(part) if part == int(part) else _NO_NUMBER
-    return _whole(value, "a rate is a text or a Decimal in percent, or an int in hundredths of a percent")
+    return _whole(
+        value, "a rate is a text or a Decimal in percent, or an int in hundredths of a percent"
+    )
 
 
 def _numbers(
-    dollars: Whole, issued: MonthLike, month: MonthLike, rate: RateLike, extension: typing.Optional[RateLike] = None
+    dollars: Whole,
+    issued: MonthLike,
+    month: MonthLike,
+    rate: RateLike,
+    extension: typing.Optional[RateLike] = None,
 ) -> tuple[int, int, int, int, int]:
     fixed = hundredths(rate)
     extended = fixed if extension is None else hundredths(extension)
@@ -248,7 +283,11 @@ def _row(answer: _Row) -> Row:
 
 
 def cents(
-    dollars: Whole, issued: MonthLike, month: MonthLike, rate: RateLike, extension: typing.Optional[RateLike] = None
+    dollars: Whole,
+    issued: MonthLike,
+    month: MonthLike,
+    rate: RateLike,
+    extension: typing.Optional[RateLike] = None,
 ) -> int:
     """Return what a bond pays in a month, in cents.
 
@@ -262,7 +301,11 @@ def cents(
 
 
 def row(
-    dollars: Whole, issued: MonthLike, month: MonthLike, rate: RateLike, extension: typing.Optional[RateLike] = None
+    dollars: Whole,
+    issued: MonthLike,
+    month: MonthLike,
+    rate: RateLike,
+    extension: typing.Optional[RateLike] = None,
 ) -> Row:
     """Return a bond's Row in a month. Raise Refused where an argument is no denomination, month or rate."""
     answer: _Row = _library.ee_value_row(*_numbers(dollars, issued, month, rate, extension))
@@ -277,7 +320,9 @@ def rows(questions: typing.Iterable[Question]) -> list[typing.Union[Row, Refused
 
     One call of the library answers them all.
     """
-    asked: typing.Any = [_numbers(*question) for question in questions]  # ctypes makes a structure of a tuple
+    asked: typing.Any = [
+        _numbers(*question) for question in questions
+    ]  # ctypes makes a structure of a tuple
     if not asked:
         return []
     answers = (_Row * len(asked))()
@@ -299,10 +344,17 @@ def rows_into(questions: Buffer, answers: Buffer) -> int:
         raise ValueError("there is a place for every question, and no other")
     if not count:
         return 0
-    if asked.itemsize not in (4, ctypes.sizeof(_Question)) or given.itemsize not in (1, ctypes.sizeof(_Row)):
-        raise ValueError("the buffers are of QUESTION_FIELDS or numbers, and of ROW_FIELDS or bytes")
+    if asked.itemsize not in (4, ctypes.sizeof(_Question)) or given.itemsize not in (
+        1,
+        ctypes.sizeof(_Row),
+    ):
+        raise ValueError(
+            "the buffers are of QUESTION_FIELDS or numbers, and of ROW_FIELDS or bytes"
+        )
     into = (_Row * count).from_buffer(given)
-    written: int = _library.ee_value_rows((_Question * count).from_buffer_copy(asked), count, into, count)
+    written: int = _library.ee_value_rows(
+        (_Question * count).from_buffer_copy(asked), count, into, count
+    )
     return written
 
 

@@ -23,7 +23,11 @@ def terms_at(rates: str) -> typing.Callable[[str], tuple[int, int, int]]:
     def terms(text: str) -> tuple[int, int, int]:
         issued = ee_value.month_number(text)
         row = rows[bisect.bisect(begins, issued) - 1]
-        return issued, ee_value.hundredths(row["rate"]), ee_value.hundredths(row.get("extension") or row["rate"])
+        return (
+            issued,
+            ee_value.hundredths(row["rate"]),
+            ee_value.hundredths(row.get("extension") or row["rate"]),
+        )
 
     return terms
 

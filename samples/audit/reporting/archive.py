@@ -12,7 +12,9 @@ from .findings import Findings
 from .store import NoStore, Source, Store, copied, make_views, open_copy
 
 LINES, END, FIRST = "requests.jsonl", "end.json", "first.db"
-LINE = re.compile(rb'\{"before":"([0-9a-f]{64})","time":"[0-9TZ:.-]+","row":([1-9]\d*),"desk":(\d+),"number":(\d+),"act":(\{.*?\}),"reply":(\{.*\})\}')
+LINE = re.compile(
+    rb'\{"before":"([0-9a-f]{64})","time":"[0-9TZ:.-]+","row":([1-9]\d*),"desk":(\d+),"number":(\d+),"act":(\{.*?\}),"reply":(\{.*\})\}'
+)
 IN_ORDER = "SELECT place, desk, number, act, reply FROM kept ORDER BY place"
 
 
@@ -57,10 +59,16 @@ def bytes_of(path: str) -> bytes:
 def copy_of_archive(path: str, folder: str) -> Archive:
     """A copy in `folder` of the archive at `path`. Its end.json is copied first: the lines that it names
     are there then, though an archiver may write more of them."""
-    names = [name for name in (END, LINES, FIRST, FIRST + "-wal") if os.path.exists(os.path.join(path, name))]
+    names = [
+        name
+        for name in (END, LINES, FIRST, FIRST + "-wal")
+        if os.path.exists(os.path.join(path, name))
+    ]
     if LINES not in names:
         raise NoStore(f"{path} has no {LINES}")
-    sources = tuple(copied(os.path.join(path, name), os.path.join(folder, name), "archive: ") for name in names)
+    sources = tuple(
+        copied(os.path.join(path, name), os.path.join(folder, name), "archive: ") for name in names
+    )
     with open(os.path.join(folder, LINES), "rb") as file:
         head = object_in(file.readline())
     if (head.get("archive"), head.get("of"), type(head.get("row"))) != (1, "store", int):
@@ -99,19 +107,41 @@ def later_requests(archive: Archive, findings: Findings) -> Iterator[Request]:
             found_at_end = before if archive.end.get("row") == row else found_at_end
             found = LINE.fullmatch(line[:-1])
             if not line.endswith(b"\n"):
-                findings.remarks.append(f"The last line of {LINES} has no end: it isn't part of the archive.")
+                findings.remarks.append(
+                    f"The last line of {LINES} has no end: it isn't part of the archive."
+                )
                 break
             if found is None:
-                findings.differs(LINES, f"the line behind row {row}", "text", line[:-1].decode("utf-8", "replace"), "the line of a request")
+                findings.differs(
+                    LINES,
+                    f"the line behind row {row}",
+                    "text",
+                    line[:-1].decode("utf-8", "replace"),
+                    "the line of a request",
+                )
                 return
             findings.compare(LINES, f"the line behind row {row}", "row", int(found[2]), row + 1)
             row = int(found[2])
-            findings.compare(LINES, f"row {row}", "checksum of the line before it", found[1].decode(), before)
+            findings.compare(
+                LINES, f"row {row}", "checksum of the line before it", found[1].decode(), before
+            )
             before = hashlib.sha256(line[:-1]).hexdigest()
-            yield Request(row, int(found[3]), int(found[4]), found[5].decode("utf-8", "replace"), found[6].decode("utf-8", "replace"))
+            yield Request(
+                row,
+                int(found[3]),
+                int(found[4]),
+                found[5].decode("utf-8", "replace"),
+                found[6].decode("utf-8", "replace"),
+            )
     found_at_end = before if archive.end.get("row") == row else found_at_end
     if archive.end or row > archive.head["row"]:
-        findings.compare(END, f"row {archive.end.get('row')}", "checksum of its line", archive.end.get("checksum"), found_at_end)
+        findings.compare(
+            END,
+            f"row {archive.end.get('row')}",
+            "checksum of its line",
+            archive.end.get("checksum"),
+            found_at_end,
+        )
 
 
 # ---- the store compared with it
@@ -125,10 +155,22 @@ def store_is_as_archived(archive: Archive, store: Store, findings: Findings) -> 
         for wanted in requests:
             findings.tested += 1
             while here is not None and here.row < wanted.row:
-                findings.differs("answers", name_of("answers", (here.desk, here.number)), f"row {here.row}", here.act, "no such row in the archive")
+                findings.differs(
+                    "answers",
+                    name_of("answers", (here.desk, here.number)),
+                    f"row {here.row}",
+                    here.act,
+                    "no such row in the archive",
+                )
                 here = next(held, None)
             if here is None or here.row > wanted.row:
-                findings.differs("answers", name_of("answers", (wanted.desk, wanted.number)), f"row {wanted.row}", None, wanted.act)
+                findings.differs(
+                    "answers",
+                    name_of("answers", (wanted.desk, wanted.number)),
+                    f"row {wanted.row}",
+                    None,
+                    wanted.act,
+                )
                 continue
             compare_requests(here, wanted, findings)
             here = next(held, None)
@@ -138,13 +180,23 @@ def store_is_as_archived(archive: Archive, store: Store, findings: Findings) -> 
 
 def compare_requests(here: Request, wanted: Request, findings: Findings) -> None:
     row = name_of("answers", (here.desk, here.number))
-    findings.compare("answers", row, f"desk and number of row {here.row}", f"{here.desk} {here.number}", f"{wanted.desk} {wanted.number}")
+    findings.compare(
+        "answers",
+        row,
+        f"desk and number of row {here.row}",
+        f"{here.desk} {here.number}",
+        f"{wanted.desk} {wanted.number}",
+    )
     findings.compare("answers", row, f"act of row {here.row}", here.act, wanted.act)
     findings.compare("answers", row, f"reply of row {here.row}", here.reply, wanted.reply)
 
 
 def remark_later(first: int, last: int, archive: Archive, findings: Findings) -> None:
     """Rows behind the end of the archive are no difference: they may have come later."""
-    rows = f"Row {first} of the store is" if first == last else f"Rows {first} to {last} of the store are"
+    rows = (
+        f"Row {first} of the store is"
+        if first == last
+        else f"Rows {first} to {last} of the store are"
+    )
     until = f", which saw the store until {archive.end['time']}" if "time" in archive.end else ""
     findings.remarks.append(f"{rows} behind the end of this archive{until}.")

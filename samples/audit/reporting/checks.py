@@ -29,18 +29,50 @@ class Range(NamedTuple):
 
 DAY, NUMBER = Range(texts.FIRST_DAY, texts.LAST_DAY), Range(1, texts.LAST_NUMBER)
 CUSTOMER, LETTER, SERIAL = Range(1, texts.LAST_CUSTOMER), Range(1, 26), Range(1, texts.LAST_SERIAL)
-MONTH, RATE, SUM = Range(0, texts.LAST_ISSUE), Range(0, values.MOST_RATE), Range(0, texts.LAST_NUMBER)
+MONTH, RATE, SUM = (
+    Range(0, texts.LAST_ISSUE),
+    Range(0, values.MOST_RATE),
+    Range(0, texts.LAST_NUMBER),
+)
 PLACE = Range(1, MOST_BONDS_OF_A_TICKET)
 
 # Of every table: the columns that name a row, and the range of every column.
 RANGES = {
-    "desk": (("id",), {"id": Range(1, 1), "version": Range(1, 2), "day": Range(*DAY[:2], True), "last_day": Range(*DAY[:2], True)}),
+    "desk": (
+        ("id",),
+        {
+            "id": Range(1, 1),
+            "version": Range(1, 2),
+            "day": Range(*DAY[:2], True),
+            "last_day": Range(*DAY[:2], True),
+        },
+    ),
     "rates": (("period",), {"period": MONTH, "rate": RATE}),
     "named_extensions": (("period",), {"period": MONTH, "rate": RATE}),
-    "bonds": (("letter", "number"), {"letter": LETTER, "number": SERIAL, "denom": Range(50, 10000), "issued": MONTH, "owner": CUSTOMER, "coowner": Range(*CUSTOMER[:2], True), "ticket": Range(*NUMBER[:2], True)}),
-    "tickets": (("ticket",), {"ticket": NUMBER, "day": DAY, "payee": CUSTOMER, "bonds": PLACE, "total": SUM}),
-    "paid": (("ticket", "place"), {"ticket": NUMBER, "place": PLACE, "letter": LETTER, "number": SERIAL, "cents": SUM}),
-    "batches": (("day",), {"day": DAY, "tickets": Range(0, MOST_TICKETS_OF_A_DAY), "bonds": SUM, "total": SUM}),
+    "bonds": (
+        ("letter", "number"),
+        {
+            "letter": LETTER,
+            "number": SERIAL,
+            "denom": Range(50, 10000),
+            "issued": MONTH,
+            "owner": CUSTOMER,
+            "coowner": Range(*CUSTOMER[:2], True),
+            "ticket": Range(*NUMBER[:2], True),
+        },
+    ),
+    "tickets": (
+        ("ticket",),
+        {"ticket": NUMBER, "day": DAY, "payee": CUSTOMER, "bonds": PLACE, "total": SUM},
+    ),
+    "paid": (
+        ("ticket", "place"),
+        {"ticket": NUMBER, "place": PLACE, "letter": LETTER, "number": SERIAL, "cents": SUM},
+    ),
+    "batches": (
+        ("day",),
+        {"day": DAY, "tickets": Range(0, MOST_TICKETS_OF_A_DAY), "bonds": SUM, "total": SUM},
+    ),
     "kept": (("desk", "number"), {"desk": Range(0, 999), "number": NUMBER}),
 }
 
@@ -48,7 +80,11 @@ RANGES = {
 def name_of(table: str, key: Key) -> str:
     """How a report names a row."""
     if table == "bonds":
-        return texts.serial_text(key[0], key[1]) if 1 <= key[0] <= 26 else f"letter {key[0]} number {key[1]}"
+        return (
+            texts.serial_text(key[0], key[1])
+            if 1 <= key[0] <= 26
+            else f"letter {key[0]} number {key[1]}"
+        )
     if table == "paid":
         return f"ticket {key[0]} place {key[1]}"
     if table in ("rates", "extensions", "named_extensions"):
@@ -113,7 +149,13 @@ def page_checksums(store: Store, findings: Findings) -> None:
             if sys.byteorder == "big":
                 words.byteswap()
             sums = tuple(sum(map(operator.mul, words, weight)) % 2**32 for weight in weights)
-            findings.compare("file", f"page {number}", "checksum", "%08x %08x" % tuple(words[-2:]), "%08x %08x" % sums)
+            findings.compare(
+                "file",
+                f"page {number}",
+                "checksum",
+                "%08x %08x" % tuple(words[-2:]),
+                "%08x %08x" % sums,
+            )
 
 
 def tables_are_those(store: Store, findings: Findings) -> None:
@@ -132,12 +174,28 @@ def values_are_in_range(store: Store, findings: Findings) -> None:
         findings.tested += store.count(table)
         for column, limits in ranges.items():
             may_be_null = f"{column} IS NOT NULL AND " if limits.or_null else ""
-            outside = f"{may_be_null}(typeof({column}) <> 'integer' OR {column} NOT BETWEEN ? AND ?)"
-            for *named, found in store.rows(f"SELECT {', '.join(key)}, {column} FROM {table} WHERE {outside}", limits.least, limits.most):
-                findings.differs(of_table(table), name_of(table, tuple(named)), column, found, f"{limits.least} to {limits.most}")
+            outside = (
+                f"{may_be_null}(typeof({column}) <> 'integer' OR {column} NOT BETWEEN ? AND ?)"
+            )
+            for *named, found in store.rows(
+                f"SELECT {', '.join(key)}, {column} FROM {table} WHERE {outside}",
+                limits.least,
+                limits.most,
+            ):
+                findings.differs(
+                    of_table(table),
+                    name_of(table, tuple(named)),
+                    column,
+                    found,
+                    f"{limits.least} to {limits.most}",
+                )
     marks = ", ".join(map(str, values.DENOMINATIONS))
-    for letter, number, found in store.rows(f"SELECT letter, number, denom FROM bonds WHERE denom NOT IN ({marks})"):
-        findings.differs("bonds", name_of("bonds", (letter, number)), "denom", found, f"one of {marks}")
+    for letter, number, found in store.rows(
+        f"SELECT letter, number, denom FROM bonds WHERE denom NOT IN ({marks})"
+    ):
+        findings.differs(
+            "bonds", name_of("bonds", (letter, number)), "denom", found, f"one of {marks}"
+        )
 
 
 # ---- rates and bonds
@@ -146,19 +204,39 @@ def values_are_in_range(store: Store, findings: Findings) -> None:
 def rates_are_announced(store: Store, findings: Findings) -> None:
     findings.tested = store.count("rates") + store.count("named_extensions")
     for (period,) in store.rows("SELECT period FROM rates WHERE period % 6 <> 0"):
-        findings.differs("rates", name_of("rates", (period,)), "period", "another month", "a May or November")
+        findings.differs(
+            "rates", name_of("rates", (period,)), "period", "another month", "a May or November"
+        )
     alone = "SELECT x.period, x.rate, r.rate FROM named_extensions AS x LEFT JOIN rates AS r ON r.period = x.period WHERE r.rate IS NULL OR r.rate = x.rate"
     for period, found, fixed in store.rows(alone):
-        wanted = "a fixed rate of that period" if fixed is None else "another rate than the fixed one"
+        wanted = (
+            "a fixed rate of that period" if fixed is None else "another rate than the fixed one"
+        )
         findings.differs("extensions", name_of("extensions", (period,)), "rate", found, wanted)
 
 
 def bonds_have_terms(store: Store, findings: Findings) -> None:
     findings.tested = store.count("bonds")
-    for letter, number, issued in store.rows("SELECT letter, number, issued FROM bonds WHERE issued - issued % 6 NOT IN (SELECT period FROM rates)"):
-        findings.differs("bonds", name_of("bonds", (letter, number)), "issued", texts.month_text(issued), "a month whose period has a rate")
-    for letter, number, owner in store.rows("SELECT letter, number, owner FROM bonds WHERE coowner = owner"):
-        findings.differs("bonds", name_of("bonds", (letter, number)), "coowner", owner, "another customer than the owner")
+    for letter, number, issued in store.rows(
+        "SELECT letter, number, issued FROM bonds WHERE issued - issued % 6 NOT IN (SELECT period FROM rates)"
+    ):
+        findings.differs(
+            "bonds",
+            name_of("bonds", (letter, number)),
+            "issued",
+            texts.month_text(issued),
+            "a month whose period has a rate",
+        )
+    for letter, number, owner in store.rows(
+        "SELECT letter, number, owner FROM bonds WHERE coowner = owner"
+    ):
+        findings.differs(
+            "bonds",
+            name_of("bonds", (letter, number)),
+            "coowner",
+            owner,
+            "another customer than the owner",
+        )
 
 
 # ---- tickets and lines
@@ -173,12 +251,28 @@ def tickets_are_in_order(store: Store, findings: Findings) -> None:
         row = name_of("tickets", (ticket,))
         findings.compare("tickets", row, "number", ticket, last + 1)
         if day < before:
-            findings.differs("tickets", row, "day", texts.day_text(day), f"no day before {texts.day_text(before)}")
+            findings.differs(
+                "tickets",
+                row,
+                "day",
+                texts.day_text(day),
+                f"no day before {texts.day_text(before)}",
+            )
         if day not in closed and day != open_day:
-            findings.differs("tickets", row, "day", texts.day_text(day), "a closed day or the open day")
+            findings.differs(
+                "tickets", row, "day", texts.day_text(day), "a closed day or the open day"
+            )
         before, last = max(day, before), ticket
-    for day, count in store.rows("SELECT day, count(*) FROM tickets GROUP BY day HAVING count(*) > ?", MOST_TICKETS_OF_A_DAY):
-        findings.differs("tickets", texts.day_text(day), "tickets of the day", count, f"{MOST_TICKETS_OF_A_DAY} at most")
+    for day, count in store.rows(
+        "SELECT day, count(*) FROM tickets GROUP BY day HAVING count(*) > ?", MOST_TICKETS_OF_A_DAY
+    ):
+        findings.differs(
+            "tickets",
+            texts.day_text(day),
+            "tickets of the day",
+            count,
+            f"{MOST_TICKETS_OF_A_DAY} at most",
+        )
 
 
 def tickets_are_their_lines(store: Store, findings: Findings) -> None:
@@ -191,13 +285,19 @@ def tickets_are_their_lines(store: Store, findings: Findings) -> None:
         findings.compare("tickets", row, "total", texts.money(total), texts.money(cents))
         if lines and (first, last) != (1, lines):
             findings.differs("paid", row, "places", f"{first} to {last}", f"1 to {lines}")
-    for ticket, place in store.rows("SELECT ticket, place FROM paid WHERE ticket NOT IN (SELECT ticket FROM tickets)"):
-        findings.differs("paid", name_of("paid", (ticket, place)), "ticket", "no such ticket", "a ticket")
+    for ticket, place in store.rows(
+        "SELECT ticket, place FROM paid WHERE ticket NOT IN (SELECT ticket FROM tickets)"
+    ):
+        findings.differs(
+            "paid", name_of("paid", (ticket, place)), "ticket", "no such ticket", "a ticket"
+        )
 
 
 def bonds_are_paid_once(store: Store, findings: Findings) -> None:
     findings.tested = store.count("bonds")
-    for letter, number, count in store.rows("SELECT letter, number, count(*) FROM paid GROUP BY letter, number HAVING count(*) > 1"):
+    for letter, number, count in store.rows(
+        "SELECT letter, number, count(*) FROM paid GROUP BY letter, number HAVING count(*) > 1"
+    ):
         findings.differs("paid", name_of("bonds", (letter, number)), "lines", count, "1 at most")
     marks = "SELECT b.letter, b.number, b.ticket, p.ticket FROM bonds AS b LEFT JOIN paid AS p ON p.letter = b.letter AND p.number = b.number WHERE b.ticket IS NOT p.ticket"
     for letter, number, mark, ticket in store.rows(marks):
@@ -207,13 +307,28 @@ def bonds_are_paid_once(store: Store, findings: Findings) -> None:
 def payees_hold_the_bonds(store: Store, findings: Findings) -> None:
     findings.tested = store.count("paid")
     held = "SELECT p.ticket, p.place, p.letter, p.number, t.payee, b.owner, b.coowner FROM paid AS p JOIN tickets AS t ON t.ticket = p.ticket LEFT JOIN bonds AS b ON b.letter = p.letter AND b.number = p.number"
-    for ticket, place, letter, number, payee, owner, coowner in store.rows(f"{held} WHERE b.owner IS NULL OR NOT (t.payee = b.owner OR t.payee IS b.coowner)"):
-        wanted = "a registered bond" if owner is None else f"{owner}" + (f" or {coowner}" if coowner else "")
-        findings.differs("paid", name_of("paid", (ticket, place)), f"payee of {name_of('bonds', (letter, number))}", payee, wanted)
+    for ticket, place, letter, number, payee, owner, coowner in store.rows(
+        f"{held} WHERE b.owner IS NULL OR NOT (t.payee = b.owner OR t.payee IS b.coowner)"
+    ):
+        wanted = (
+            "a registered bond"
+            if owner is None
+            else f"{owner}" + (f" or {coowner}" if coowner else "")
+        )
+        findings.differs(
+            "paid",
+            name_of("paid", (ticket, place)),
+            f"payee of {name_of('bonds', (letter, number))}",
+            payee,
+            wanted,
+        )
 
 
 def payments_are_the_values(store: Store, findings: Findings) -> None:
-    terms = {period: (fixed, extension) for period, fixed, extension in store.rows("SELECT period, fixed, extension FROM terms")}
+    terms = {
+        period: (fixed, extension)
+        for period, fixed, extension in store.rows("SELECT period, fixed, extension FROM terms")
+    }
     lines = "SELECT p.ticket, p.place, p.cents, t.day, b.denom, b.issued FROM paid AS p JOIN tickets AS t ON t.ticket = p.ticket JOIN bonds AS b ON b.letter = p.letter AND b.number = p.number"
     for ticket, place, cents, day, denomination, issued in store.rows(lines):
         findings.tested += 1
@@ -221,7 +336,13 @@ def payments_are_the_values(store: Store, findings: Findings) -> None:
         wanted = None if pair is None else values.payable(denomination, age, pair)
         if cents != wanted:
             row = name_of("paid", (ticket, place))
-            findings.differs("paid", row, f"cents at age {age}", texts.money(cents), "not payable" if wanted is None else texts.money(wanted))
+            findings.differs(
+                "paid",
+                row,
+                f"cents at age {age}",
+                texts.money(cents),
+                "not payable" if wanted is None else texts.money(wanted),
+            )
 
 
 # ---- days and batches
@@ -241,45 +362,136 @@ def batches_are_their_tickets(store: Store, findings: Findings) -> None:
 def days_follow(store: Store, findings: Findings) -> None:
     findings.tested = store.count("batches") + 1
     # If the desk has no row, the test of the tables says so.
-    (open_day, last_day), (latest,) = store.one("SELECT day, last_day FROM desk") or (None, None), store.one("SELECT max(day) FROM batches")
+    (open_day, last_day), (latest,) = store.one("SELECT day, last_day FROM desk") or (
+        None,
+        None,
+    ), store.one("SELECT max(day) FROM batches")
     findings.compare("desk", "1", "last_day", last_day, latest)
     if open_day is not None and latest is not None and open_day <= latest:
-        findings.differs("desk", "1", "day", texts.day_text(open_day), f"a day after {texts.day_text(latest)}")
+        findings.differs(
+            "desk", "1", "day", texts.day_text(open_day), f"a day after {texts.day_text(latest)}"
+        )
 
 
 def sums_are_conserved(store: Store, findings: Findings) -> None:
     findings.tested = store.count("paid")
     (batches,) = store.one("SELECT coalesce(sum(total), 0) FROM batches")
-    (today,) = store.one("SELECT coalesce(sum(total), 0) FROM tickets WHERE day = (SELECT day FROM desk)")
+    (today,) = store.one(
+        "SELECT coalesce(sum(total), 0) FROM tickets WHERE day = (SELECT day FROM desk)"
+    )
     (lines,) = store.one("SELECT coalesce(sum(cents), 0) FROM paid")
-    findings.compare("batches", "all", "batches and the open day's tickets", texts.money(batches + today), texts.money(lines))
+    findings.compare(
+        "batches",
+        "all",
+        "batches and the open day's tickets",
+        texts.money(batches + today),
+        texts.money(lines),
+    )
 
 
 TESTS = (
-    ("file", "The file is whole, as SQLite sees it", "FORMATS, The tables of a store", is_whole_file),
-    ("checksums", "Every page ends in its checksum", "FORMATS, The tables of a store", page_checksums),
-    ("tables", "The tables are those of the program, and the desk has its one row", "FORMATS, The tables of a store", tables_are_those),
-    ("ranges", "Every value is in its range", "FORMATS, Spellings that are read", values_are_in_range),
-    ("rates", "Rates stand at a May or November, and an extension differs from its fixed rate", "MODEL, Sound books; 31 CFR Part 351", rates_are_announced),
-    ("bonds", "Every bond has rates for its issue month, and a coowner is another customer", "MODEL, Sound books", bonds_have_terms),
-    ("tickets", "Tickets are numbered 1, 2, 3 and on, and their days never fall", "MODEL, Sound books", tickets_are_in_order),
-    ("lines", "Every ticket has as many bonds, and the total, as its lines", "MODEL, Sound books", tickets_are_their_lines),
-    ("once", "Every bond is paid once, and names the ticket that paid it", "MODEL, Paid pairs", bonds_are_paid_once),
-    ("payees", "Every bond was paid to its owner or its coowner", "MODEL, Refusals; 31 CFR Part 353", payees_hold_the_bonds),
-    ("values", "Every payment is the value of its bond in its month, 12 months after issue at the earliest", "MODEL, Value; 31 CFR Part 351", payments_are_the_values),
-    ("batches", "Every batch is the sums of its day's tickets and lines", "MODEL, Sound books", batches_are_their_tickets),
-    ("days", "The last closed day is the latest batch, and the open day is later", "MODEL, Sound books", days_follow),
-    ("conservation", "All batches and the open day's tickets come to what was paid", "MODEL, Conservation", sums_are_conserved),
+    (
+        "file",
+        "The file is whole, as SQLite sees it",
+        "FORMATS, The tables of a store",
+        is_whole_file,
+    ),
+    (
+        "checksums",
+        "Every page ends in its checksum",
+        "FORMATS, The tables of a store",
+        page_checksums,
+    ),
+    (
+        "tables",
+        "The tables are those of the program, and the desk has its one row",
+        "FORMATS, The tables of a store",
+        tables_are_those,
+    ),
+    (
+        "ranges",
+        "Every value is in its range",
+        "FORMATS, Spellings that are read",
+        values_are_in_range,
+    ),
+    (
+        "rates",
+        "Rates stand at a May or November, and an extension differs from its fixed rate",
+        "MODEL, Sound books; 31 CFR Part 351",
+        rates_are_announced,
+    ),
+    (
+        "bonds",
+        "Every bond has rates for its issue month, and a coowner is another customer",
+        "MODEL, Sound books",
+        bonds_have_terms,
+    ),
+    (
+        "tickets",
+        "Tickets are numbered 1, 2, 3 and on, and their days never fall",
+        "MODEL, Sound books",
+        tickets_are_in_order,
+    ),
+    (
+        "lines",
+        "Every ticket has as many bonds, and the total, as its lines",
+        "MODEL, Sound books",
+        tickets_are_their_lines,
+    ),
+    (
+        "once",
+        "Every bond is paid once, and names the ticket that paid it",
+        "MODEL, Paid pairs",
+        bonds_are_paid_once,
+    ),
+    (
+        "payees",
+        "Every bond was paid to its owner or its coowner",
+        "MODEL, Refusals; 31 CFR Part 353",
+        payees_hold_the_bonds,
+    ),
+    (
+        "values",
+        "Every payment is the value of its bond in its month, 12 months after issue at the earliest",
+        "MODEL, Value; 31 CFR Part 351",
+        payments_are_the_values,
+    ),
+    (
+        "batches",
+        "Every batch is the sums of its day's tickets and lines",
+        "MODEL, Sound books",
+        batches_are_their_tickets,
+    ),
+    (
+        "days",
+        "The last closed day is the latest batch, and the open day is later",
+        "MODEL, Sound books",
+        days_follow,
+    ),
+    (
+        "conservation",
+        "All batches and the open day's tickets come to what was paid",
+        "MODEL, Conservation",
+        sums_are_conserved,
+    ),
 )
 
 
-def ran(store: Store, name: str, title: str, source: str, test: Callable[[Store, Findings], None]) -> Findings:
+def ran(
+    store: Store, name: str, title: str, source: str, test: Callable[[Store, Findings], None]
+) -> Findings:
     """What one test found. A test that the store's rows stop is a difference too."""
     findings = Findings(name, title, source)
     try:
         test(store, findings)
     except (sqlite3.Error, ValueError, TypeError, KeyError, OverflowError, IndexError) as fault:
-        findings.differs("store", "all", "the test can't go on", f"{type(fault).__name__}: {fault}", "rows that can be read")
+        findings.differs(
+            "store",
+            "all",
+            "the test can't go on",
+            f"{type(fault).__name__}: {fault}",
+            "rows that can be read",
+        )
     return findings
 
 

@@ -6,7 +6,24 @@ on from a reply that differs."""
 
 from typing import Container, Hashable, Sequence
 
-from .texts import MONTHS, RATES, REFUSALS, Act, BondRow, RateRow, RatesAct, RedeemAct, Reply, UnreadableAct, batch_reply, cents_in, day_in, month_of_day, month_text, ticket_reply
+from .texts import (
+    MONTHS,
+    RATES,
+    REFUSALS,
+    Act,
+    BondRow,
+    RateRow,
+    RatesAct,
+    RedeemAct,
+    Reply,
+    UnreadableAct,
+    batch_reply,
+    cents_in,
+    day_in,
+    month_of_day,
+    month_text,
+    ticket_reply,
+)
 from .values import HOLD, may_be_unsettled, payable, rate_period
 
 MOST_ROWS, MOST_SERIALS, MOST_TICKETS = 500, 100, 1000
@@ -33,7 +50,9 @@ class Books:
         self.day_starts_at = 0  # how many tickets there were as the open day was opened
 
 
-def refused(code: int, serial: str | None = None, ticket: int | None = None, month: str | None = None) -> Reply:
+def refused(
+    code: int, serial: str | None = None, ticket: int | None = None, month: str | None = None
+) -> Reply:
     reply: Reply = {"code": code, "refused": REFUSALS[code][0]}
     if serial is not None:
         reply["serial"] = serial
@@ -183,7 +202,9 @@ def payment(books: Books, day: int, serial: str, payee: int) -> int | Reply:
     if age < HOLD:
         return refused(54, serial=serial)
     terms = books.rates.get(rate_period(issued))
-    if terms is None:  # sound books have them; a replay that went on from a reply that differs may not
+    if (
+        terms is None
+    ):  # sound books have them; a replay that went on from a reply that differs may not
         return refused(30, serial=serial)
     paid = payable(denomination, age, terms)
     assert paid is not None

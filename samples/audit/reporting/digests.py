@@ -27,7 +27,9 @@ class Digest(NamedTuple):
 def lines_of(store: Store) -> Iterator[tuple[bytes, str | None]]:
     """The line of every kept request in the order of the rows, and the day that it closed, if any."""
     for desk, number, act, reply in store.rows(KEPT):
-        yield b"%s %s %s %s\n" % (str(desk).encode(), str(number).encode(), act, reply), closed_by(act, reply)
+        yield b"%s %s %s %s\n" % (str(desk).encode(), str(number).encode(), act, reply), closed_by(
+            act, reply
+        )
 
 
 def closed_by(act: bytes, reply: bytes) -> str | None:
@@ -63,11 +65,18 @@ def read_earlier(path: str) -> list[Digest]:
     with open(path, encoding="utf-8") as file:
         text = file.read()
     try:
-        found = [Digest(one["day"], one["requests"], one["sha256"]) for one in json.loads(text)["digests"]]
-        are_digests = all(type(one.requests) is int and isinstance(one.sha256, str) for one in found)
+        found = [
+            Digest(one["day"], one["requests"], one["sha256"])
+            for one in json.loads(text)["digests"]
+        ]
+        are_digests = all(
+            type(one.requests) is int and isinstance(one.sha256, str) for one in found
+        )
         is_rising = all(one.requests <= other.requests for one, other in itertools.pairwise(found))
     except (ValueError, KeyError, TypeError, RecursionError) as fault:
-        raise NoStore(f"{path} is no report with digests: {type(fault).__name__}: {fault}") from fault
+        raise NoStore(
+            f"{path} is no report with digests: {type(fault).__name__}: {fault}"
+        ) from fault
     if not found or found[-1].day is not None or not are_digests or not is_rising:
         raise NoStore(f"{path} is no report with digests")
     return found
@@ -84,9 +93,19 @@ def earlier_digests_are_there(earlier: list[Digest], store: Store, findings: Fin
             running.update(line)
             taken += 1
         findings.tested += 1
-        row = f"requests up to the closing of {one.day}" if one.day else "requests after the last closing"
+        row = (
+            f"requests up to the closing of {one.day}"
+            if one.day
+            else "requests after the last closing"
+        )
         if taken < wanted:
-            findings.differs("answers", row, "requests", done + taken, f"{one.requests} at least, as in the earlier report")
+            findings.differs(
+                "answers",
+                row,
+                "requests",
+                done + taken,
+                f"{one.requests} at least, as in the earlier report",
+            )
             return
         findings.compare("answers", row, "digest", running.hexdigest(), one.sha256)
         before, done = one.sha256, one.requests

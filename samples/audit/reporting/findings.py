@@ -47,7 +47,13 @@ def visible(value: Any) -> Any:
     """A value with every character that isn't printed replaced by its escape, in all its texts. So the
     text of a store can't move the cursor of a terminal, or turn the direction of a page's words."""
     if isinstance(value, str):
-        return value if value.isprintable() else "".join(one if one.isprintable() else one.encode("unicode_escape").decode() for one in value)
+        return (
+            value
+            if value.isprintable()
+            else "".join(
+                one if one.isprintable() else one.encode("unicode_escape").decode() for one in value
+            )
+        )
     if isinstance(value, dict):
         return {visible(key): visible(one) for key, one in value.items()}
     return [visible(one) for one in value] if isinstance(value, (list, tuple)) else value

@@ -31,7 +31,10 @@ class Interest(TypedDict):
 
 def days_of(year: int) -> tuple[int, int]:
     """The first and the last day of a year, counted from 1970-01-01."""
-    return datetime.date(year, 1, 1).toordinal() - texts.EPOCH, datetime.date(year, 12, 31).toordinal() - texts.EPOCH
+    return (
+        datetime.date(year, 1, 1).toordinal() - texts.EPOCH,
+        datetime.date(year, 12, 31).toordinal() - texts.EPOCH,
+    )
 
 
 def interest_of(store: Store, year: int) -> Interest:
@@ -39,8 +42,19 @@ def interest_of(store: Store, year: int) -> Interest:
     rows = store.rows(BY_PAYEE, *days_of(year)).fetchall()
     return {
         "year": year,
-        "payees": [dict(zip(COLUMNS, (payee, bonds, *map(texts.money, sums)))) for payee, bonds, *sums in rows],
-        "sums": dict(zip(COLUMNS[1:], (sum(row[1] for row in rows), *(texts.money(sum(row[place] for row in rows)) for place in (2, 3, 4))))),
+        "payees": [
+            dict(zip(COLUMNS, (payee, bonds, *map(texts.money, sums))))
+            for payee, bonds, *sums in rows
+        ],
+        "sums": dict(
+            zip(
+                COLUMNS[1:],
+                (
+                    sum(row[1] for row in rows),
+                    *(texts.money(sum(row[place] for row in rows)) for place in (2, 3, 4)),
+                ),
+            )
+        ),
     }
 
 
@@ -51,13 +65,43 @@ def interest_is_settled(year: int, store: Store, findings: Findings) -> None:
     bonds, paid, price, interest = (sum(row[place] for row in rows) for place in (1, 2, 3, 4))
     settled_bonds, settled = store.one(SETTLED, *days)
     (marked,) = store.one(MARKED, *days)
-    findings.compare("paid", f"year {year}", "bonds, and those of the batches and the open day", bonds, settled_bonds)
-    findings.compare("paid", f"year {year}", "paid, and what batches and the open day come to", texts.money(paid), texts.money(settled))
-    findings.compare("paid", f"year {year}", "issue prices, and those of the bonds that name the year's tickets", texts.money(price), texts.money(marked))
-    findings.compare("paid", f"year {year}", "interest, and what was paid less the issue prices", texts.money(interest), texts.money(settled - marked))
+    findings.compare(
+        "paid",
+        f"year {year}",
+        "bonds, and those of the batches and the open day",
+        bonds,
+        settled_bonds,
+    )
+    findings.compare(
+        "paid",
+        f"year {year}",
+        "paid, and what batches and the open day come to",
+        texts.money(paid),
+        texts.money(settled),
+    )
+    findings.compare(
+        "paid",
+        f"year {year}",
+        "issue prices, and those of the bonds that name the year's tickets",
+        texts.money(price),
+        texts.money(marked),
+    )
+    findings.compare(
+        "paid",
+        f"year {year}",
+        "interest, and what was paid less the issue prices",
+        texts.money(interest),
+        texts.money(settled - marked),
+    )
     of_tickets = {payee: sums for payee, *sums in store.rows(OF_TICKETS, *days)}
     for payee, *sums in rows:
-        findings.compare("tickets", f"payee {payee}", f"bonds and cents of {year}", sums[:2], of_tickets.pop(payee, None))
+        findings.compare(
+            "tickets",
+            f"payee {payee}",
+            f"bonds and cents of {year}",
+            sums[:2],
+            of_tickets.pop(payee, None),
+        )
     for payee, sums in of_tickets.items():
         findings.differs("tickets", f"payee {payee}", f"bonds and cents of {year}", None, sums)
 

@@ -87,12 +87,25 @@ class Figures(TypedDict):
 
 def figures_of(store: Store, entries: list[Entry], month: int | None) -> Figures:
     """The figures of a month, or of all days."""
-    payments = [row for row in store.rows(PAYMENTS) if month is None or texts.month_of_day(row[0]) == month]
-    asked = [entry for entry in entries if month is None or (entry.day is not None and texts.month_of_day(entry.day) == month)]
+    payments = [
+        row for row in store.rows(PAYMENTS) if month is None or texts.month_of_day(row[0]) == month
+    ]
+    asked = [
+        entry
+        for entry in entries
+        if month is None or (entry.day is not None and texts.month_of_day(entry.day) == month)
+    ]
     return {
         "sums": sums_of(payments),
         "days": by_day(store, month),
-        "issue_periods": grouped("period", ((texts.month_text(values.rate_period(issued)), row) for row in payments for issued in [row[2]])),
+        "issue_periods": grouped(
+            "period",
+            (
+                (texts.month_text(values.rate_period(issued)), row)
+                for row in payments
+                for issued in [row[2]]
+            ),
+        ),
         "denominations": grouped("denom", ((row[1], row) for row in payments)),
         "ages": by_age(payments),
         "refusals": by_code(asked),
@@ -105,18 +118,36 @@ def figures_of(store: Store, entries: list[Entry], month: int | None) -> Figures
 def sums_of(payments: list[Payments]) -> Sums:
     bonds, cents = sum(row[3] for row in payments), sum(row[4] for row in payments)
     price = sum(50 * row[1] * row[3] for row in payments)
-    return {"bonds": bonds, "total": texts.money(cents), "price": texts.money(price), "interest": texts.money(cents - price)}
+    return {
+        "bonds": bonds,
+        "total": texts.money(cents),
+        "price": texts.money(price),
+        "interest": texts.money(cents - price),
+    }
 
 
 def by_day(store: Store, month: int | None) -> list[OfDay]:
     days = "SELECT day FROM batches UNION SELECT day FROM tickets UNION SELECT day FROM desk WHERE day IS NOT NULL ORDER BY day"
-    sums = {day: rest for day, *rest in store.rows("SELECT day, count(*), sum(bonds), sum(total) FROM tickets GROUP BY day")}
+    sums = {
+        day: rest
+        for day, *rest in store.rows(
+            "SELECT day, count(*), sum(bonds), sum(total) FROM tickets GROUP BY day"
+        )
+    }
     closed = {day for (day,) in store.rows("SELECT day FROM batches")}
     found: list[OfDay] = []
     for (day,) in store.rows(days).fetchall():
         if month is None or texts.month_of_day(day) == month:
             tickets, bonds, total = sums.get(day, (0, 0, 0))
-            found.append({"day": texts.day_text(day), "is_closed": day in closed, "tickets": tickets, "bonds": bonds, "total": texts.money(total)})
+            found.append(
+                {
+                    "day": texts.day_text(day),
+                    "is_closed": day in closed,
+                    "tickets": tickets,
+                    "bonds": bonds,
+                    "total": texts.money(total),
+                }
+            )
     return found
 
 
@@ -127,7 +158,9 @@ def grouped(name: str, keyed: Iterable[tuple[K, Payments]]) -> list[dict[str, An
     for key, (_, _, _, count, total) in keyed:
         bonds[key] += count
         cents[key] += total
-    return [{name: key, "bonds": bonds[key], "total": texts.money(cents[key])} for key in sorted(bonds)]
+    return [
+        {name: key, "bonds": bonds[key], "total": texts.money(cents[key])} for key in sorted(bonds)
+    ]
 
 
 def by_age(payments: list[Payments]) -> list[OfAge]:
@@ -137,12 +170,27 @@ def by_age(payments: list[Payments]) -> list[OfAge]:
         age = texts.month_of_day(row[0]) - row[2]
         keyed.append(((min(age // 12, values.FINAL_MATURITY // 12), values.note(age)), row))
     found = grouped("age", keyed)
-    return [{"years": one["age"][0], "note": one["age"][1], "bonds": one["bonds"], "total": one["total"]} for one in found]
+    return [
+        {
+            "years": one["age"][0],
+            "note": one["age"][1],
+            "bonds": one["bonds"],
+            "total": one["total"],
+        }
+        for one in found
+    ]
 
 
 def by_code(entries: list[Entry]) -> list[OfCode]:
     counts = collections.Counter(entry.code for entry in entries if entry.code)
-    return [{"code": code, "name": texts.REFUSALS[code][0] if code in texts.REFUSALS else "", "requests": counts[code]} for code in sorted(counts)]
+    return [
+        {
+            "code": code,
+            "name": texts.REFUSALS[code][0] if code in texts.REFUSALS else "",
+            "requests": counts[code],
+        }
+        for code in sorted(counts)
+    ]
 
 
 def by_desk(entries: list[Entry]) -> list[dict[str, int]]:
@@ -154,14 +202,27 @@ def by_desk(entries: list[Entry]) -> list[dict[str, int]]:
         counts[0] += 1
         counts[1] += entry.code != 0
         counts[2] += entry.is_again
-    return [{"desk": desk, "requests": one[0], "refused": one[1], "again": one[2]} for desk, one in sorted(desks.items())]
+    return [
+        {"desk": desk, "requests": one[0], "refused": one[1], "again": one[2]}
+        for desk, one in sorted(desks.items())
+    ]
 
 
 def largest(store: Store, month: int | None) -> list[OfTicket]:
     found: list[OfTicket] = []
-    for ticket, day, payee, bonds, total in store.rows("SELECT ticket, day, payee, bonds, total FROM tickets ORDER BY total DESC, ticket"):
+    for ticket, day, payee, bonds, total in store.rows(
+        "SELECT ticket, day, payee, bonds, total FROM tickets ORDER BY total DESC, ticket"
+    ):
         if month is None or texts.month_of_day(day) == month:
-            found.append({"ticket": ticket, "day": texts.day_text(day), "payee": payee, "bonds": bonds, "total": texts.money(total)})
+            found.append(
+                {
+                    "ticket": ticket,
+                    "day": texts.day_text(day),
+                    "payee": payee,
+                    "bonds": bonds,
+                    "total": texts.money(total),
+                }
+            )
         if len(found) == LARGEST:
             break
     return found
@@ -169,16 +230,23 @@ def largest(store: Store, month: int | None) -> list[OfTicket]:
 
 def outlook(store: Store, month: int | None) -> Outlook | None:
     """What the bonds that are unpaid in the store will be worth in every month, from the month of the
-    report, or of the store's latest day, until the last one matures: the values that a calculator shows."""
+    report, or of the store's latest day, until the last one matures: the values that a calculator shows.
+    """
     groups = store.rows(UNPAID).fetchall()
-    (latest,) = store.one("SELECT max(day) FROM (SELECT day FROM desk UNION SELECT last_day FROM desk UNION SELECT day FROM tickets)")
+    (latest,) = store.one(
+        "SELECT max(day) FROM (SELECT day FROM desk UNION SELECT last_day FROM desk UNION SELECT day FROM tickets)"
+    )
     first = month if month is not None else None if latest is None else texts.month_of_day(latest)
     if first is None or not groups:
         return None
     last = max(first, groups[-1][0] + values.FINAL_MATURITY)
     months = [worth_in(groups, at) for at in range(first, last + 1)]
     price = 50 * sum(group[3] for group in groups)
-    return {"bonds": sum(group[1] for group in groups), "price": texts.money(price), "months": months}
+    return {
+        "bonds": sum(group[1] for group in groups),
+        "price": texts.money(price),
+        "months": months,
+    }
 
 
 def worth_in(groups: list[Unpaid], month: int) -> Worth:

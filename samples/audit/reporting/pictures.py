@@ -59,7 +59,9 @@ def grid(top: int, step: int) -> list[str]:
     parts = []
     for size in range(0, top + 1, step):
         y = BOTTOM - height_of(size, top)
-        parts.append(f'<line x1="{LEFT}" y1="{y}" x2="{RIGHT}" y2="{y}" stroke="#bbbbbb" stroke-width="8"/>')
+        parts.append(
+            f'<line x1="{LEFT}" y1="{y}" x2="{RIGHT}" y2="{y}" stroke="#bbbbbb" stroke-width="8"/>'
+        )
         parts.append(text_at(LEFT - 40, y + 45, axis_text(size, step), "end"))
     return parts
 
@@ -68,7 +70,10 @@ def labels(bars: list[Bar]) -> list[str]:
     """Some labels below the bars, evenly spaced, the first one among them."""
     room, wide = RIGHT - LEFT, MARK * max([len(bar.label) for bar in bars] + [2]) + 2 * MARK
     every = max(1, -(-len(bars) * wide // room))
-    return [text_at(LEFT + (2 * place + 1) * room // (2 * len(bars)), BOTTOM + 180, bars[place].label) for place in range(0, len(bars), every)]
+    return [
+        text_at(LEFT + (2 * place + 1) * room // (2 * len(bars)), BOTTOM + 180, bars[place].label)
+        for place in range(0, len(bars), every)
+    ]
 
 
 def columns(title: str, bars: list[Bar]) -> str:
@@ -78,8 +83,12 @@ def columns(title: str, bars: list[Bar]) -> str:
     top, room, parts = top_of(most, step), RIGHT - LEFT, grid(top_of(most, step), step)
     for place, bar in enumerate(bars):
         left, right = LEFT + place * room // len(bars), LEFT + (place + 1) * room // len(bars)
-        wide, tall = min(MOST_WIDE, right - left - min(60, (right - left) // 5)), height_of(bar.size, top)
-        parts.append(f'<rect x="{(left + right - wide) // 2}" y="{BOTTOM - tall}" width="{wide}" height="{tall}" fill="{FILLS[bar.fill]}"/>')
+        wide, tall = min(MOST_WIDE, right - left - min(60, (right - left) // 5)), height_of(
+            bar.size, top
+        )
+        parts.append(
+            f'<rect x="{(left + right - wide) // 2}" y="{BOTTOM - tall}" width="{wide}" height="{tall}" fill="{FILLS[bar.fill]}"/>'
+        )
     return svg(title, HEIGHT, parts + labels(bars))
 
 
@@ -89,7 +98,9 @@ def rows(title: str, bars: list[Bar], texts: list[str]) -> str:
     for place, (bar, text) in enumerate(zip(bars, texts)):
         y, long = 40 + 200 * place, room * bar.size // most
         parts.append(text_at(left - 50, y + 120, bar.label, "end"))
-        parts.append(f'<rect x="{left}" y="{y + 10}" width="{max(long, 12 if bar.size else 0)}" height="150" fill="{FILLS[bar.fill]}"/>')
+        parts.append(
+            f'<rect x="{left}" y="{y + 10}" width="{max(long, 12 if bar.size else 0)}" height="150" fill="{FILLS[bar.fill]}"/>'
+        )
         parts.append(text_at(left + long + 50, y + 120, text, "start"))
     return svg(title, 80 + 200 * len(bars), parts)
 
@@ -99,6 +110,9 @@ def area(title: str, points: list[Bar]) -> str:
     most = max(point.size for point in points)
     step = step_of(most)
     top, room, last = top_of(most, step), RIGHT - LEFT, max(1, len(points) - 1)
-    line = [f"{LEFT + place * room // last},{BOTTOM - height_of(point.size, top)}" for place, point in enumerate(points)]
+    line = [
+        f"{LEFT + place * room // last},{BOTTOM - height_of(point.size, top)}"
+        for place, point in enumerate(points)
+    ]
     shape = f'<polygon points="{LEFT},{BOTTOM} {" ".join(line)} {LEFT + (len(points) - 1) * room // last},{BOTTOM}" fill="{FILLS[""]}"/>'
     return svg(title, HEIGHT, [shape, *grid(top, step), *labels(points)])

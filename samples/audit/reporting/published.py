@@ -16,7 +16,11 @@ from . import checks, texts, values
 from .findings import Findings
 from .store import Source, Store
 
-TEST = ("published", "Every payment is what Treasury's table of its month says", "31 CFR Part 351; the tables that were given")
+TEST = (
+    "published",
+    "Every payment is what Treasury's table of its month says",
+    "31 CFR Part 351; the tables that were given",
+)
 MOST_BYTES = 1 << 20  # a table has 60,000
 LINE = re.compile(rb"([EINS])([0-9]{4})(0[1-9]|1[0-2])([0-9]{4})((?:[0-9]{6}|NO PAY| {6}){12})")
 SERIES_EE, FIRST_YEAR = b"N", 1980
@@ -62,11 +66,15 @@ def units_of_year(redeemed: int, year: int, cents: bytes) -> Units:
     units: Units = {}
     for place in range(12):
         issued, text = counted(year, place + 1), cents[6 * place : 6 * place + 6].decode()
-        wanted = " " * 6 if issued > redeemed else "NO PAY" if redeemed - issued < values.HOLD else None
+        wanted = (
+            " " * 6 if issued > redeemed else "NO PAY" if redeemed - issued < values.HOLD else None
+        )
         if issued < 0:
             continue
         if (not text.isdigit() or int(text) == 0) if wanted is None else text != wanted:
-            raise NoTable(f"in {texts.month_text(redeemed)} it has “{text}” for {texts.month_text(issued)}")
+            raise NoTable(
+                f"in {texts.month_text(redeemed)} it has “{text}” for {texts.month_text(issued)}"
+            )
         if issued <= redeemed:
             units[issued] = int(text) if wanted is None else None
     return units
@@ -83,9 +91,13 @@ def units_of(data: bytes) -> dict[int, Units]:
             units.setdefault(redeemed, {}).update(units_of_year(redeemed, year, cents))
     for redeemed, found in years.items():
         if sorted(found) != list(range(FIRST_YEAR, 2005 + (redeemed + 4) // 12 + 1)):
-            raise NoTable(f"an issue year of Series EE is missing or there twice in one of its {len(years)} months")
+            raise NoTable(
+                f"an issue year of Series EE is missing or there twice in one of its {len(years)} months"
+            )
     if not years or max(years) - min(years) != len(years) - 1:
-        raise NoTable("its months don't follow one another" if years else "it has no line of Series EE")
+        raise NoTable(
+            "its months don't follow one another" if years else "it has no line of Series EE"
+        )
     return units
 
 
@@ -98,7 +110,9 @@ def read_table(path: str) -> tuple[Source, dict[int, Units]]:
     try:
         if len(data) > MOST_BYTES:
             raise NoTable(f"it is longer than {MOST_BYTES} bytes")
-        return Source(os.path.basename(path), len(data), hashlib.sha256(data).hexdigest()), units_of(data)
+        return Source(
+            os.path.basename(path), len(data), hashlib.sha256(data).hexdigest()
+        ), units_of(data)
     except NoTable as fault:
         raise NoTable(f"{path} is no redemption table: {fault}") from fault
 
@@ -111,7 +125,9 @@ def read_tables(paths: Iterable[str]) -> Published:
         source, found = read_table(path)
         for redeemed, of_month in found.items():
             if units.setdefault(redeemed, of_month) != of_month:
-                raise NoTable(f"{path}: another table says something else of {texts.month_text(redeemed)}")
+                raise NoTable(
+                    f"{path}: another table says something else of {texts.month_text(redeemed)}"
+                )
         sources.append(source)
     return Published(tuple(sources), units)
 
@@ -134,9 +150,24 @@ def payments_are_published(published: Published, store: Store, findings: Finding
             missing[redeemed] += 1
             continue
         findings.tested += 1
-        what = f"cents of {checks.name_of('bonds', (letter, number))} in {texts.month_text(redeemed)}"
-        findings.compare("paid", checks.name_of("paid", (ticket, place)), what, texts.money(cents), wanted_text(published.units[redeemed], issued, denomination))
-    findings.remarks += [f"{source.name}, {source.length} bytes, SHA-256 {source.sha256}" for source in published.sources]
+        what = (
+            f"cents of {checks.name_of('bonds', (letter, number))} in {texts.month_text(redeemed)}"
+        )
+        findings.compare(
+            "paid",
+            checks.name_of("paid", (ticket, place)),
+            what,
+            texts.money(cents),
+            wanted_text(published.units[redeemed], issued, denomination),
+        )
+    findings.remarks += [
+        f"{source.name}, {source.length} bytes, SHA-256 {source.sha256}"
+        for source in published.sources
+    ]
     if missing:
-        months = ", ".join(f"{texts.month_text(month)} ({count})" for month, count in sorted(missing.items()))
-        findings.remarks.append(f"Payments of months that no table has: {missing.total()}, in {months}.")
+        months = ", ".join(
+            f"{texts.month_text(month)} ({count})" for month, count in sorted(missing.items())
+        )
+        findings.remarks.append(
+            f"Payments of months that no table has: {missing.total()}, in {months}."
+        )

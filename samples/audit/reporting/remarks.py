@@ -40,7 +40,11 @@ def remarks_of(store: Store, as_of: int) -> list[Kind]:
         ("weekend", "Days on a weekend", weekends(days)),
         ("jump", "Days more than a year after the day before", jumps(days)),
         ("letter", "Bonds whose letter isn't that of their denomination", other_letters(store)),
-        ("paper", "Bonds that were issued after paper bonds were sold (2011-12)", after_paper(store)),
+        (
+            "paper",
+            "Bonds that were issued after paper bonds were sold (2011-12)",
+            after_paper(store),
+        ),
     )
     return [collected(*kind) for kind in kinds]
 
@@ -72,12 +76,19 @@ def jumps(days: list[int]) -> Rows:
 
 
 def other_letters(store: Store) -> Rows:
-    for letter, number, denomination in store.rows("SELECT letter, number, denom FROM bonds ORDER BY letter, number"):
+    for letter, number, denomination in store.rows(
+        "SELECT letter, number, denom FROM bonds ORDER BY letter, number"
+    ):
         wanted = LETTERS.get(denomination)
         if wanted != chr(64 + letter):
-            yield texts.serial_text(letter, number), f"{denomination} dollars, whose letter is {wanted}"
+            yield texts.serial_text(
+                letter, number
+            ), f"{denomination} dollars, whose letter is {wanted}"
 
 
 def after_paper(store: Store) -> Rows:
-    for letter, number, issued in store.rows("SELECT letter, number, issued FROM bonds WHERE issued > ? ORDER BY letter, number", LAST_PAPER):
+    for letter, number, issued in store.rows(
+        "SELECT letter, number, issued FROM bonds WHERE issued > ? ORDER BY letter, number",
+        LAST_PAPER,
+    ):
         yield texts.serial_text(letter, number), texts.month_text(issued)

@@ -26,10 +26,15 @@ COMMON = (
     "CREATE TABLE paid (ticket INTEGER NOT NULL, place INTEGER NOT NULL, letter INTEGER NOT NULL, number INTEGER NOT NULL, cents INTEGER NOT NULL, PRIMARY KEY (ticket, place), UNIQUE (letter, number)) STRICT",
     "CREATE TABLE batches (day INTEGER NOT NULL PRIMARY KEY, tickets INTEGER NOT NULL, bonds INTEGER NOT NULL, total INTEGER NOT NULL) STRICT",
 )
-EXTENSIONS = "CREATE TABLE extensions (period INTEGER NOT NULL PRIMARY KEY, rate INTEGER NOT NULL) STRICT"
+EXTENSIONS = (
+    "CREATE TABLE extensions (period INTEGER NOT NULL PRIMARY KEY, rate INTEGER NOT NULL) STRICT"
+)
 ANSWERS = "CREATE TABLE answers (desk INTEGER NOT NULL, number INTEGER NOT NULL, act TEXT NOT NULL, reply TEXT NOT NULL, PRIMARY KEY (desk, number)) STRICT"
 REPLIES = "CREATE TABLE replies (number INTEGER NOT NULL PRIMARY KEY, act TEXT NOT NULL, reply TEXT NOT NULL) STRICT"
-FORMS: dict[int, list[tuple[str, ...]]] = {2: [(*COMMON, EXTENSIONS, ANSWERS)], 1: [(*COMMON, REPLIES), (*COMMON, REPLIES, EXTENSIONS)]}
+FORMS: dict[int, list[tuple[str, ...]]] = {
+    2: [(*COMMON, EXTENSIONS, ANSWERS)],
+    1: [(*COMMON, REPLIES), (*COMMON, REPLIES, EXTENSIONS)],
+}
 TABLES = ("desk", "rates", "extensions", "bonds", "tickets", "paid", "batches", "answers")
 
 
@@ -76,7 +81,9 @@ def is_locked(path: str) -> bool:
     """Whether a process holds the lock that the program holds while it serves a store."""
     with open(path, "rb") as file:
         asked = struct.pack("hhqqi", fcntl.F_WRLCK, os.SEEK_SET, LOCKED_FROM, LOCKED_BYTES, 0)
-        return bool(struct.unpack("hhqqi", fcntl.fcntl(file, fcntl.F_GETLK, asked))[0] != fcntl.F_UNLCK)
+        return bool(
+            struct.unpack("hhqqi", fcntl.fcntl(file, fcntl.F_GETLK, asked))[0] != fcntl.F_UNLCK
+        )
 
 
 def copied(path: str, to: str, kind: str = "") -> Source:
@@ -105,10 +112,17 @@ def copy_of(path: str, folder: str) -> tuple[str, tuple[Source, ...]]:
 def open_copy(path: str, sources: tuple[Source, ...]) -> Store:
     base = sqlite3.connect(path, isolation_level=None)
     base.text_factory = lambda text: text.decode("utf-8", "replace")
-    base.execute("PRAGMA wal_checkpoint(TRUNCATE)").fetchall()  # the log of the copy goes into the copy
+    base.execute(
+        "PRAGMA wal_checkpoint(TRUNCATE)"
+    ).fetchall()  # the log of the copy goes into the copy
     base.execute("PRAGMA query_only = ON")
     base.execute("PRAGMA trusted_schema = OFF")
-    statements = tuple(sql for (sql,) in base.execute("SELECT sql FROM sqlite_schema WHERE sql IS NOT NULL ORDER BY rowid"))
+    statements = tuple(
+        sql
+        for (sql,) in base.execute(
+            "SELECT sql FROM sqlite_schema WHERE sql IS NOT NULL ORDER BY rowid"
+        )
+    )
     return Store(path, base, sources, version_of(base), statements)
 
 
@@ -133,9 +147,26 @@ def make_views(store: Store) -> None:
     base = store.base
     base.execute("PRAGMA query_only = OFF")
     has_extensions = store.one("SELECT 1 FROM sqlite_schema WHERE name = 'extensions'") is not None
-    extension = "(SELECT x.rate FROM extensions AS x WHERE x.period = r.period)" if has_extensions else "NULL"
-    kept = "SELECT number AS place, 0 AS desk, number, act, reply FROM replies" if store.version == 1 else "SELECT rowid AS place, desk, number, act, reply FROM answers"
+    extension = (
+        "(SELECT x.rate FROM extensions AS x WHERE x.period = r.period)"
+        if has_extensions
+        else "NULL"
+    )
+    kept = (
+        "SELECT number AS place, 0 AS desk, number, act, reply FROM replies"
+        if store.version == 1
+        else "SELECT rowid AS place, desk, number, act, reply FROM answers"
+    )
     base.execute(f"CREATE TEMP VIEW kept AS {kept}")
-    base.execute(f"CREATE TEMP VIEW terms AS SELECT r.period, r.rate AS fixed, coalesce({extension}, r.rate) AS extension FROM rates AS r")
-    base.execute("CREATE TEMP VIEW named_extensions AS " + ("SELECT period, rate FROM extensions" if has_extensions else "SELECT 0 AS period, 0 AS rate WHERE 0"))
+    base.execute(
+        f"CREATE TEMP VIEW terms AS SELECT r.period, r.rate AS fixed, coalesce({extension}, r.rate) AS extension FROM rates AS r"
+    )
+    base.execute(
+        "CREATE TEMP VIEW named_extensions AS "
+        + (
+            "SELECT period, rate FROM extensions"
+            if has_extensions
+            else "SELECT 0 AS period, 0 AS rate WHERE 0"
+        )
+    )
     base.execute("PRAGMA query_only = ON")

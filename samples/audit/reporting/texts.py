@@ -227,15 +227,29 @@ def is_rate_row(row: object) -> bool:
         return False
     rates = [row["rate"], row.get("extension", row["rate"])]
     is_named_rightly = "extension" not in row or row["extension"] != row["rate"]
-    return is_month(row["from"], LAST_ISSUE) and all(isinstance(rate, str) and rate in RATES for rate in rates) and is_named_rightly
+    return (
+        is_month(row["from"], LAST_ISSUE)
+        and all(isinstance(rate, str) and rate in RATES for rate in rates)
+        and is_named_rightly
+    )
 
 
 def is_bond_row(row: object) -> bool:
-    if not isinstance(row, dict) or row.keys() - {"coowner"} != {"serial", "denom", "issued", "owner"}:
+    if not isinstance(row, dict) or row.keys() - {"coowner"} != {
+        "serial",
+        "denom",
+        "issued",
+        "owner",
+    }:
         return False
     customers = [row["owner"], row.get("coowner", 1)]
     is_denomination = type(row["denom"]) is int and row["denom"] in DENOMINATIONS
-    return is_denomination and is_serial(row["serial"]) and is_month(row["issued"], LAST_ISSUE) and all(is_whole(one, 1, LAST_CUSTOMER) for one in customers)
+    return (
+        is_denomination
+        and is_serial(row["serial"])
+        and is_month(row["issued"], LAST_ISSUE)
+        and all(is_whole(one, 1, LAST_CUSTOMER) for one in customers)
+    )
 
 
 def is_act(act: object) -> TypeGuard[Act]:
@@ -245,13 +259,21 @@ def is_act(act: object) -> TypeGuard[Act]:
     kind = act.get("act")
     if kind in ("rates", "bonds"):
         is_row = is_rate_row if kind == "rates" else is_bond_row
-        return act.keys() == {"act", kind} and isinstance(act[kind], list) and all(map(is_row, act[kind]))
+        return (
+            act.keys() == {"act", kind}
+            and isinstance(act[kind], list)
+            and all(map(is_row, act[kind]))
+        )
     if kind not in ("open", "close", "redeem") or read_day(act.get("day")) is None:
         return False
     if kind != "redeem":
         return act.keys() == {"act", "day"}
-    is_redemption = act.keys() == {"act", "day", "payee", "serials"} and is_whole(act["payee"], 1, LAST_CUSTOMER)
-    return is_redemption and isinstance(act["serials"], list) and all(map(is_serial, act["serials"]))
+    is_redemption = act.keys() == {"act", "day", "payee", "serials"} and is_whole(
+        act["payee"], 1, LAST_CUSTOMER
+    )
+    return (
+        is_redemption and isinstance(act["serials"], list) and all(map(is_serial, act["serials"]))
+    )
 
 
 def read_act(text: str) -> Act | None:
@@ -270,17 +292,36 @@ def is_refusal(reply: dict[str, object]) -> bool:
     name, named = REFUSALS[code]
     if reply.keys() != {"code", "refused", *named} or reply["refused"] != name:
         return False
-    tests: dict[str, Callable[[object], bool]] = {"serial": is_serial, "ticket": lambda one: is_whole(one, 1, LAST_NUMBER), "month": lambda one: is_month(one) if code != 22 else is_whole(one, 0, 359)}
+    tests: dict[str, Callable[[object], bool]] = {
+        "serial": is_serial,
+        "ticket": lambda one: is_whole(one, 1, LAST_NUMBER),
+        "month": lambda one: is_month(one) if code != 22 else is_whole(one, 0, 359),
+    }
     return all(tests[field](reply[field]) for field in named)
 
 
 def is_ticket(reply: dict[str, object]) -> bool:
-    if reply.keys() != {"day", "lines", "payee", "ticket", "total"} or not isinstance(reply["lines"], list):
+    if reply.keys() != {"day", "lines", "payee", "ticket", "total"} or not isinstance(
+        reply["lines"], list
+    ):
         return False
     lines = reply["lines"]
-    are_lines = all(isinstance(line, dict) and line.keys() == {"paid", "serial"} and is_serial(line["serial"]) and read_money(line["paid"]) is not None for line in lines)
-    are_numbers = is_whole(reply["payee"], 1, LAST_CUSTOMER) and is_whole(reply["ticket"], 1, LAST_NUMBER)
-    return are_lines and are_numbers and read_day(reply["day"]) is not None and read_money(reply["total"]) is not None
+    are_lines = all(
+        isinstance(line, dict)
+        and line.keys() == {"paid", "serial"}
+        and is_serial(line["serial"])
+        and read_money(line["paid"]) is not None
+        for line in lines
+    )
+    are_numbers = is_whole(reply["payee"], 1, LAST_CUSTOMER) and is_whole(
+        reply["ticket"], 1, LAST_NUMBER
+    )
+    return (
+        are_lines
+        and are_numbers
+        and read_day(reply["day"]) is not None
+        and read_money(reply["total"]) is not None
+    )
 
 
 def is_reply(reply: object) -> TypeGuard[Reply]:
@@ -293,8 +334,14 @@ def is_reply(reply: object) -> TypeGuard[Reply]:
     if keys == {"opened"}:
         return read_day(reply["opened"]) is not None
     if keys == {"bonds", "day", "tickets", "total"}:
-        are_numbers = is_whole(reply["bonds"], 0, LAST_NUMBER) and is_whole(reply["tickets"], 0, LAST_NUMBER)
-        return are_numbers and read_day(reply["day"]) is not None and read_money(reply["total"]) is not None
+        are_numbers = is_whole(reply["bonds"], 0, LAST_NUMBER) and is_whole(
+            reply["tickets"], 0, LAST_NUMBER
+        )
+        return (
+            are_numbers
+            and read_day(reply["day"]) is not None
+            and read_money(reply["total"]) is not None
+        )
     return is_refusal(reply) or is_ticket(reply)
 
 
@@ -304,9 +351,17 @@ def read_reply(text: str) -> Reply | None:
     return reply if is_reply(reply) else None
 
 
-def ticket_reply(number: int, day: int, payee: int, lines: list[tuple[str, int]], total: int) -> Reply:
+def ticket_reply(
+    number: int, day: int, payee: int, lines: list[tuple[str, int]], total: int
+) -> Reply:
     told: list[Line] = [{"paid": money(cents), "serial": serial} for serial, cents in lines]
-    return {"day": day_text(day), "lines": told, "payee": payee, "ticket": number, "total": money(total)}
+    return {
+        "day": day_text(day),
+        "lines": told,
+        "payee": payee,
+        "ticket": number,
+        "total": money(total),
+    }
 
 
 def batch_reply(day: int, tickets: int, bonds: int, total: int) -> Reply:

@@ -22,7 +22,8 @@ def grown(unit: int, rate: int, months: int) -> int:
     nearest cent, half a cent upwards.
 
     That is the greatest whole number c with `c - 1/2 <= value`, so with
-    `(2c-1)^6 20000^months <= (2 unit)^6 (20000+rate)^months`. (Model: "Rounding rule", "Half a cent".)"""
+    `(2c-1)^6 20000^months <= (2 unit)^6 (20000+rate)^months`. (Model: "Rounding rule", "Half a cent".)
+    """
     scale, value = 20000**months, (2 * unit) ** 6 * (20000 + rate) ** months
     low, high = unit, 2 * unit  # a half-year adds at most 10 %
     while low < high:
@@ -100,7 +101,12 @@ def may_be_unsettled(fixed: int, extension: int) -> tuple[int, ...]:
     for age in range(FINAL_MATURITY):
         start, months = values[age - age % 6], age % 6
         rate = fixed if age < ORIGINAL_MATURITY else extension
-        if months and rate and not is_fraction(rate, months) and is_close(start, rate, months, values[age]):
+        if (
+            months
+            and rate
+            and not is_fraction(rate, months)
+            and is_close(start, rate, months, values[age])
+        ):
             ages.append(age)
     return tuple(ages)
 

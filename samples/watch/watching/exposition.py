@@ -17,7 +17,16 @@ class Metrics:
         family = self.families.setdefault(name, (kind, about, []))
         family[2].append(("", labels, value))
 
-    def add_histogram(self, name: str, about: str, bounds: Sequence[float], counts: Sequence[int], total: float, /, **labels: object) -> None:
+    def add_histogram(
+        self,
+        name: str,
+        about: str,
+        bounds: Sequence[float],
+        counts: Sequence[int],
+        total: float,
+        /,
+        **labels: object,
+    ) -> None:
         """Adds a histogram: how many values every bound has below it, and above the one before; the last count is of those above all bounds."""
         family = self.families.setdefault(name, ("histogram", about, []))
         below = 0
@@ -35,7 +44,9 @@ class Metrics:
 
 
 def labels_text(labels: dict[str, object]) -> str:
-    quoted = ",".join(f"{name}={json.dumps(str(value), ensure_ascii=False)}" for name, value in labels.items())
+    quoted = ",".join(
+        f"{name}={json.dumps(str(value), ensure_ascii=False)}" for name, value in labels.items()
+    )
     return f"{{{quoted}}}" if quoted else ""
 
 

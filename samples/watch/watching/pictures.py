@@ -59,7 +59,9 @@ def axis(top: float, step: float) -> list[str]:
     parts, count = [], round(top / step)
     for nth in range(count + 1):
         y = BOTTOM - (BOTTOM - TOP) * nth / count
-        parts.append(f'<line x1="{LEFT}" y1="{y:.1f}" x2="{RIGHT}" y2="{y:.1f}" stroke="#999" stroke-width="1"/>')
+        parts.append(
+            f'<line x1="{LEFT}" y1="{y:.1f}" x2="{RIGHT}" y2="{y:.1f}" stroke="#999" stroke-width="1"/>'
+        )
         parts.append(text_at(LEFT - 6, y + 4, number_text(round(nth * step, 6)), "end"))
     return parts
 
@@ -67,7 +69,9 @@ def axis(top: float, step: float) -> list[str]:
 def legend(title: str, series: list[str]) -> list[str]:
     parts, x = [], LEFT
     for place, name in enumerate(series):
-        parts.append(f'<rect x="{x}" y="8" width="14" height="14" fill="{fills(title)[place]}" stroke="#222"/>')
+        parts.append(
+            f'<rect x="{x}" y="8" width="14" height="14" fill="{fills(title)[place]}" stroke="#222"/>'
+        )
         parts.append(text_at(x + 20, 20, name, "start"))
         x += 40 + 8 * len(name)
     return parts
@@ -81,17 +85,23 @@ def columns(title: str, groups: list[Group], series: list[str], limit: float | N
     top = step * max(1, -(-most // step))
     parts, room = axis(top, step), (RIGHT - LEFT) / max(1, len(groups))
     wide = min(60, room * 0.8) / len(series)
-    every = max(1, -(-len(groups) * max([len(group.label) for group in groups] + [1]) * 9 // (RIGHT - LEFT)))
+    every = max(
+        1, -(-len(groups) * max([len(group.label) for group in groups] + [1]) * 9 // (RIGHT - LEFT))
+    )
     for nth, group in enumerate(groups):
         middle = LEFT + room * (nth + 0.5)
         for place, value in enumerate(group.values):
             tall = (BOTTOM - TOP) * (value or 0) / top
-            parts.append(f'<rect x="{middle + wide * (place - len(series) / 2):.1f}" y="{BOTTOM - tall:.1f}" width="{wide:.1f}" height="{tall:.1f}" fill="{fills(title)[place]}" stroke="#222" stroke-width="{1 if value else 0}"/>')
+            parts.append(
+                f'<rect x="{middle + wide * (place - len(series) / 2):.1f}" y="{BOTTOM - tall:.1f}" width="{wide:.1f}" height="{tall:.1f}" fill="{fills(title)[place]}" stroke="#222" stroke-width="{1 if value else 0}"/>'
+            )
         if nth % every == 0:
             parts.append(text_at(middle, BOTTOM + 20, group.label))
     if limit:
         y = BOTTOM - (BOTTOM - TOP) * limit / top
-        parts.append(f'<line x1="{LEFT}" y1="{y:.1f}" x2="{RIGHT}" y2="{y:.1f}" stroke="#111" stroke-width="2" stroke-dasharray="8 5"/>')
+        parts.append(
+            f'<line x1="{LEFT}" y1="{y:.1f}" x2="{RIGHT}" y2="{y:.1f}" stroke="#111" stroke-width="2" stroke-dasharray="8 5"/>'
+        )
     return svg(title, said_of(groups, series), HEIGHT, [*legend(title, series), *parts])
 
 
@@ -102,7 +112,9 @@ def rows(title: str, groups: list[Group], series: list[str]) -> str:
     for nth, group in enumerate(groups):
         y, long = 10 + 26 * nth, (RIGHT - left - 60) * group.values[0] / most
         parts.append(text_at(left - 8, y + 14, group.label, "end"))
-        parts.append(f'<rect x="{left}" y="{y}" width="{long:.1f}" height="18" fill="{fills(title)[0]}"/>')
+        parts.append(
+            f'<rect x="{left}" y="{y}" width="{long:.1f}" height="18" fill="{fills(title)[0]}"/>'
+        )
         parts.append(text_at(left + long + 8, y + 14, number_text(group.values[0]), "start"))
     return svg(title, said_of(groups, series), 20 + 26 * len(groups), parts)
 
@@ -111,10 +123,16 @@ def said_of(groups: list[Group], series: list[str]) -> str:
     """What a picture shows, in words: its extremes."""
     said = []
     for place, name in enumerate(series):
-        known = [(group.values[place], group.label) for group in groups if group.values[place] is not None]
+        known = [
+            (group.values[place], group.label)
+            for group in groups
+            if group.values[place] is not None
+        ]
         if known:
             most, least = max(known), min(known)
-            said.append(f"{name}: from {number_text(least[0])} ({least[1]}) to {number_text(most[0])} ({most[1]})")
+            said.append(
+                f"{name}: from {number_text(least[0])} ({least[1]}) to {number_text(most[0])} ({most[1]})"
+            )
     return "; ".join(said) or "No values"
 
 
@@ -130,5 +148,13 @@ def table(caption: str, heads: list[str], groups: list[Group]) -> str:
     lines = []
     for group in groups:
         texts = [cell_text(name, value) for name, value in zip(heads[1:], group.values)]
-        lines.append(f'<tr><th scope="row">{escaped(group.label)}</th>' + "".join(f"<td>{text}</td>" for text in texts) + "</tr>")
-    return f"<table>\n<caption>{escaped(caption)}</caption>\n<thead><tr>{head}</tr></thead>\n<tbody>\n" + "\n".join(lines) + "\n</tbody>\n</table>"
+        lines.append(
+            f'<tr><th scope="row">{escaped(group.label)}</th>'
+            + "".join(f"<td>{text}</td>" for text in texts)
+            + "</tr>"
+        )
+    return (
+        f"<table>\n<caption>{escaped(caption)}</caption>\n<thead><tr>{head}</tr></thead>\n<tbody>\n"
+        + "\n".join(lines)
+        + "\n</tbody>\n</table>"
+    )

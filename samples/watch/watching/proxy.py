@@ -11,12 +11,38 @@ import re
 from typing import Any, BinaryIO, Iterator, NamedTuple, Optional
 
 REFUSALS = {
-    10: "NumberReused", 11: "Empty", 12: "TooMany", 13: "Repeated", 14: "SameCoowner", 20: "NotAnnouncementMonth", 21: "RateConflict", 22: "RateUnsettled",
-    30: "NoRate", 31: "SerialConflict", 40: "DayOpen", 41: "DayNotLater", 42: "NoOpenDay", 43: "DayIsOther", 44: "DayFull", 50: "UnknownSerial", 51: "NotPayee",
-    52: "AlreadyPaid", 53: "NotIssued", 54: "NotEligible",
+    10: "NumberReused",
+    11: "Empty",
+    12: "TooMany",
+    13: "Repeated",
+    14: "SameCoowner",
+    20: "NotAnnouncementMonth",
+    21: "RateConflict",
+    22: "RateUnsettled",
+    30: "NoRate",
+    31: "SerialConflict",
+    40: "DayOpen",
+    41: "DayNotLater",
+    42: "NoOpenDay",
+    43: "DayIsOther",
+    44: "DayFull",
+    50: "UnknownSerial",
+    51: "NotPayee",
+    52: "AlreadyPaid",
+    53: "NotIssued",
+    54: "NotEligible",
 }
 FAULTS = {
-    60: "BadHead", 61: "HeadTooLong", 62: "BodyTooLong", 63: "BadLength", 64: "BadJson", 65: "BadField", 66: "NoRoute", 67: "BadMethod", 68: "Truncated", 69: "NotFound",
+    60: "BadHead",
+    61: "HeadTooLong",
+    62: "BodyTooLong",
+    63: "BadLength",
+    64: "BadJson",
+    65: "BadField",
+    66: "NoRoute",
+    67: "BadMethod",
+    68: "Truncated",
+    69: "NotFound",
 }
 UNSERVED = {1: "NoMemory", 2: "StoreFailed"}
 WRITING = ("/rates", "/bonds", "/day/open", "/day/close", "/redeem")
@@ -59,7 +85,9 @@ def mark_of(path: str) -> str:
 
 def files_of(path: str) -> list[str]:
     """The log and its rotated files, the newest first."""
-    rotated = [other for end in (".[0-9]*", "-[0-9]*") for other in glob.glob(glob.escape(path) + end)]
+    rotated = [
+        other for end in (".[0-9]*", "-[0-9]*") for other in glob.glob(glob.escape(path) + end)
+    ]
     found = sorted(rotated, key=lambda other: os.stat(other).st_mtime, reverse=True)
     return [path, *found] if os.path.exists(path) else found
 
@@ -75,7 +103,8 @@ def lines_from(path: str, offset: int) -> Iterator[bytes]:
 
 def follow(path: str, place: dict[str, Any]) -> Iterator[bytes]:
     """Yields the lines that came after `place`, each once, and brings it forward. Without a place it begins with the log as it is now. If the file of the place
-    is gone, lines were lost: `place["gaps"]` counts it. After a rotation nginx's old processes end their requests in the file before."""
+    is gone, lines were lost: `place["gaps"]` counts it. After a rotation nginx's old processes end their requests in the file before.
+    """
     files = files_of(path)
     if not files:
         raise FileNotFoundError(f"there is no {path}")
@@ -139,8 +168,21 @@ def entry_of(line: bytes) -> Entry | None:
     if "body" in read:
         read.update(of_texts(read["body"], read.get("reply", "")))
     by = "counter" if read.get("counter") == status and status not in ("502", "504") else "nginx"
-    desk, number, code, ticket = (number_in(read.get(name)) for name in ("desk", "number", "code", "ticket"))
-    return Entry(at, route_of(str(read.get("route", ""))), status, by, seconds_in(read.get("took")), desk, number, code, ticket, cents_in(read.get("total")))
+    desk, number, code, ticket = (
+        number_in(read.get(name)) for name in ("desk", "number", "code", "ticket")
+    )
+    return Entry(
+        at,
+        route_of(str(read.get("route", ""))),
+        status,
+        by,
+        seconds_in(read.get("took")),
+        desk,
+        number,
+        code,
+        ticket,
+        cents_in(read.get("total")),
+    )
 
 
 def of_texts(body: Any, reply: Any) -> dict[str, str]:

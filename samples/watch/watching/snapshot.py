@@ -21,7 +21,11 @@ UNPAID = "SELECT count(*), ifnull(sum(denom), 0) FROM bonds WHERE ticket IS NULL
 def seconds_of(name: str) -> float | None:
     """When a snapshot of this name was taken. None for any other name."""
     found = NAME.fullmatch(name)
-    return calendar.timegm(time.strptime(found[1], "%Y-%m-%dT%H-%M-%S")) + int(found[2]) / 1e9 if found else None
+    return (
+        calendar.timegm(time.strptime(found[1], "%Y-%m-%dT%H-%M-%S")) + int(found[2]) / 1e9
+        if found
+        else None
+    )
 
 
 def named_in(folder: str) -> list[tuple[float, str]]:
@@ -56,6 +60,7 @@ def opened(path: str) -> Iterator[sqlite3.Connection]:
 def figures(path: str) -> dict[str, Any]:
     """What the store's tables tell. Money is in cents, a day is its number from 1970-01-01."""
     with opened(path) as books:
+
         def ask(statement: str, *values: object) -> Any:
             return books.execute(statement, values).fetchone()
 
@@ -65,7 +70,10 @@ def figures(path: str) -> dict[str, Any]:
         return {
             "day": day,
             "last_day": last_day,
-            "of_day": ask("SELECT count(*), ifnull(sum(bonds), 0), ifnull(sum(total), 0) FROM tickets WHERE day = ?", day),
+            "of_day": ask(
+                "SELECT count(*), ifnull(sum(bonds), 0), ifnull(sum(total), 0) FROM tickets WHERE day = ?",
+                day,
+            ),
             "last_batch": ask("SELECT tickets, bonds, total FROM batches WHERE day = ?", last_day),
             "batches": ask("SELECT count(*) FROM batches")[0],
             "bonds": ask("SELECT count(*) FROM bonds")[0],
@@ -78,34 +86,58 @@ def figures(path: str) -> dict[str, Any]:
 def day_starts(day: int) -> tuple[float, float]:
     """The second at which a day begins by the machine's clock, and the second at which it ends."""
     date = time.gmtime(day * 86400)
-    start, end = (time.mktime((date.tm_year, date.tm_mon, date.tm_mday + later, 0, 0, 0, 0, 0, -1)) for later in (0, 1))
+    start, end = (
+        time.mktime((date.tm_year, date.tm_mon, date.tm_mday + later, 0, 0, 0, 0, 0, -1))
+        for later in (0, 1)
+    )
     return start, end
 
 
 def tell(metrics: Metrics, taken: float, found: dict[str, Any]) -> None:
     """Adds the metrics of a snapshot."""
+
     def gauge(name: str, about: str, value: str | int) -> None:
         metrics.add(f"ladwenpik_{name}", "gauge", about, value)
 
-    gauge("snapshot_timestamp_seconds", "When the snapshot was taken that the metrics of books are of.", f"{taken:.3f}")
+    gauge(
+        "snapshot_timestamp_seconds",
+        "When the snapshot was taken that the metrics of books are of.",
+        f"{taken:.3f}",
+    )
     gauge("day_open", "1 if a business day is open.", int(found["day"] is not None))
     if found["day"] is not None:
         start, end = day_starts(found["day"])
-        gauge("open_day_start_timestamp_seconds", "Midnight with which the date of the open day begins.", f"{start:.0f}")
-        gauge("open_day_end_timestamp_seconds", "Midnight with which the date of the open day ends.", f"{end:.0f}")
+        gauge(
+            "open_day_start_timestamp_seconds",
+            "Midnight with which the date of the open day begins.",
+            f"{start:.0f}",
+        )
+        gauge(
+            "open_day_end_timestamp_seconds",
+            "Midnight with which the date of the open day ends.",
+            f"{end:.0f}",
+        )
     tickets, bonds, total = found["of_day"]
     gauge("open_day_tickets", "Tickets of the open day, of 1,000 at most. 0 without one.", tickets)
     gauge("open_day_bonds", "Bonds on these tickets.", bonds)
     gauge("open_day_dollars", "Sum of these tickets.", f"{total / 100:.2f}")
     if found["last_batch"] is not None:
         tickets, bonds, total = found["last_batch"]
-        gauge("last_batch_timestamp_seconds", "Midnight with which the date of the day that was closed last begins.", f"{day_starts(found['last_day'])[0]:.0f}")
+        gauge(
+            "last_batch_timestamp_seconds",
+            "Midnight with which the date of the day that was closed last begins.",
+            f"{day_starts(found['last_day'])[0]:.0f}",
+        )
         gauge("last_batch_tickets", "Tickets of the last batch.", tickets)
         gauge("last_batch_bonds", "Bonds of the last batch.", bonds)
         gauge("last_batch_dollars", "Sum of the last batch.", f"{total / 100:.2f}")
     gauge("batches", "Closed days.", found["batches"])
     gauge("bonds", "Registered bonds.", found["bonds"])
     gauge("unpaid_bonds", "Registered bonds that aren't paid.", found["unpaid"][0])
-    gauge("unpaid_face_dollars", "Sum of the denominations of the bonds that aren't paid.", found["unpaid"][1])
+    gauge(
+        "unpaid_face_dollars",
+        "Sum of the denominations of the bonds that aren't paid.",
+        found["unpaid"][1],
+    )
     gauge("last_ticket", "The number of the last ticket.", found["tickets"])
     gauge("kept_requests", "Requests whose replies the store keeps.", found["requests"])

@@ -12,8 +12,16 @@ from .answers import compact
 from .errors import BadArchive, FileFailed, JournalInUse
 from .spelling import Json
 
-ACTS = {"/rates": "rates", "/bonds": "bonds", "/day/open": "open", "/redeem": "redeem", "/day/close": "close"}
-ARCHIVED = re.compile(rb'\{"before":"([0-9a-f]{64})","time":"[^"]+","desk":\d{1,3},"number":\d+,"act":\{.*\}\}')
+ACTS = {
+    "/rates": "rates",
+    "/bonds": "bonds",
+    "/day/open": "open",
+    "/redeem": "redeem",
+    "/day/close": "close",
+}
+ARCHIVED = re.compile(
+    rb'\{"before":"([0-9a-f]{64})","time":"[^"]+","desk":\d{1,3},"number":\d+,"act":\{.*\}\}'
+)
 
 
 def printed_rate(text: str) -> str:
@@ -42,7 +50,8 @@ def act_text(path: str, fields: Json) -> str:
 class Archive:
     """A file with every request before it is sent, and again with its reply. Every line names the checksum of the line before.
 
-    `end` is the size of the file and its last line, as far as the lines are known to be on the disk. After an interrupted write both are read back."""
+    `end` is the size of the file and its last line, as far as the lines are known to be on the disk. After an interrupted write both are read back.
+    """
 
     file, process = -1, 0
 
@@ -51,7 +60,9 @@ class Archive:
         self.path = os.path.realpath(path)
         self.end = 0, b""
         try:
-            self.file = os.open(self.path, os.O_RDWR | os.O_CREAT | os.O_APPEND | os.O_CLOEXEC, 0o600)
+            self.file = os.open(
+                self.path, os.O_RDWR | os.O_CREAT | os.O_APPEND | os.O_CLOEXEC, 0o600
+            )
             try:
                 fcntl.flock(self.file, fcntl.LOCK_EX | fcntl.LOCK_NB)
             except BlockingIOError:
@@ -78,19 +89,27 @@ class Archive:
         if rest:
             os.ftruncate(self.file, size)
         if not lines:
-            return self.write(compact({"archive": 1, "of": "desk", "id": os.urandom(16).hex(), "time": self.time()}).encode())
+            return self.write(
+                compact(
+                    {"archive": 1, "of": "desk", "id": os.urandom(16).hex(), "time": self.time()}
+                ).encode()
+            )
         if not lines[0].startswith(b'{"archive":1,"of":"desk",'):
             raise BadArchive(f"{self.path} is no archive of a desk")
         for count, (before, line) in enumerate(zip(lines, lines[1:]), 2):
             found = ARCHIVED.fullmatch(line)
             if found is None or found[1].decode() != hashlib.sha256(before).hexdigest():
-                raise BadArchive(f"{self.path}: line {count} doesn't follow line {count - 1}: one of them was changed, taken out or moved")
+                raise BadArchive(
+                    f"{self.path}: line {count} doesn't follow line {count - 1}: one of them was changed, taken out or moved"
+                )
         self.end = size, lines[-1]
 
     @staticmethod
     def time() -> str:
         """The time, in UTC."""
-        return datetime.datetime.now(datetime.timezone.utc).strftime("%Y-%m-%dT%H:%M:%S.%f")[:-3] + "Z"
+        return (
+            datetime.datetime.now(datetime.timezone.utc).strftime("%Y-%m-%dT%H:%M:%S.%f")[:-3] + "Z"
+        )
 
     def write(self, line: bytes) -> None:
         """Writes a line to the disk. FileFailed if that fails; `read_back` then mends the file."""
@@ -119,7 +138,9 @@ class Archive:
     def add(self, desk: int, request: Json, reply: Optional[Json] = None) -> None:
         """Writes a request, with its reply if it has come."""
         self.read_back()
-        before, act = hashlib.sha256(self.end[1]).hexdigest(), act_text(request["path"], request["fields"])
+        before, act = hashlib.sha256(self.end[1]).hexdigest(), act_text(
+            request["path"], request["fields"]
+        )
         told = "" if reply is None else f',"reply":{compact(reply)}'
         text = f'{{"before":"{before}","time":"{self.time()}","desk":{desk},"number":{request["number"]},"act":{act}{told}}}'
         self.write(text.encode())

@@ -16,7 +16,18 @@ from .errors import BadFile, BadValue, Incomplete, NoRate
 from .files import bonds_in
 from .lookups import Lookups, Path, path_of
 from .results import Interest, Line, Paid, Row, Ticket
-from .spelling import MOST_NUMBER, Bond, DayLike, Json, Month, MonthLike, bond_of, customer_of, day_of, whole
+from .spelling import (
+    MOST_NUMBER,
+    Bond,
+    DayLike,
+    Json,
+    Month,
+    MonthLike,
+    bond_of,
+    customer_of,
+    day_of,
+    whole,
+)
 
 COLUMNS = ("day", "ticket", "payee", "serial", "denom", "issued", "price", "interest", "value")
 #: With what an archive of requests begins.
@@ -30,14 +41,17 @@ Known = Mapping[str, Bond]
 def bonds_known(*paths: Path) -> Dict[str, Bond]:
     """Reads what every bond is from inventory files and from archives of requests, a desk's or a store's, by serial number.
 
-    Raises BadFile if a file can't be read, an archive isn't as it was written, or two of them say something else of a bond."""
+    Raises BadFile if a file can't be read, an archive isn't as it was written, or two of them say something else of a bond.
+    """
     known: Dict[str, Json] = {}
     for path in paths:
         name = path_of(path, "a file")
         try:
             for row, bond in rows_of_file(name):
                 if known.setdefault(bond["serial"], bond) != bond:
-                    raise BadFile(row, f"{bond['serial']} was another bond in an earlier line or file")
+                    raise BadFile(
+                        row, f"{bond['serial']} was another bond in an earlier line or file"
+                    )
         except BadFile as fault:
             raise BadFile(fault.row, f"{fault.fault} ({name})") from None
     return {serial: Bond(**bond) for serial, bond in known.items()}
@@ -78,7 +92,10 @@ def interest_of_ticket(lookups: Lookups, number: int, bonds: Known) -> Interest:
     """Returns the interest of a ticket. Raises Incomplete."""
     wanted = whole(number, 1, MOST_NUMBER, "a ticket")
     ticket = lookups.ticket(wanted)
-    return Question(lookups, bonds).answered([] if ticket is None else [ticket], [f"there is no ticket {wanted}"] if ticket is None else [])
+    return Question(lookups, bonds).answered(
+        [] if ticket is None else [ticket],
+        [f"there is no ticket {wanted}"] if ticket is None else [],
+    )
 
 
 def interest_of_day(lookups: Lookups, day: DayLike, bonds: Known) -> Interest:
@@ -89,7 +106,9 @@ def interest_of_day(lookups: Lookups, day: DayLike, bonds: Known) -> Interest:
     return question.answered(tickets, question.untied(wanted, tickets))
 
 
-def interest_of_payee(lookups: Lookups, payee: int, first: DayLike, last: DayLike, bonds: Known) -> Interest:
+def interest_of_payee(
+    lookups: Lookups, payee: int, first: DayLike, last: DayLike, bonds: Known
+) -> Interest:
     """Returns the interest of what a customer was paid from the first day to the last one. All tickets of these days are looked at, and those of every day have its batch's
     sums. Raises Incomplete."""
     customer, span = customer_of(payee), (day_of(first), day_of(last))
@@ -99,8 +118,13 @@ def interest_of_payee(lookups: Lookups, payee: int, first: DayLike, last: DayLik
     days: Dict[str, List[Ticket]] = {}
     for ticket in question.tickets_of(*span):
         days.setdefault(ticket.day.isoformat(), []).append(ticket)
-    untied = [sentence for day, tickets in days.items() for sentence in question.untied(day, tickets)]
-    return question.answered([ticket for tickets in days.values() for ticket in tickets if ticket.payee == customer], untied)
+    untied = [
+        sentence for day, tickets in days.items() for sentence in question.untied(day, tickets)
+    ]
+    return question.answered(
+        [ticket for tickets in days.values() for ticket in tickets if ticket.payee == customer],
+        untied,
+    )
 
 
 class Question:
@@ -147,7 +171,9 @@ class Question:
         count, bonds, total = sums_of(tickets)
         if (count, bonds, total) == (batch.tickets, batch.bonds, batch.total):
             return []
-        return [f"{day} has {count} tickets, {bonds} bonds, {total} dollars, and its batch {batch.tickets}, {batch.bonds}, {batch.total}"]
+        return [
+            f"{day} has {count} tickets, {bonds} bonds, {total} dollars, and its batch {batch.tickets}, {batch.bonds}, {batch.total}"
+        ]
 
     def answered(self, tickets: Iterable[Ticket], missing: List[str]) -> Interest:
         """The interest of tickets. Raises Incomplete if something is missing."""
@@ -157,7 +183,10 @@ class Question:
                 row, fault = self.paid(ticket, line)
                 rows.append(row)
                 missing += [fault] if fault else []
-        price, interest, value = (sum((getattr(row, name) or Decimal() for row in rows), Decimal("0.00")) for name in ("price", "interest", "value"))
+        price, interest, value = (
+            sum((getattr(row, name) or Decimal() for row in rows), Decimal("0.00"))
+            for name in ("price", "interest", "value")
+        )
         found = Interest(tuple(rows), price, interest, value, tuple(missing), csv_of(rows))
         if missing:
             raise Incomplete(found)
@@ -166,10 +195,40 @@ class Question:
     def paid(self, ticket: Ticket, line: Line) -> Tuple[Paid, str]:
         """The row of a paid bond, and what is missing of it, if anything is."""
         bond = self.bonds.get(line.serial)
-        row, fault = (None, f"{line.serial}, on ticket {ticket.number}, is in none of the files") if bond is None else self.row(ticket, line, bond)
+        row, fault = (
+            (None, f"{line.serial}, on ticket {ticket.number}, is in none of the files")
+            if bond is None
+            else self.row(ticket, line, bond)
+        )
         if bond is None or row is None:
-            return Paid(ticket.day, ticket.number, ticket.payee, line.serial, None, None, None, None, line.paid), fault
-        return Paid(ticket.day, ticket.number, ticket.payee, line.serial, row.denom, row.issued, row.price, row.interest, line.paid), ""
+            return (
+                Paid(
+                    ticket.day,
+                    ticket.number,
+                    ticket.payee,
+                    line.serial,
+                    None,
+                    None,
+                    None,
+                    None,
+                    line.paid,
+                ),
+                fault,
+            )
+        return (
+            Paid(
+                ticket.day,
+                ticket.number,
+                ticket.payee,
+                line.serial,
+                row.denom,
+                row.issued,
+                row.price,
+                row.interest,
+                line.paid,
+            ),
+            "",
+        )
 
     def row(self, ticket: Ticket, line: Line, bond: Bond) -> Tuple[Optional[Row], str]:
         """The counter's row of a bond in the month of its payment. If its value isn't what was paid, the files have another bond."""
@@ -184,12 +243,19 @@ class Question:
         if row is not None and row.value == line.paid:
             return row, ""
         found = "has no rates" if row is None else f"is worth {row.value}"
-        return None, f"{line.serial}, on ticket {ticket.number}: {line.paid} was paid, and the files' bond, of {bond.denom} dollars and {bond.issued}, {found} in {month}"
+        return (
+            None,
+            f"{line.serial}, on ticket {ticket.number}: {line.paid} was paid, and the files' bond, of {bond.denom} dollars and {bond.issued}, {found} in {month}",
+        )
 
 
 def sums_of(tickets: Sequence[Ticket]) -> Tuple[int, int, Decimal]:
     """The sums of tickets, as a batch has them."""
-    return len(tickets), sum(len(ticket.lines) for ticket in tickets), sum((ticket.total for ticket in tickets), Decimal())
+    return (
+        len(tickets),
+        sum(len(ticket.lines) for ticket in tickets),
+        sum((ticket.total for ticket in tickets), Decimal()),
+    )
 
 
 def csv_of(rows: Sequence[Paid]) -> str:

@@ -22,9 +22,16 @@ REQUEST = {"number", "sent", "path", "fields", "bookmark"}
 
 def is_record(record: object) -> bool:
     """Whether it has the form of a journal's record."""
-    if not isinstance(record, dict) or set(record) not in (EARLIER, NAMES) or type(record["desk"]) is not int or type(record["next"]) is not int:
+    if (
+        not isinstance(record, dict)
+        or set(record) not in (EARLIER, NAMES)
+        or type(record["desk"]) is not int
+        or type(record["next"]) is not int
+    ):
         return False
-    requests = [record[name] for name in ("open", "last") if record[name] is not None] + list(record.get("abandoned", ()))
+    requests = [record[name] for name in ("open", "last") if record[name] is not None] + list(
+        record.get("abandoned", ())
+    )
     return all(isinstance(request, dict) and REQUEST <= set(request) for request in requests)
 
 
@@ -33,7 +40,8 @@ class Journal:
 
     The path is resolved first, so that two paths to one journal have one lock. A journal with two names (a hard link) is refused: a change would part them.
 
-    If a change is interrupted (by Ctrl-C, a signal or the disk), the record stays as it was, and `restore` gives it back to the file."""
+    If a change is interrupted (by Ctrl-C, a signal or the disk), the record stays as it was, and `restore` gives it back to the file.
+    """
 
     lock, process = -1, 0
 
@@ -84,19 +92,31 @@ class Journal:
         try:
             with open(self.path, encoding="utf-8") as file:
                 if os.fstat(file.fileno()).st_nlink > 1:
-                    raise BadJournal(f"{self.path} has a second name (a hard link): the two would part")
+                    raise BadJournal(
+                        f"{self.path} has a second name (a hard link): the two would part"
+                    )
                 record = json.load(file)
         except FileNotFoundError:
             if desk is None:
-                raise BadJournal(f"there is no journal {self.path}; a new one needs the number of its desk") from None
-            record = {"desk": whole(desk, 0, 999, "a desk"), "next": time.time_ns() // 1_000_000, "open": None, "last": None, "bookmark": None}
+                raise BadJournal(
+                    f"there is no journal {self.path}; a new one needs the number of its desk"
+                ) from None
+            record = {
+                "desk": whole(desk, 0, 999, "a desk"),
+                "next": time.time_ns() // 1_000_000,
+                "open": None,
+                "last": None,
+                "bookmark": None,
+            }
             self.write(record)
         except ValueError:
             raise BadJournal(f"{self.path} is no journal") from None
         if not is_record(record):
             raise BadJournal(f"{self.path} is no journal")
         if desk is not None and record["desk"] != desk:
-            raise BadJournal(f"{self.path} is the journal of desk {record['desk']}, and not of desk {desk}")
+            raise BadJournal(
+                f"{self.path} is the journal of desk {record['desk']}, and not of desk {desk}"
+            )
         return {"abandoned": [], "keyed": 0, **record}
 
     def change(self, **changes: Any) -> None:
@@ -112,7 +132,9 @@ class Journal:
             with contextlib.suppress(OSError):
                 self.restore()
             if isinstance(failure, OSError):
-                raise FileFailed(f"the journal {self.path} can't be written: {failure}") from failure
+                raise FileFailed(
+                    f"the journal {self.path} can't be written: {failure}"
+                ) from failure
             raise
 
     def restore(self) -> None:
@@ -135,7 +157,9 @@ class Journal:
     def settled(self) -> Json:
         """The record. If the reply to the open request is in the file of keys, and not yet in the journal, the request is done; the next change writes it."""
         still = self.record["open"]
-        kept = None if still is None or still.get("key") is None else self.keys.kept.get(still["key"])
+        kept = (
+            None if still is None or still.get("key") is None else self.keys.kept.get(still["key"])
+        )
         if still is not None and kept is not None and kept.number == still["number"]:
             self.record = self.with_reply(still, kept.reply)
         return self.record
@@ -144,7 +168,13 @@ class Journal:
         """The record once a request has its reply. A refusal leaves the bookmark as it was."""
         is_marked = "refused" not in reply and request["bookmark"] is not None
         bookmark = request["bookmark"] if is_marked else self.record["bookmark"]
-        return {**self.record, "open": None, "last": {**request, "reply": reply}, "bookmark": bookmark, "keyed": self.keys.size}
+        return {
+            **self.record,
+            "open": None,
+            "last": {**request, "reply": reply},
+            "bookmark": bookmark,
+            "keyed": self.keys.size,
+        }
 
     def write(self, record: Json) -> None:
         """Writes a record whole, and then gives it the journal's name."""
@@ -163,7 +193,15 @@ class Journal:
 
     def request_of(self, kept: Json) -> Request:
         """The request that a record of it stands for."""
-        return Request(self.record["desk"], kept["number"], kept["path"], kept["fields"], kept["sent"], kept.get("key"), kept["bookmark"])
+        return Request(
+            self.record["desk"],
+            kept["number"],
+            kept["path"],
+            kept["fields"],
+            kept["sent"],
+            kept.get("key"),
+            kept["bookmark"],
+        )
 
     def close(self) -> None:
         """Closes the files, and gives the lock back. A second call does nothing, or what an interruption of the first one left."""
@@ -189,7 +227,8 @@ class Keys:
     A line is on the disk before the journal says that its request is done. After a stop in between, the journal takes the reply from the line. The journal knows how
     many bytes of the file it relies on (`keyed`). A shorter file is refused. What a loss of power left after them, and is no line, is taken off.
 
-    `size` is the position at which the next line is written. What an interrupted write left there is taken off."""
+    `size` is the position at which the next line is written. What an interrupted write left there is taken off.
+    """
 
     def __init__(self, path: str, keyed: int) -> None:
         self.path, self.file = path, -1
@@ -198,7 +237,9 @@ class Keys:
         if os.path.exists(path):
             self.read(keyed)
         if self.size < keyed:
-            raise BadJournal(f"{path} lacks keys that its journal relies on: it was cut, or left behind when the journal was moved")
+            raise BadJournal(
+                f"{path} lacks keys that its journal relies on: it was cut, or left behind when the journal was moved"
+            )
         if self.size > keyed:
             os.fsync(self.opened())
 
@@ -209,7 +250,9 @@ class Keys:
         for line in lines:
             try:
                 value = json.loads(line)
-                key, kept = str(value["key"]), Kept(value["number"], value["path"], value["fields"], value["reply"])
+                key, kept = str(value["key"]), Kept(
+                    value["number"], value["path"], value["fields"], value["reply"]
+                )
             except (ValueError, TypeError, KeyError):
                 if self.size >= keyed:
                     return

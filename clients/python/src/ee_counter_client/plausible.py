@@ -40,7 +40,9 @@ def doubts_of_day(day: str) -> Iterator[str]:
 def days_before(day: str) -> List[str]:
     """Returns the days whose batches tell whether the last opened day is near, nearest first. None is before the first day that the counter knows."""
     last = datetime.date.fromisoformat(day)
-    found = ((last - datetime.timedelta(days=count)).isoformat() for count in range(1, MOST_DAYS + 1))
+    found = (
+        (last - datetime.timedelta(days=count)).isoformat() for count in range(1, MOST_DAYS + 1)
+    )
     return [before for before in found if before >= "2005-05-01"]
 
 

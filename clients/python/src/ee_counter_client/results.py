@@ -85,7 +85,8 @@ class Row:
     """The row of a bond in a month, as on a sheet. Money is in dollars, `rate` in percent a year.
 
     `next` is the month of the next accrual, `final` that of final maturity. `note` is NI (not issued yet), NE (not eligible: younger than 12 months), P5 (younger than
-    five years: without the last three months of interest), MA (matured) or empty. `serial` is None if the bond isn't registered. What is empty on a sheet is None."""
+    five years: without the last three months of interest), MA (matured) or empty. `serial` is None if the bond isn't registered. What is empty on a sheet is None.
+    """
 
     serial: Optional[str]
     denom: int
@@ -188,12 +189,22 @@ def month_in(text: str) -> Month:
 def ticket_of(reply: Json, text: str, request: Optional[Request] = None) -> Ticket:
     """Makes a Ticket of the counter's object."""
     lines = tuple(Line(line["serial"], money(line["paid"])) for line in reply["lines"])
-    return Ticket(reply["ticket"], day_in(reply["day"]), reply["payee"], lines, money(reply["total"]), text, request)
+    return Ticket(
+        reply["ticket"],
+        day_in(reply["day"]),
+        reply["payee"],
+        lines,
+        money(reply["total"]),
+        text,
+        request,
+    )
 
 
 def batch_of(reply: Json, text: str, request: Optional[Request] = None) -> Batch:
     """Makes a Batch of the counter's object."""
-    return Batch(day_in(reply["day"]), reply["tickets"], reply["bonds"], money(reply["total"]), text, request)
+    return Batch(
+        day_in(reply["day"]), reply["tickets"], reply["bonds"], money(reply["total"]), text, request
+    )
 
 
 def row_of(cells: Json, text: str = "") -> Row:

@@ -5,7 +5,20 @@ import datetime
 import re
 from dataclasses import dataclass
 from decimal import Decimal
-from typing import Any, Dict, Iterable, Iterator, List, Mapping, Optional, Protocol, Sequence, Tuple, TypeVar, Union
+from typing import (
+    Any,
+    Dict,
+    Iterable,
+    Iterator,
+    List,
+    Mapping,
+    Optional,
+    Protocol,
+    Sequence,
+    Tuple,
+    TypeVar,
+    Union,
+)
 
 from .errors import BadValue
 
@@ -16,11 +29,14 @@ Item = TypeVar("Item", covariant=True)
 class Listed(Protocol[Item]):
     """A list, a tuple, or another collection. For a type checker a text is none, though it is a sequence of texts: `in` of a text takes texts alone."""
 
-    def __contains__(self, __value: object) -> bool: ...
+    def __contains__(self, __value: object) -> bool:
+        ...
 
-    def __iter__(self) -> Iterator[Item]: ...
+    def __iter__(self) -> Iterator[Item]:
+        ...
 
-    def __len__(self) -> int: ...
+    def __len__(self) -> int:
+        ...
 
 
 Each = TypeVar("Each")
@@ -74,14 +90,22 @@ class Rates:
 def whole(value: object, least: int, most: int, name: str) -> int:
     """Reads a whole number within bounds, from a number or a text of digits."""
     text = str(value) if isinstance(value, (int, str)) else ""
-    if isinstance(value, bool) or not re.fullmatch(r"[0-9]{1,19}", text, re.ASCII) or not least <= int(text) <= most:
+    if (
+        isinstance(value, bool)
+        or not re.fullmatch(r"[0-9]{1,19}", text, re.ASCII)
+        or not least <= int(text) <= most
+    ):
         raise BadValue(f"{name} is from {least} to {most}, and not {value!r}")
     return int(text)
 
 
 def seconds_of(value: object, name: str) -> float:
     """Reads a number of seconds that isn't negative."""
-    if isinstance(value, bool) or not isinstance(value, (int, float)) or not 0 <= value < float("inf"):
+    if (
+        isinstance(value, bool)
+        or not isinstance(value, (int, float))
+        or not 0 <= value < float("inf")
+    ):
         raise BadValue(f"{name} is a number of seconds, and not {value!r}")
     return float(value)
 
@@ -99,7 +123,9 @@ def month_of(value: object, last: str = "2199-12") -> str:
     typed = str(value) if isinstance(value, (str, Month)) else ""
     if isinstance(value, datetime.date):
         typed = f"{value.year:04}-{value.month:02}"
-    parts = re.fullmatch(r"([0-9]{4})-([0-9]{2})", typed) or re.fullmatch(r"()([0-9]{2})/([0-9]{4})", typed)
+    parts = re.fullmatch(r"([0-9]{4})-([0-9]{2})", typed) or re.fullmatch(
+        r"()([0-9]{2})/([0-9]{4})", typed
+    )
     month = "" if parts is None else f"{parts[1] or parts[3]}-{parts[2]}"
     if not "2005-05" <= month <= last or not "01" <= month[5:] <= "12":
         raise BadValue(f"{value!r} is no month from 2005-05 to {last}")
@@ -115,7 +141,10 @@ def day_of(value: object) -> str:
     """Reads a day from 2005-05-01 to 2199-12-31: a date, or YYYY-MM-DD."""
     day = str(value) if isinstance(value, (str, datetime.date)) else ""
     try:
-        is_real = re.fullmatch(r"[0-9]{4}-[0-9]{2}-[0-9]{2}", day) is not None and datetime.date.fromisoformat(day).isoformat() == day
+        is_real = (
+            re.fullmatch(r"[0-9]{4}-[0-9]{2}-[0-9]{2}", day) is not None
+            and datetime.date.fromisoformat(day).isoformat() == day
+        )
     except ValueError:
         is_real = False
     if not is_real or not "2005-05-01" <= day <= "2199-12-31":
@@ -125,7 +154,11 @@ def day_of(value: object) -> str:
 
 def denom_of(value: object) -> int:
     """Reads a denomination in dollars."""
-    if isinstance(value, bool) or not isinstance(value, (int, str)) or str(value) not in map(str, DENOMINATIONS):
+    if (
+        isinstance(value, bool)
+        or not isinstance(value, (int, str))
+        or str(value) not in map(str, DENOMINATIONS)
+    ):
         raise BadValue(f"{value!r} is no denomination")
     return int(value)
 
@@ -138,7 +171,11 @@ def customer_of(value: object) -> int:
 def rate_of(value: object) -> str:
     """Reads a rate in percent: a text such as 3.50, or a Decimal."""
     text = f"{value:f}" if isinstance(value, Decimal) else value
-    if not isinstance(text, str) or re.fullmatch(r"[0-9]{1,2}(\.[0-9]{1,2})?%?", text) is None or Decimal(text.rstrip("%")) > 20:
+    if (
+        not isinstance(text, str)
+        or re.fullmatch(r"[0-9]{1,2}(\.[0-9]{1,2})?%?", text) is None
+        or Decimal(text.rstrip("%")) > 20
+    ):
         raise BadValue(f"{value!r} is no rate, as 3.50")
     return text
 
@@ -165,7 +202,9 @@ def key_of(value: object) -> Optional[str]:
     if value is None:
         return None
     if not isinstance(value, str) or not 1 <= len(value) <= MOST_KEY or not value.isprintable():
-        raise BadValue(f"a key is a text of 1 to {MOST_KEY} printable characters, and not {value!r}")
+        raise BadValue(
+            f"a key is a text of 1 to {MOST_KEY} printable characters, and not {value!r}"
+        )
     return value
 
 
@@ -175,7 +214,9 @@ def with_keys(row: object, needed: Sequence[str], other: str, what: str) -> Mapp
         raise BadValue(f"{what} is a dict with the keys {', '.join(needed)}, and not {row!r}")
     for key in row:
         if key not in (*needed, other):
-            raise BadValue(f"{what} has no key {key!r}; its keys are {', '.join(needed)} and perhaps {other}")
+            raise BadValue(
+                f"{what} has no key {key!r}; its keys are {', '.join(needed)} and perhaps {other}"
+            )
     for key in needed:
         if key not in row:
             raise BadValue(f"{what} lacks the key {key!r}")
@@ -185,10 +226,21 @@ def with_keys(row: object, needed: Sequence[str], other: str, what: str) -> Mapp
 def bond_of(bond: object) -> Json:
     """Reads a bond as it is sent, with its keys in one order. BadValue names a key that is unknown or missing."""
     if isinstance(bond, Bond):
-        bond = {"serial": bond.serial, "denom": bond.denom, "issued": bond.issued, "owner": bond.owner, "coowner": bond.coowner}
+        bond = {
+            "serial": bond.serial,
+            "denom": bond.denom,
+            "issued": bond.issued,
+            "owner": bond.owner,
+            "coowner": bond.coowner,
+        }
     row = with_keys(bond, ("serial", "denom", "issued", "owner"), "coowner", "a bond")
     coowner = row.get("coowner")
-    read: Json = {"serial": serial_of(row["serial"]), "denom": denom_of(row["denom"]), "issued": issue_of(row["issued"]), "owner": customer_of(row["owner"])}
+    read: Json = {
+        "serial": serial_of(row["serial"]),
+        "denom": denom_of(row["denom"]),
+        "issued": issue_of(row["issued"]),
+        "owner": customer_of(row["owner"]),
+    }
     return read if coowner in (None, "") else {**read, "coowner": customer_of(coowner)}
 
 

@@ -53,7 +53,11 @@ class Misfit(Exception):
 
     def __init__(self, status: int, code: int, name: str, field: Optional[str] = None) -> None:
         super().__init__(name)
-        self.status, self.answer = status, {"code": code, "fault": name, **({"field": field} if field else {})}
+        self.status, self.answer = status, {
+            "code": code,
+            "fault": name,
+            **({"field": field} if field else {}),
+        }
 
 
 def printed(cents: int) -> str:
@@ -113,12 +117,19 @@ class FakeCounter:
         self.server.daemon_threads = True
         self.port: int = self.server.server_address[1]
         self.address = f"http://127.0.0.1:{self.port}"
-        threading.Thread(target=self.server.serve_forever, kwargs={"poll_interval": 0.05}, daemon=True).start()
+        threading.Thread(
+            target=self.server.serve_forever, kwargs={"poll_interval": 0.05}, daemon=True
+        ).start()
 
     def __enter__(self) -> "FakeCounter":
         return self
 
-    def __exit__(self, kind: Optional[Type[BaseException]], error: Optional[BaseException], trace: Optional[TracebackType]) -> None:
+    def __exit__(
+        self,
+        kind: Optional[Type[BaseException]],
+        error: Optional[BaseException],
+        trace: Optional[TracebackType],
+    ) -> None:
         self.close()
 
     def close(self) -> None:
@@ -168,17 +179,26 @@ class FakeCounter:
             raise Misfit(404, 66, "NoRoute")
         if method != "GET":
             raise Misfit(405, 67, "BadMethod")
-        parts: Dict[str, str] = {name: text for name, text in found.groupdict().items() if text is not None}
+        parts: Dict[str, str] = {
+            name: text for name, text in found.groupdict().items() if text is not None
+        }
         if "ticket" in parts:
             number = part("ticket", lambda: whole(parts["ticket"], 1, MOST_NUMBER, "a ticket"))
             return found_or_not(self.tickets[number - 1] if number <= len(self.tickets) else None)
         if "day" in parts:
             return found_or_not(self.batches.get(part("day", lambda: day_of(parts["day"]))))
         if "customer" in parts:
-            customer, month = part("customer", lambda: customer_of(parts["customer"])), part("month", lambda: month_of(parts["month"]))
+            customer, month = part("customer", lambda: customer_of(parts["customer"])), part(
+                "month", lambda: month_of(parts["month"])
+            )
             return 200, self.sheet(customer, month)
-        denom, issued = part("denom", lambda: denom_of(parts["denom"])), part("issued", lambda: issue_of(parts["issued"]))
-        row = self.row({"serial": "", "denom": denom, "issued": issued}, part("month", lambda: month_of(parts["of"])))
+        denom, issued = part("denom", lambda: denom_of(parts["denom"])), part(
+            "issued", lambda: issue_of(parts["issued"])
+        )
+        row = self.row(
+            {"serial": "", "denom": denom, "issued": issued},
+            part("month", lambda: month_of(parts["of"])),
+        )
         return 200, compact(dict(sorted(row.items())))
 
     # ---- acts
@@ -242,7 +262,9 @@ class FakeCounter:
         sums = [self.payment(serial, fields["payee"]) for serial in serials]
         ticket = {
             "day": self.day,
-            "lines": [{"paid": printed(cents), "serial": serial} for serial, cents in zip(serials, sums)],
+            "lines": [
+                {"paid": printed(cents), "serial": serial} for serial, cents in zip(serials, sums)
+            ],
             "payee": fields["payee"],
             "ticket": len(self.tickets) + 1,
             "total": printed(sum(sums)),
@@ -262,14 +284,21 @@ class FakeCounter:
             raise Refusal(52, "AlreadyPaid", serial=serial, ticket=self.paid[serial])
         row = self.row(bond, str(self.day)[:7])
         if row["note"] in ("NI", "NE"):
-            raise Refusal(53, "NotIssued", serial=serial) if row["note"] == "NI" else Refusal(54, "NotEligible", serial=serial)
+            raise Refusal(53, "NotIssued", serial=serial) if row["note"] == "NI" else Refusal(
+                54, "NotEligible", serial=serial
+            )
         return cents_of(row["value"]) or 0
 
     def close_day(self, fields: Json) -> Json:
         """Closes the open day."""
         today = self.of_today(fields)
         total = sum(cents_of(ticket["total"]) or 0 for ticket in today)
-        batch = {"bonds": sum(len(ticket["lines"]) for ticket in today), "day": self.day, "tickets": len(today), "total": printed(total)}
+        batch = {
+            "bonds": sum(len(ticket["lines"]) for ticket in today),
+            "day": self.day,
+            "tickets": len(today),
+            "total": printed(total),
+        }
         self.batches[str(self.day)] = batch
         self.day, self.closed = None, self.day
         return batch
@@ -280,7 +309,17 @@ class FakeCounter:
         """The row of a bond in a month, at rates of 0.00 %."""
         age, price = months(month) - months(bond["issued"]), bond["denom"] * 50
         value = 0 if age < 0 else self.values.get(bond["serial"], price * (2 if age >= 240 else 1))
-        note = "NI" if age < 0 else "NE" if age < 12 else "P5" if age < 60 else "MA" if age >= 360 else ""
+        note = (
+            "NI"
+            if age < 0
+            else "NE"
+            if age < 12
+            else "P5"
+            if age < 60
+            else "MA"
+            if age >= 360
+            else ""
+        )
         is_earning = 0 <= age < 360
         return {
             "denom": bond["denom"],
@@ -305,12 +344,30 @@ class FakeCounter:
     def sheet(self, customer: int, month: str) -> str:
         """The sheet of a customer's unpaid bonds."""
         lines, totals = [HEADING], {"price": 0, "interest": 0, "value": 0}
-        for bond in sorted((bond for serial, bond in self.bonds.items() if bond["owner"] == customer and serial not in self.paid), key=by_serial):
+        for bond in sorted(
+            (
+                bond
+                for serial, bond in self.bonds.items()
+                if bond["owner"] == customer and serial not in self.paid
+            ),
+            key=by_serial,
+        ):
             row = self.row(bond, month)
             cells = {**row, "serial": bond["serial"], "series": "EE", "denom": str(row["denom"])}
-            lines.append(sheet_line({**cells, **{name: sheet_month(row[name]) for name in ("issued", "next", "final")}}))
+            lines.append(
+                sheet_line(
+                    {
+                        **cells,
+                        **{name: sheet_month(row[name]) for name in ("issued", "next", "final")},
+                    }
+                )
+            )
             totals = {name: cents + (cents_of(row[name]) or 0) for name, cents in totals.items()}
-        lines.append(sheet_line({"serial": "Total", **{name: printed(cents) for name, cents in totals.items()}}))
+        lines.append(
+            sheet_line(
+                {"serial": "Total", **{name: printed(cents) for name, cents in totals.items()}}
+            )
+        )
         return "\n".join(lines) + "\n"
 
 
@@ -321,7 +378,9 @@ ACTS: Dict[str, Callable[[FakeCounter, Json], Json]] = {
     "/day/close": FakeCounter.close_day,
     "/redeem": FakeCounter.redeem,
 }
-ROUTES = re.compile(r"/ticket/(?P<ticket>[^/]+)|/batch/(?P<day>[^/]+)|/inventory/(?P<customer>[^/]+)/(?P<month>[^/]+)|/value/(?P<denom>[^/]+)/(?P<issued>[^/]+)/(?P<of>[^/]+)")
+ROUTES = re.compile(
+    r"/ticket/(?P<ticket>[^/]+)|/batch/(?P<day>[^/]+)|/inventory/(?P<customer>[^/]+)/(?P<month>[^/]+)|/value/(?P<denom>[^/]+)/(?P<issued>[^/]+)/(?P<of>[^/]+)"
+)
 
 
 def counted(rows: List[Any], most: int) -> List[Any]:
@@ -390,7 +449,11 @@ FIELDS: Dict[str, Dict[str, Callable[[Any], Any]]] = {
     "/bonds": {"bonds": rows_in(bond_of)},
     "/day/open": {"day": day_of},
     "/day/close": {"day": day_of},
-    "/redeem": {"day": day_of, "payee": lambda value: number_in(value, 1, 999_999_999), "serials": rows_in(serial_of)},
+    "/redeem": {
+        "day": day_of,
+        "payee": lambda value: number_in(value, 1, 999_999_999),
+        "serials": rows_in(serial_of),
+    },
 }
 
 
@@ -404,7 +467,9 @@ def handler_of(fake: FakeCounter) -> Type[http.server.BaseHTTPRequestHandler]:
             body = self.rfile.read(int(self.headers.get("Content-Length") or 0))
             status, text = fake.answered(self.command, self.path, body)
             self.send_response_only(status)
-            self.send_header("Content-Type", "application/json" if text.startswith("{") else "text/plain")
+            self.send_header(
+                "Content-Type", "application/json" if text.startswith("{") else "text/plain"
+            )
             self.send_header("Content-Length", str(len(text.encode())))
             self.send_header("Connection", "close")
             self.end_headers()
