@@ -61,12 +61,24 @@ def in_own(kind: str, *options: str) -> None:
     """Run this script again in a namespace of its own of a kind that `unshare` knows: mount, net."""
     if os.environ.get("TEST_NAMESPACE") != kind:
         os.environ["TEST_NAMESPACE"] = kind
-        os.execvp("unshare", ["unshare", f"--{kind}", *options, sys.executable, os.path.abspath(sys.argv[0]), *sys.argv[1:]])
+        os.execvp(
+            "unshare",
+            [
+                "unshare",
+                f"--{kind}",
+                *options,
+                sys.executable,
+                os.path.abspath(sys.argv[0]),
+                *sys.argv[1:],
+            ],
+        )
 
 
 def run(*words: str | Path, **more: Any) -> subprocess.CompletedProcess[str]:
     """How a command ended, with both of its outputs in one text."""
-    return subprocess.run(words, stdout=subprocess.PIPE, stderr=subprocess.STDOUT, text=True, **more)
+    return subprocess.run(
+        words, stdout=subprocess.PIPE, stderr=subprocess.STDOUT, text=True, **more
+    )
 
 
 def done(*words: str | Path) -> str:
@@ -102,12 +114,28 @@ def replaced(text: str, changes: Iterable[tuple[str, str]]) -> str:
 
 def sql(store: str | Path, text: str) -> str:
     """What the command `sqlite3` prints."""
-    return subprocess.run(["sqlite3", store, text], stdout=subprocess.PIPE, stderr=subprocess.PIPE, text=True, check=True).stdout
+    return subprocess.run(
+        ["sqlite3", store, text],
+        stdout=subprocess.PIPE,
+        stderr=subprocess.PIPE,
+        text=True,
+        check=True,
+    ).stdout
 
 
 def make_version_one(store: str | Path, bonds: int, tickets: int, *words: str) -> None:
     """A store of version 1, as an earlier program would have made it."""
-    subprocess.run([os.path.join(TOP, "benchmarks/make_version_one.py"), store, str(bonds), str(tickets), *words], stdout=subprocess.DEVNULL, check=True)
+    subprocess.run(
+        [
+            os.path.join(TOP, "benchmarks/make_version_one.py"),
+            store,
+            str(bonds),
+            str(tickets),
+            *words,
+        ],
+        stdout=subprocess.DEVNULL,
+        check=True,
+    )
 
 
 def free_port() -> int:
@@ -119,11 +147,20 @@ def free_port() -> int:
 
 def post(path: str, value: object, headers: bytes = b"Connection: close\r\n") -> bytes:
     body = json.dumps(value, separators=(",", ":")).encode()
-    return b"POST %s HTTP/1.1\r\n%sContent-Length: %d\r\n\r\n%s" % (path.encode(), headers, len(body), body)
+    return b"POST %s HTTP/1.1\r\n%sContent-Length: %d\r\n\r\n%s" % (
+        path.encode(),
+        headers,
+        len(body),
+        body,
+    )
 
 
 def redeem(desk: int, number: int, day: str, payee: int, *serials: str) -> bytes:
-    return post("/redeem", {"desk": desk, "number": number, "day": day, "payee": payee, "serials": serials}, b"")
+    return post(
+        "/redeem",
+        {"desk": desk, "number": number, "day": day, "payee": payee, "serials": serials},
+        b"",
+    )
 
 
 def get(path: str, headers: bytes = b"Connection: close\r\n") -> bytes:
@@ -179,8 +216,15 @@ def answered(place: int | str, message: bytes, patience: float = 60) -> Answer:
     return answer
 
 
-def serve(program: str | Path, store: str | Path, port: int, before: Sequence[str] = ()) -> subprocess.Popen[str]:
-    return subprocess.Popen([*before, program, "serve", "--db", store, "--port", str(port)], stdout=subprocess.DEVNULL, stderr=subprocess.PIPE, text=True)
+def serve(
+    program: str | Path, store: str | Path, port: int, before: Sequence[str] = ()
+) -> subprocess.Popen[str]:
+    return subprocess.Popen(
+        [*before, program, "serve", "--db", store, "--port", str(port)],
+        stdout=subprocess.DEVNULL,
+        stderr=subprocess.PIPE,
+        text=True,
+    )
 
 
 def wait_for(port: int, seconds: int = 60) -> None:
@@ -204,15 +248,24 @@ def served(program: str | Path, store: str | Path) -> Iterator[int]:
         server.wait()
 
 
-def apply(program: str | Path, store: str | Path, messages: list[bytes], most: int = 900) -> list[Answer]:
+def apply(
+    program: str | Path, store: str | Path, messages: list[bytes], most: int = 900
+) -> list[Answer]:
     """The answers to these messages, by as many connections as it takes."""
     answers = []
     for first in range(0, len(messages), most):
         part = messages[first : first + most]
-        ran = subprocess.run([program, "apply", "--db", store], input=b"".join(part), stdout=subprocess.PIPE, stderr=subprocess.PIPE)
+        ran = subprocess.run(
+            [program, "apply", "--db", store],
+            input=b"".join(part),
+            stdout=subprocess.PIPE,
+            stderr=subprocess.PIPE,
+        )
         found = split_answers(ran.stdout)
         if len(found) != len(part):
-            sys.exit(f"WRONG: {len(found)} answers to {len(part)} messages, status {ran.returncode}, {ran.stderr.decode().strip()}")
+            sys.exit(
+                f"WRONG: {len(found)} answers to {len(part)} messages, status {ran.returncode}, {ran.stderr.decode().strip()}"
+            )
         answers += found
     return answers
 
@@ -247,13 +300,24 @@ def bond(turn: int) -> dict[str, Any]:
 
 def beginning(bonds: int) -> list[bytes]:
     """Messages that make a store with these rates and so many bonds of customer 7; desk 0."""
-    imports = [post("/bonds", {"number": 2 + first // 500, "bonds": [bond(turn) for turn in range(first, min(first + 500, bonds))]}, b"") for first in range(0, bonds, 500)]
+    imports = [
+        post(
+            "/bonds",
+            {
+                "number": 2 + first // 500,
+                "bonds": [bond(turn) for turn in range(first, min(first + 500, bonds))],
+            },
+            b"",
+        )
+        for first in range(0, bonds, 500)
+    ]
     return [post("/rates", {"number": 1, "rates": RATES}, b""), *imports]
 
 
 class Load:
     """Clients that redeem one bond after another, each at a desk of its own, and send each request again until it has its reply. What was acknowledged is kept, with the time when its reply
-    had come. Turn T is the redemption of bond T. The day is closed and the next opened after so many turns, while no redemption is under way."""
+    had come. Turn T is the redemption of bond T. The day is closed and the next opened after so many turns, while no redemption is under way.
+    """
 
     def __init__(self, ask_now: Callable[[bytes], Answer | None], bonds: int, clients: int) -> None:
         self.ask_now, self.bonds, self.clients = ask_now, bonds, clients
@@ -267,7 +331,10 @@ class Load:
 
     def start(self) -> None:
         self.is_over = False
-        self.threads = [threading.Thread(target=self.run, args=(desk,), daemon=True) for desk in range(1, self.clients + 1)]
+        self.threads = [
+            threading.Thread(target=self.run, args=(desk,), daemon=True)
+            for desk in range(1, self.clients + 1)
+        ]
         for thread in self.threads:
             thread.start()
 
@@ -285,7 +352,17 @@ class Load:
                 turn = self.take_turn()
                 if turn is None:
                     return
-                self.deliver(("redeem", turn), "/redeem", {"desk": desk, "number": turn + 1, "day": day_text(turn), "payee": 7, "serials": [bond(turn)["serial"]]})
+                self.deliver(
+                    ("redeem", turn),
+                    "/redeem",
+                    {
+                        "desk": desk,
+                        "number": turn + 1,
+                        "day": day_text(turn),
+                        "payee": 7,
+                        "serials": [bond(turn)["serial"]],
+                    },
+                )
                 with self.lock:
                     self.under_way -= 1
                     self.lock.notify_all()
@@ -312,8 +389,14 @@ class Load:
         try:
             self.lock.wait_for(lambda: self.under_way == 0 or self.wrong)
             if turn > 0:
-                self.deliver(("close", turn), "/day/close", {"number": 2_000_000 + turn, "day": day_text(turn - 1)})
-            self.deliver(("open", turn), "/day/open", {"number": 1_000_000 + turn, "day": day_text(turn)})
+                self.deliver(
+                    ("close", turn),
+                    "/day/close",
+                    {"number": 2_000_000 + turn, "day": day_text(turn - 1)},
+                )
+            self.deliver(
+                ("open", turn), "/day/open", {"number": 1_000_000 + turn, "day": day_text(turn)}
+            )
         finally:
             self.is_changing = False
             self.lock.notify_all()
@@ -349,7 +432,16 @@ def fault_of(name: Name, reply: str) -> str | None:
         wanted = batch_of(turn // DAY_TICKETS - 1, DAY_TICKETS)
     else:
         paid = KINDS[turn % 3][2]
-        wanted = '{"day":"%s","lines":[{"paid":"%s","serial":"%s"}],"payee":7,"ticket":%s,"total":"%s"}' % (day_text(turn), paid, bond(turn)["serial"], (re.search(r'"ticket":(\d+)', reply) or ["", "0"])[1], paid)
+        wanted = (
+            '{"day":"%s","lines":[{"paid":"%s","serial":"%s"}],"payee":7,"ticket":%s,"total":"%s"}'
+            % (
+                day_text(turn),
+                paid,
+                bond(turn)["serial"],
+                (re.search(r'"ticket":(\d+)', reply) or ["", "0"])[1],
+                paid,
+            )
+        )
     return None if reply == wanted else f"{name} was answered {reply}, and not {wanted}"
 
 
@@ -357,13 +449,21 @@ def batch_of(day: int, turns: int) -> str:
     """The batch of a day of which so many turns were taken."""
     first = day * DAY_TICKETS
     cents = sum(int(KINDS[turn % 3][2].replace(".", "")) for turn in range(first, first + turns))
-    return '{"bonds":%d,"day":"%s","tickets":%d,"total":"%d.%02d"}' % (turns, day_text(first), turns, cents // 100, cents % 100)
+    return '{"bonds":%d,"day":"%s","tickets":%d,"total":"%d.%02d"}' % (
+        turns,
+        day_text(first),
+        turns,
+        cents // 100,
+        cents % 100,
+    )
 
 
 def fault_of_books(store: str | Path, replies: dict[Name, str]) -> str | None:
     """Whether the books that SQLite reads have just these tickets, one for each bond; None where they do."""
     paid = {name[1]: reply for name, reply in replies.items() if name[0] == "redeem"}
-    told = sorted((int(matched(r'"ticket":(\d+)', reply)[1]), turn + 1) for turn, reply in paid.items())
+    told = sorted(
+        (int(matched(r'"ticket":(\d+)', reply)[1]), turn + 1) for turn, reply in paid.items()
+    )
     if rows(store, "PRAGMA integrity_check") != [("ok",)]:
         return "SQLite doesn't find the file whole"
     held = rows(store, "SELECT ticket, number FROM paid ORDER BY ticket")
@@ -380,4 +480,6 @@ def median(values: Sequence[float]) -> float:
 
 
 def milliseconds(values: Sequence[float]) -> str:
-    return f"{median(values) * 1000:.0f} milliseconds in the middle, {max(values) * 1000:.0f} at most"
+    return (
+        f"{median(values) * 1000:.0f} milliseconds in the middle, {max(values) * 1000:.0f} at most"
+    )

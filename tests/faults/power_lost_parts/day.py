@@ -6,9 +6,9 @@ import ctypes, os, platform, signal, socket, struct, subprocess, threading, time
 from random import Random
 from typing import Callable
 
-from counter_calls import free_port, matched, piped
-from hostile import desk, judging, talk
-from hostile.judging import Wrong
+from tests.shared.counter_calls import free_port, matched, piped
+from tests.shared.hostile import desk, judging, talk
+from tests.shared.hostile.judging import Wrong
 
 #: What a new process calls before it runs a program.
 Setup = Callable[[], None]

@@ -5,7 +5,7 @@ import subprocess, time
 import socket as sockets
 from typing import Any
 
-from counter_calls import free_port
+from ..counter_calls import free_port
 
 from . import desk, judging, spelling
 from .judging import Wrong
@@ -14,12 +14,24 @@ from .program import SECONDS, Program, Ran, read_counts
 
 def rates_rows(file: bytes) -> tuple[tuple[int | None, int | None, int | None], ...]:
     rows = [line.split(",") for line in file.decode().splitlines()[1:]]
-    return tuple((spelling.issue(begins), spelling.rate(rate), spelling.rate(rest[0] if rest and rest[0] else rate)) for begins, rate, *rest in rows)
+    return tuple(
+        (
+            spelling.issue(begins),
+            spelling.rate(rate),
+            spelling.rate(rest[0] if rest and rest[0] else rate),
+        )
+        for begins, rate, *rest in rows
+    )
 
 
-def bond_rows(file: bytes) -> tuple[tuple[spelling.Serial | None, int, int | None, int, int | None], ...]:
+def bond_rows(
+    file: bytes,
+) -> tuple[tuple[spelling.Serial | None, int, int | None, int, int | None], ...]:
     rows = [line.split(",") for line in file.decode().splitlines()[1:]]
-    return tuple((spelling.serial(s), int(d), spelling.issue(i), int(o), int(c) if c else None) for s, d, i, o, c in rows)
+    return tuple(
+        (spelling.serial(s), int(d), spelling.issue(i), int(o), int(c) if c else None)
+        for s, d, i, o, c in rows
+    )
 
 
 class Connection:
@@ -46,7 +58,9 @@ class Connection:
         """The books after a run that met nothing."""
         heard = judging.follow(many, self.messages, ran.told)
         if ran.status != 0 or ran.faults or not judging.is_ample(heard, self.messages):
-            raise Wrong(f"a run without a fault ended with {ran.status} {ran.faults!r} after {heard}")
+            raise Wrong(
+                f"a run without a fault ended with {ran.status} {ran.faults!r} after {heard}"
+            )
         return heard.books
 
 
@@ -60,7 +74,9 @@ class Served(Connection):
         words = [program.path, "serve", "--db", store, "--port", str(port), "--connections", "1"]
         counts = store + ".counts"
         environment = program.environment(store, **hostile)
-        process = subprocess.Popen(words, stdout=subprocess.PIPE, stderr=subprocess.PIPE, env=environment)
+        process = subprocess.Popen(
+            words, stdout=subprocess.PIPE, stderr=subprocess.PIPE, env=environment
+        )
         told = b""
         client = connected(process, port)
         if client:
@@ -103,10 +119,12 @@ class Import:
 
     def __init__(self, kind: str, path: str, file: bytes, number: int, asked_of: int = 0) -> None:
         self.kind, self.path, self.number, self.desk = kind, path, number, asked_of
-        self.act = (("rates", rates_rows(file)) if kind == "rates" else ("bonds", bond_rows(file)))
+        self.act = ("rates", rates_rows(file)) if kind == "rates" else ("bonds", bond_rows(file))
 
     def run(self, program: Program, store: str, **hostile: Any) -> Ran:
-        return program.enter(store, self.kind, self.path, self.number, self.desk, file=self.path, **hostile)
+        return program.enter(
+            store, self.kind, self.path, self.number, self.desk, file=self.path, **hostile
+        )
 
     def delivered(self, books: desk.Books) -> tuple[desk.Books, bytes, int]:
         after = books.copy()
@@ -131,7 +149,11 @@ class Import:
         raise Wrong(f"an import told {fault!r}")
 
     def replied(self, ran: Ran, many: list[desk.Books]) -> list[desk.Books]:
-        right = [after for after, told, status in map(self.delivered, many) if told == ran.told and ran.status in (status, 3)]
+        right = [
+            after
+            for after, told, status in map(self.delivered, many)
+            if told == ran.told and ran.status in (status, 3)
+        ]
         if not right:
             raise Wrong(f"an import ended with {ran.status}, {ran.told!r} {ran.faults!r}")
         return right
@@ -156,13 +178,25 @@ class Shown:
 
     def text(self, books: desk.Books) -> bytes:
         month = spelling.month(self.month) if self.month else None
-        return (books.export(self.customer) if month is None else books.ask_inventory(self.customer, month)).encode()
+        return (
+            books.export(self.customer)
+            if month is None
+            else books.ask_inventory(self.customer, month)
+        ).encode()
 
     def judge(self, ran: Ran, many: list[desk.Books]) -> list[desk.Books]:
-        if ran.status not in (0, 3) or (ran.status == 3 and ran.faults.strip() not in judging.FAULTS_TOLD) or (ran.status == 0 and ran.faults):
+        if (
+            ran.status not in (0, 3)
+            or (ran.status == 3 and ran.faults.strip() not in judging.FAULTS_TOLD)
+            or (ran.status == 0 and ran.faults)
+        ):
             raise Wrong(f"{self.name} ended with {ran.status} {ran.faults!r}")
         is_whole = ran.status == 0 or ran.faults.strip() == "store: NotWrittenBack"
-        right = [books for books in many if (self.text(books) == ran.told if is_whole else self.text(books).startswith(ran.told))]
+        right = [
+            books
+            for books in many
+            if (self.text(books) == ran.told if is_whole else self.text(books).startswith(ran.told))
+        ]
         if not right:
             raise Wrong(f"{self.name} told {ran.told!r} with {ran.status} {ran.faults!r}")
         return right

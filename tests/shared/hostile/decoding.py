@@ -15,7 +15,11 @@ GETS: dict[str, tuple[tuple[str, Callable[[str], object]], ...]] = {
     "inventory": (("customer", spelling.customer), ("month", spelling.month)),
     "ticket": (("ticket", spelling.ticket),),
     "batch": (("day", spelling.day),),
-    "value": (("denom", spelling.denomination), ("issued", spelling.issue), ("month", spelling.month)),
+    "value": (
+        ("denom", spelling.denomination),
+        ("issued", spelling.issue),
+        ("month", spelling.month),
+    ),
 }
 NAMES = {64: "BadJson", 65: "BadField", 66: "NoRoute", 67: "BadMethod"}
 
@@ -59,7 +63,9 @@ def field(members: Members, name: str, kind: Callable[[object], T | None]) -> T:
     return found
 
 
-def optional(members: Members, name: str, kind: Callable[[object], T | None], other: T | None = None) -> T | None:
+def optional(
+    members: Members, name: str, kind: Callable[[object], T | None], other: T | None = None
+) -> T | None:
     return other if members.get(name) is None else field(members, name, kind)
 
 
@@ -75,7 +81,10 @@ def only(members: Members, names: Sequence[str]) -> None:
 
 
 def rows_in(members: Members, name: str, row: Callable[[object], T]) -> tuple[T, ...]:
-    return tuple(row(value) for value in field(members, name, lambda value: value if isinstance(value, list) else None))
+    return tuple(
+        row(value)
+        for value in field(members, name, lambda value: value if isinstance(value, list) else None)
+    )
 
 
 def rate_row(value: object) -> tuple[int, int, int | None]:
@@ -115,7 +124,11 @@ def act_in(path: str, members: Members) -> tuple[tuple[Any, ...], tuple[str, ...
     if path != "/redeem":
         return (path.removeprefix("/day/"), day), ("day",)
     payee = field(members, "payee", customer)
-    return ("redeem", day, payee, rows_in(members, "serials", serial_row)), ("day", "payee", "serials")
+    return ("redeem", day, payee, rows_in(members, "serials", serial_row)), (
+        "day",
+        "payee",
+        "serials",
+    )
 
 
 def posted(path: str, body: bytes) -> tuple[Any, ...]:
@@ -148,7 +161,12 @@ def call(message: framing.Message) -> tuple[Any, ...]:
             raise Fault(67, None)
         return posted(path, message.body)
     name, *parts = path[1:].split("/")
-    if not re.match("/", path) or name not in GETS or len(parts) != len(GETS[name]) or not all(parts):
+    if (
+        not re.match("/", path)
+        or name not in GETS
+        or len(parts) != len(GETS[name])
+        or not all(parts)
+    ):
         raise Fault(66, None)
     if message.method != b"GET":
         raise Fault(67, None)

@@ -5,7 +5,7 @@ from __future__ import annotations
 import copy, json
 from typing import Any, Iterable, Mapping, Sequence, TypedDict
 
-import exact
+from .. import exact
 
 from . import spelling
 
@@ -33,13 +33,51 @@ class Ticket(TypedDict):
 
 MOST_ROWS, MOST_SERIALS, MOST_TICKETS = 500, 100, 1_000
 NAMES = {
-    10: "NumberReused", 11: "Empty", 12: "TooMany", 13: "Repeated", 14: "SameCoowner", 20: "NotAnnouncementMonth", 21: "RateConflict", 30: "NoRate",
-    31: "SerialConflict", 40: "DayOpen", 41: "DayNotLater", 42: "NoOpenDay", 43: "DayIsOther", 44: "DayFull", 50: "UnknownSerial", 51: "NotPayee",
-    52: "AlreadyPaid", 53: "NotIssued", 54: "NotEligible",
+    10: "NumberReused",
+    11: "Empty",
+    12: "TooMany",
+    13: "Repeated",
+    14: "SameCoowner",
+    20: "NotAnnouncementMonth",
+    21: "RateConflict",
+    30: "NoRate",
+    31: "SerialConflict",
+    40: "DayOpen",
+    41: "DayNotLater",
+    42: "NoOpenDay",
+    43: "DayIsOther",
+    44: "DayFull",
+    50: "UnknownSerial",
+    51: "NotPayee",
+    52: "AlreadyPaid",
+    53: "NotIssued",
+    54: "NotEligible",
 }
 NOTES = {exact.PLAIN: "", exact.NI: "NI", exact.NE: "NE", exact.P5: "P5", exact.MA: "MA"}
-COLUMNS = ((13, "<"), (6, "<"), (6, ">"), (7, "<"), (7, "<"), (7, "<"), (12, ">"), (14, ">"), (6, ">"), (14, ">"))
-HEADINGS = ("Serial", "Series", "Denom", "Issued", "Next", "Final", "Price", "Interest", "Rate", "Value")
+COLUMNS = (
+    (13, "<"),
+    (6, "<"),
+    (6, ">"),
+    (7, "<"),
+    (7, "<"),
+    (7, "<"),
+    (12, ">"),
+    (14, ">"),
+    (6, ">"),
+    (14, ">"),
+)
+HEADINGS = (
+    "Serial",
+    "Series",
+    "Denom",
+    "Issued",
+    "Next",
+    "Final",
+    "Price",
+    "Interest",
+    "Rate",
+    "Value",
+)
 
 
 class Refused(Exception):
@@ -217,10 +255,17 @@ class Books:
         return None if terms is None else row_told(columns(dollars, issued, month, terms))
 
     def unpaid(self, owner: int) -> list[tuple[spelling.Serial, int, int, int, int | None]]:
-        return sorted((serial, *bond) for serial, bond in self.bonds.items() if bond[2] == owner and serial not in self.paid_on)
+        return sorted(
+            (serial, *bond)
+            for serial, bond in self.bonds.items()
+            if bond[2] == owner and serial not in self.paid_on
+        )
 
     def ask_inventory(self, owner: int, month: int) -> str:
-        rows = [(serial, columns(dollars, issued, month, self.rates[period(issued)])) for serial, dollars, issued, *_ in self.unpaid(owner)]
+        rows = [
+            (serial, columns(dollars, issued, month, self.rates[period(issued)]))
+            for serial, dollars, issued, *_ in self.unpaid(owner)
+        ]
         return sheet(rows)
 
     def export(self, owner: int) -> str:
@@ -235,13 +280,27 @@ def refusal(refused: Refused) -> Reply:
 
 
 def ticket_told(ticket: Ticket) -> Reply:
-    lines = [{"serial": spelling.serial_text(serial), "paid": spelling.money(cents)} for serial, cents in ticket["lines"]]
+    lines = [
+        {"serial": spelling.serial_text(serial), "paid": spelling.money(cents)}
+        for serial, cents in ticket["lines"]
+    ]
     total = spelling.money(sum(cents for _, cents in ticket["lines"]))
-    return {"ticket": ticket["ticket"], "day": spelling.day_text(ticket["day"]), "payee": ticket["payee"], "lines": lines, "total": total}
+    return {
+        "ticket": ticket["ticket"],
+        "day": spelling.day_text(ticket["day"]),
+        "payee": ticket["payee"],
+        "lines": lines,
+        "total": total,
+    }
 
 
 def batch_told(day: int, batch: tuple[int, int, int]) -> Reply:
-    return {"day": spelling.day_text(day), "tickets": batch[0], "bonds": batch[1], "total": spelling.money(batch[2])}
+    return {
+        "day": spelling.day_text(day),
+        "tickets": batch[0],
+        "bonds": batch[1],
+        "total": spelling.money(batch[2]),
+    }
 
 
 def columns(dollars: int, issued: int, month: int, terms: Terms) -> Columns:
@@ -250,15 +309,31 @@ def columns(dollars: int, issued: int, month: int, terms: Terms) -> Columns:
     age = month - issued
     is_earning, is_issued = 0 <= age < 360, age >= 0
     return {
-        "denom": dollars, "issued": issued, "next": month + 1 if is_earning else None, "final": issued + 360 if is_issued else None, "price": price,
-        "interest": interest, "rate": terms[0 if age < 240 else 1] if is_earning else None, "value": value, "note": NOTES[note],
+        "denom": dollars,
+        "issued": issued,
+        "next": month + 1 if is_earning else None,
+        "final": issued + 360 if is_issued else None,
+        "price": price,
+        "interest": interest,
+        "rate": terms[0 if age < 240 else 1] if is_earning else None,
+        "value": value,
+        "note": NOTES[note],
     }
 
 
 def row_told(row: Columns) -> dict[str, object]:
-    months = {name: "" if row[name] is None else spelling.month_text(row[name]) for name in ("issued", "next", "final")}
+    months = {
+        name: "" if row[name] is None else spelling.month_text(row[name])
+        for name in ("issued", "next", "final")
+    }
     sums = {name: spelling.money(row[name]) for name in ("price", "interest", "value")}
-    return {"denom": row["denom"], "note": row["note"], "rate": "" if row["rate"] is None else spelling.rate_text(row["rate"]), **months, **sums}
+    return {
+        "denom": row["denom"],
+        "note": row["note"],
+        "rate": "" if row["rate"] is None else spelling.rate_text(row["rate"]),
+        **months,
+        **sums,
+    }
 
 
 def sheet_line(cells: Sequence[str], note: str) -> str:
@@ -269,10 +344,24 @@ def sheet_line(cells: Sequence[str], note: str) -> str:
 def sheet(rows: Sequence[tuple[spelling.Serial, Columns]]) -> str:
     text, totals = sheet_line(HEADINGS, "Note"), {"price": 0, "interest": 0, "value": 0}
     for serial, row in rows:
-        months = ["" if row[name] is None else spelling.sheet_month_text(row[name]) for name in ("issued", "next", "final")]
+        months = [
+            "" if row[name] is None else spelling.sheet_month_text(row[name])
+            for name in ("issued", "next", "final")
+        ]
         rate = "" if row["rate"] is None else spelling.rate_text(row["rate"])
         sums = [spelling.money(row[name]) for name in ("price", "interest", "value")]
-        text += sheet_line([spelling.serial_text(serial), "EE", str(row["denom"]), *months, *sums[:2], rate, sums[2]], row["note"])
+        text += sheet_line(
+            [
+                spelling.serial_text(serial),
+                "EE",
+                str(row["denom"]),
+                *months,
+                *sums[:2],
+                rate,
+                sums[2],
+            ],
+            row["note"],
+        )
         for name in totals:
             totals[name] += row[name]
     sums = [spelling.money(totals[name]) for name in ("price", "interest", "value")]
@@ -291,7 +380,13 @@ def rate_named(row: tuple[int, int, int]) -> dict[str, object]:
 def bond_named(row: tuple[spelling.Serial, int, int, int, int | None]) -> dict[str, object]:
     serial, dollars, issued, owner, coowner = row
     named = {} if coowner is None else {"coowner": coowner}
-    return {"serial": spelling.serial_text(serial), "denom": dollars, "issued": spelling.month_text(issued), "owner": owner, **named}
+    return {
+        "serial": spelling.serial_text(serial),
+        "denom": dollars,
+        "issued": spelling.month_text(issued),
+        "owner": owner,
+        **named,
+    }
 
 
 def act_named(act: Act) -> dict[str, object]:
@@ -304,20 +399,44 @@ def act_named(act: Act) -> dict[str, object]:
     if name != "redeem":
         return {"act": name, "day": spelling.day_text(parts[0])}
     day, payee, serials = parts
-    return {"act": name, "day": spelling.day_text(day), "payee": payee, "serials": [spelling.serial_text(serial) for serial in serials]}
+    return {
+        "act": name,
+        "day": spelling.day_text(day),
+        "payee": payee,
+        "serials": [spelling.serial_text(serial) for serial in serials],
+    }
 
 
 def rows_of(books: Books) -> Rows:
     """The rows of each table of version 2, in order of key."""
     first = spelling.FIRST_MONTH
-    total = {ticket["ticket"]: sum(cents for _, cents in ticket["lines"]) for ticket in books.tickets}
+    total = {
+        ticket["ticket"]: sum(cents for _, cents in ticket["lines"]) for ticket in books.tickets
+    }
     return {
         "desk": [(1, 2, books.day, books.last_day)],
         "rates": [(begins - first, terms[0]) for begins, terms in sorted(books.rates.items())],
-        "extensions": [(begins - first, terms[1]) for begins, terms in sorted(books.rates.items()) if terms[0] != terms[1]],
-        "bonds": [(*serial, bond[0], bond[1] - first, *bond[2:], books.paid_on.get(serial)) for serial, bond in sorted(books.bonds.items())],
-        "tickets": [(t["ticket"], t["day"], t["payee"], len(t["lines"]), total[t["ticket"]]) for t in books.tickets],
-        "paid": [(t["ticket"], place, *serial, cents) for t in books.tickets for place, (serial, cents) in enumerate(t["lines"], 1)],
+        "extensions": [
+            (begins - first, terms[1])
+            for begins, terms in sorted(books.rates.items())
+            if terms[0] != terms[1]
+        ],
+        "bonds": [
+            (*serial, bond[0], bond[1] - first, *bond[2:], books.paid_on.get(serial))
+            for serial, bond in sorted(books.bonds.items())
+        ],
+        "tickets": [
+            (t["ticket"], t["day"], t["payee"], len(t["lines"]), total[t["ticket"]])
+            for t in books.tickets
+        ],
+        "paid": [
+            (t["ticket"], place, *serial, cents)
+            for t in books.tickets
+            for place, (serial, cents) in enumerate(t["lines"], 1)
+        ],
         "batches": [(day, *batch) for day, batch in sorted(books.batches.items())],
-        "answers": [(*key, compact(act_named(act)), compact(reply)) for key, (act, reply) in sorted(books.kept.items())],
+        "answers": [
+            (*key, compact(act_named(act)), compact(reply))
+            for key, (act, reply) in sorted(books.kept.items())
+        ],
     }

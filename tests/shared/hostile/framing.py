@@ -84,7 +84,9 @@ def message_at(stream: bytes, begun: int) -> tuple[Message, int]:
     length = body_length(fields)
     if len(stream) - at < length:
         raise Fault(68)
-    closes = request[3] == b"0" or any(value.lower() == b"close" for value in values(fields, b"connection"))
+    closes = request[3] == b"0" or any(
+        value.lower() == b"close" for value in values(fields, b"connection")
+    )
     return Message(request[1], request[2], stream[at : at + length], closes), at + length
 
 

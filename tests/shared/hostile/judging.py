@@ -53,7 +53,9 @@ def delivered(books: desk.Books, message: framing.Message) -> tuple[desk.Books, 
     return after, counter.answer(after, message)
 
 
-def step(many: list[desk.Books], message: framing.Message, told: bytes, at: int) -> tuple[list[desk.Books], int]:
+def step(
+    many: list[desk.Books], message: framing.Message, told: bytes, at: int
+) -> tuple[list[desk.Books], int]:
     """The books that may stand after the next answer, and its length: right at some of the books, or 503."""
     found, length = [], 0
     for books in many:
@@ -64,18 +66,27 @@ def step(many: list[desk.Books], message: framing.Message, told: bytes, at: int)
     return distinct(found) if len(found) > 1 else found, length
 
 
-def unserved(many: list[desk.Books], message: framing.Message, told: bytes, at: int) -> tuple[str | None, list[desk.Books], int]:
+def unserved(
+    many: list[desk.Books], message: framing.Message, told: bytes, at: int
+) -> tuple[str | None, list[desk.Books], int]:
     """The same where the next answer is a 503: which, and the books. A request that met a failed store may stand."""
     if told.startswith(counter.NO_MEMORY, at):
         return "no_memory", many, len(counter.NO_MEMORY)
     if told.startswith(counter.STORE_FAILED, at):
-        return "store_failed", distinct(many + [delivered(books, message)[0] for books in many]), len(counter.STORE_FAILED)
+        return (
+            "store_failed",
+            distinct(many + [delivered(books, message)[0] for books in many]),
+            len(counter.STORE_FAILED),
+        )
     return None, many, 0
 
 
 def is_front(many: list[desk.Books], message: framing.Message, rest: bytes) -> bool:
     """Whether what is left is a front of the next answer, and not all of it."""
-    rights = [delivered(books, message)[1] for books in many] + [counter.NO_MEMORY, counter.STORE_FAILED]
+    rights = [delivered(books, message)[1] for books in many] + [
+        counter.NO_MEMORY,
+        counter.STORE_FAILED,
+    ]
     return any(right.startswith(rest) and len(rest) < len(right) for right in rights)
 
 
@@ -88,9 +99,13 @@ def follow(many: Iterable[desk.Books], messages: list[framing.Message], told: by
             word, found, length = unserved(heard.books, message, told, at)
             if word is None:
                 if not is_front(heard.books, message, told[at:]):
-                    raise Wrong(f"answer {heard.answered + 1} is {told[at:][:600]!r}, and not {delivered(heard.books[0], message)[1][:600]!r}")
+                    raise Wrong(
+                        f"answer {heard.answered + 1} is {told[at:][:600]!r}, and not {delivered(heard.books[0], message)[1][:600]!r}"
+                    )
                 heard.is_cut = True
-                heard.books = distinct(heard.books + [delivered(books, message)[0] for books in heard.books])
+                heard.books = distinct(
+                    heard.books + [delivered(books, message)[0] for books in heard.books]
+                )
                 return heard
             setattr(heard, word, getattr(heard, word) + 1)
         heard.books = found
@@ -115,8 +130,12 @@ def ended_rightly(ran: Ran, heard: Heard, messages: list[framing.Message]) -> No
     if ran.status != 3 or fault not in FAULTS_TOLD:
         raise Wrong(f"status {ran.status}, told {fault!r}")
     if (fault == "store: StoreFailed") != (heard.store_failed > 0):
-        raise Wrong(f"{fault!r} after {heard.store_failed} answers that the store failed, and {heard.answered} in all")
-    if fault == "store: NotWrittenBack" and not (heard.answered == len(messages) and heard.store_failed == 0):
+        raise Wrong(
+            f"{fault!r} after {heard.store_failed} answers that the store failed, and {heard.answered} in all"
+        )
+    if fault == "store: NotWrittenBack" and not (
+        heard.answered == len(messages) and heard.store_failed == 0
+    ):
         raise Wrong(f"{fault!r} after {heard}")
 
 
@@ -124,7 +143,9 @@ def shows_books(many: list[desk.Books], found_rows: store.Rows, what: str) -> li
     """The books whose rows the store has, of those that may stand."""
     right = [books for books in many if desk.rows_of(books) == found_rows]
     if not right:
-        raise Wrong(f"{what}: no books that may stand have these rows; {store.difference(found_rows, desk.rows_of(many[-1]))}")
+        raise Wrong(
+            f"{what}: no books that may stand have these rows; {store.difference(found_rows, desk.rows_of(many[-1]))}"
+        )
     return right
 
 

@@ -8,7 +8,19 @@ T = TypeVar("T")
 R = TypeVar("R", bound=tuple[Any, ...])
 
 HERE = os.path.dirname(os.path.abspath(__file__))
-KINDS = ("open", "read", "write", "truncate", "sync", "stat", "lock", "advise", "own", "hear", "tell")
+KINDS = (
+    "open",
+    "read",
+    "write",
+    "truncate",
+    "sync",
+    "stat",
+    "lock",
+    "advise",
+    "own",
+    "hear",
+    "tell",
+)
 COUNTS = (*KINDS, "met", "asked", "refused", "told_before", "told")
 SECONDS = 120
 
@@ -26,7 +38,21 @@ def remove(folder: str) -> None:
 def build_shim(folder: str) -> str:
     """Compile the shim into a folder."""
     made = os.path.join(folder, "shim.so")
-    compiled = subprocess.run(["cc", "-O1", "-Wall", "-Wextra", "-shared", "-fPIC", "-o", made, os.path.join(HERE, "shim.c")], capture_output=True, text=True)
+    compiled = subprocess.run(
+        [
+            "cc",
+            "-O1",
+            "-Wall",
+            "-Wextra",
+            "-shared",
+            "-fPIC",
+            "-o",
+            made,
+            os.path.join(HERE, "shim.c"),
+        ],
+        capture_output=True,
+        text=True,
+    )
     if compiled.returncode or compiled.stderr:
         sys.exit(f"the shim can't be compiled:\n{compiled.stderr}")
     return made
@@ -70,30 +96,67 @@ class Program:
         os.mkdir(folder)
         return os.path.join(folder, "day.db")
 
-    def environment(self, store: str, fault: str | None = None, refuse: str | None = None, record: str | None = None, plant: str | None = None, file: str | None = None) -> dict[str, str]:
-        wanted = {"LD_PRELOAD": self.shim, "HOSTILE_STORE": store, "HOSTILE_COUNTS": store + ".counts"}
-        given = {"HOSTILE_FAULT": fault, "HOSTILE_REFUSE": refuse, "HOSTILE_RECORD": record, "HOSTILE_PLANT": plant, "HOSTILE_FILE": file}
+    def environment(
+        self,
+        store: str,
+        fault: str | None = None,
+        refuse: str | None = None,
+        record: str | None = None,
+        plant: str | None = None,
+        file: str | None = None,
+    ) -> dict[str, str]:
+        wanted = {
+            "LD_PRELOAD": self.shim,
+            "HOSTILE_STORE": store,
+            "HOSTILE_COUNTS": store + ".counts",
+        }
+        given = {
+            "HOSTILE_FAULT": fault,
+            "HOSTILE_REFUSE": refuse,
+            "HOSTILE_RECORD": record,
+            "HOSTILE_PLANT": plant,
+            "HOSTILE_FILE": file,
+        }
         for name, value in given.items():
             if value:
                 wanted[name] = value
         return wanted
 
-    def run(self, store: str, words: Sequence[str], stream: bytes = b"", shimmed: bool = True, limit: Callable[[], None] | None = None, **hostile: Any) -> Ran:
+    def run(
+        self,
+        store: str,
+        words: Sequence[str],
+        stream: bytes = b"",
+        shimmed: bool = True,
+        limit: Callable[[], None] | None = None,
+        **hostile: Any,
+    ) -> Ran:
         """Run a command whose words are given, over a store, on an input; `limit` is called in the new process."""
         counts = store + ".counts"
         if os.path.exists(counts):
             os.remove(counts)
         environment = self.environment(store, **hostile) if shimmed else {}
         try:
-            ran = subprocess.run([self.path, *words], input=stream, capture_output=True, timeout=SECONDS, env=environment, preexec_fn=limit)
+            ran = subprocess.run(
+                [self.path, *words],
+                input=stream,
+                capture_output=True,
+                timeout=SECONDS,
+                env=environment,
+                preexec_fn=limit,
+            )
         except subprocess.TimeoutExpired:
             return Ran(-99, b"", f"didn't end within {SECONDS} seconds", read_counts(counts))
-        return Ran(ran.returncode, ran.stdout, ran.stderr.decode(errors="replace"), read_counts(counts))
+        return Ran(
+            ran.returncode, ran.stdout, ran.stderr.decode(errors="replace"), read_counts(counts)
+        )
 
     def apply(self, store: str, stream: bytes, **hostile: Any) -> Ran:
         return self.run(store, ["apply", "--db", store], stream, **hostile)
 
-    def enter(self, store: str, kind: str, path: str, number: int, desk: int = 0, **hostile: Any) -> Ran:
+    def enter(
+        self, store: str, kind: str, path: str, number: int, desk: int = 0, **hostile: Any
+    ) -> Ran:
         words = ["import", kind, path, "--db", store, "--number", str(number)]
         return self.run(store, words + (["--desk", str(desk)] if desk else []), **hostile)
 

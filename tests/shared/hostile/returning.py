@@ -22,7 +22,14 @@ def shows_ample(scene: Scene, ran: Ran, path: str) -> None:
     judging.shows_books(many, store.rows(path), "after a run that met nothing")
 
 
-def come_back(program: Program, scene: Scene, path: str, many: list[desk.Books], is_at_rest: bool, forgets: bool = False) -> None:
+def come_back(
+    program: Program,
+    scene: Scene,
+    path: str,
+    many: list[desk.Books],
+    is_at_rest: bool,
+    forgets: bool = False,
+) -> None:
     """What the store has, and then the same requests again. One that isn't at rest is brought to it by another command; `forgets` loses the log before that."""
     if forgets and os.path.exists(store.log_of(path)):
         os.remove(store.log_of(path))

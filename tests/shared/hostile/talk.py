@@ -5,10 +5,18 @@ from __future__ import annotations
 import os, re
 from typing import Any, Iterator
 
-from counter_calls import TOP
+from ..counter_calls import TOP
 
 SOURCES = os.path.join(TOP, "crates", "store_tests", "src")
-REASONS = {200: "OK", 400: "Bad Request", 404: "Not Found", 405: "Method Not Allowed", 409: "Conflict", 413: "Content Too Large", 503: "Service Unavailable"}
+REASONS = {
+    200: "OK",
+    400: "Bad Request",
+    404: "Not Found",
+    405: "Method Not Allowed",
+    409: "Conflict",
+    413: "Content Too Large",
+    503: "Service Unavailable",
+}
 
 
 def source_of(name: str) -> str:
@@ -25,7 +33,9 @@ def texts(constant: str) -> dict[str, Any]:
     """The constant texts of the source file that has this one, by name: a text, or a list of texts."""
     text = source_of(constant)
     found = {}
-    for name, listed, value in re.findall(r'const (\w+): (\[&str; \d+\]|&str) =\s*(.*?);\n(?=\n|\Z|/)', text, re.S):
+    for name, listed, value in re.findall(
+        r"const (\w+): (\[&str; \d+\]|&str) =\s*(.*?);\n(?=\n|\Z|/)", text, re.S
+    ):
         raw = re.findall(r'r#"(.*?)"#', value, re.S)
         plain = re.findall(r'^"\\\n(.*?)"$|^"(.*)"$', value, re.S)
         if listed.startswith("["):
@@ -46,7 +56,13 @@ def written_out(line: str) -> str:
     """The line with its list or its items written out."""
     listed = re.search(r"\[\*(\d+) (.*?)\*\]", line)
     if listed:
-        return line[: listed.start()] + "[" + items(int(listed[1]), listed[2], ",") + "]" + line[listed.end() :]
+        return (
+            line[: listed.start()]
+            + "["
+            + items(int(listed[1]), listed[2], ",")
+            + "]"
+            + line[listed.end() :]
+        )
     placed = re.search(r"\(\*(\d+) (.*?)\*\)", line)
     if placed:
         return line[: placed.start()] + items(int(placed[1]), placed[2], "") + line[placed.end() :]
@@ -63,7 +79,10 @@ def message(line: str) -> bytes:
 def answer(status: int, body: bytes, closes: bool = False, kind: str = "application/json") -> bytes:
     """The bytes of an answer."""
     end = "Connection: close\r\n" if closes else ""
-    return f"HTTP/1.1 {status} {REASONS[status]}\r\nContent-Type: {kind}\r\nContent-Length: {len(body)}\r\n{end}\r\n".encode() + body
+    return (
+        f"HTTP/1.1 {status} {REASONS[status]}\r\nContent-Type: {kind}\r\nContent-Length: {len(body)}\r\n{end}\r\n".encode()
+        + body
+    )
 
 
 def answer_told(text: str) -> bytes:
@@ -97,7 +116,9 @@ def exchanges(transcript: str) -> list[tuple[bytes, bytes]]:
         while len(told) > 1 and told[-1] == "":
             told.pop()
         body = "\n".join(told)
-        found.append((message(does[2:]), answer_told(body + "\n" if body.startswith("200 Serial") else body)))
+        found.append(
+            (message(does[2:]), answer_told(body + "\n" if body.startswith("200 Serial") else body))
+        )
     return found
 
 
