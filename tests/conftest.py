@@ -22,7 +22,14 @@ COMMANDS = {
     "machine": {"debootstrap": "debootstrap", "unshare": "util-linux"},
 }
 #: The commands that a test names itself: pytest.mark.needs("strace", "module:selenium").
-PACKAGES = {"cc": "gcc and libc6-dev", "mkfs.btrfs": "btrfs-progs", "mkfs.xfs": "xfsprogs"}
+PACKAGES = {
+    "cc": "gcc and libc6-dev",
+    "mkfs.btrfs": "btrfs-progs",
+    "mkfs.xfs": "xfsprogs",
+    "certutil": "libnss3-tools",
+    "pdftotext": "poppler-utils",
+    "Xvfb": "xvfb",
+}
 
 
 def missing(item: pytest.Item) -> list[str]:

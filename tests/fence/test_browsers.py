@@ -6,33 +6,29 @@ import os
 import re
 import shutil
 import subprocess
-import sys
 import threading
 from pathlib import Path
 from typing import Iterator
 
 import pytest
 
+from tests.conftest import TOP
 from tests.fence.conftest import MakeSite, blocks
 from tests.fence.site import Site
 from tests.fence.staff import Staff
 
-pytestmark = [pytest.mark.browser, pytest.mark.nginx, pytest.mark.slow]
-for needed in ("chromium", "chromedriver", "firefox-esr", "certutil", "Xvfb", "xdotool"):
-    if shutil.which(needed) is None:
-        pytest.skip(f"{needed} is missing", allow_module_level=True)
 pytest.importorskip("selenium")
+from tests.browser.engines import Chromium, Firefox
+from tests.browser.marionette import Firefox as Marionette
+from tests.browser.page import Page
+from selenium.webdriver.chrome.service import Service
 
-TOP = Path(__file__).resolve().parents[2]
-sys.path.insert(0, str(TOP / "tests/clients/teller_page_parts"))
-
-from selenium.webdriver.chrome.service import Service  # noqa: E402
-
-from bank import Quits  # noqa: E402
-from browser import Page  # noqa: E402
-from engines import Chromium, Firefox  # noqa: E402
-from marionette import Firefox as Marionette  # noqa: E402
-
+pytestmark = [
+    pytest.mark.browser,
+    pytest.mark.nginx,
+    pytest.mark.slow,
+    pytest.mark.needs("certutil", "Xvfb", "xdotool"),
+]
 GROUPS = {"anna": "teller", "bert": "supervisor"}
 DAY = "2012-02-06"
 REFUSED = "No certificate of the staff was sent, or it has ended or was revoked."
@@ -60,10 +56,7 @@ class Desk:
         # As after Firefox's first start.
         made = ["certutil", "-d", f"sql:{self.profile}", "-N", "--empty-password"]
         subprocess.run(made, check=True)
-        # What a Place of the page's tests has besides.
-        self.pages: list[Quits] = []
-        self.pictures: str | None = None
-        self.certificate = self.home
+        self.pages: list[Page] = []
 
     def within(self) -> list[str]:
         return [*WITHIN, START, str(self.etc)]
@@ -81,10 +74,12 @@ class Desk:
 
     def page(self, browser: str, display: str | None = None) -> Page:
         """The browser on the page. Without a display it has no window, and waits for the page; with one it may ask the teller."""
-        Page.browser = browser
         kinds: dict[str, type[OwnChromium] | type[OwnFirefox]]
         kinds = {"chromium": OwnChromium, "firefox": OwnFirefox}
-        return Page(self, profile=str(self.home), engine=kinds[browser](self, display))
+        url = f"https://{self.site.name}:{self.port}/teller/"
+        engine = kinds[browser](self, display)
+        self.pages.append(Page(browser, url, self.folder, profile=self.home, engine=engine))
+        return self.pages[-1]
 
 
 SIZE = (1100, 820)
@@ -102,7 +97,7 @@ class OwnChromium(Chromium):
         way, strategy = (
             ("--headless=new", "normal") if display is None else ("--no-first-run", "none")
         )
-        self.begin(f"{desk.home}/chromium", SIZE, service, False, strategy, [way])
+        self.begin(desk.home / "chromium", SIZE, service, False, strategy, [way])
 
 
 class OwnFirefox(Firefox):
@@ -146,8 +141,7 @@ def desk(site: MakeSite, folder: Path) -> Iterator[Desk]:
 def pays(desk: Desk, page: Page, serial: str, ticket: int) -> None:
     page.choose_desk(5)
     page.waits_for("Teller anna", "#user")
-    page.join_day(DAY)
-    page.waits_for("This desk joined")
+    page.joins(DAY)
     page.show_sheet(7)
     page.choose(serial)
     page.pay()
@@ -159,7 +153,7 @@ def pays(desk: Desk, page: Page, serial: str, ticket: int) -> None:
 
 def pictured(page: Page, name: str) -> None:
     if PICTURES is not None:
-        page.driver.save_screenshot(f"{PICTURES}/{name}-{page.browser}.png")
+        page.driver.save_screenshot(f"{PICTURES}/{name}-{page.name}.png")
 
 
 @pytest.mark.parametrize("browser", ["chromium", "firefox"])

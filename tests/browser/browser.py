@@ -1,0 +1,234 @@
+"""A page in a browser, as a person sees it and a keyboard works it."""
+
+from __future__ import annotations
+
+import tempfile
+import time
+from pathlib import Path
+from typing import Any, Callable
+
+from selenium.common.exceptions import (
+    StaleElementReferenceException,
+    TimeoutException,
+    WebDriverException,
+)
+from selenium.webdriver.common.action_chains import ActionChains
+from selenium.webdriver.common.by import By
+from selenium.webdriver.common.keys import Keys as Keys
+from selenium.webdriver.remote.webelement import WebElement
+from selenium.webdriver.support.ui import WebDriverWait
+
+from tests.browser.engines import ENGINES, Engine, Size
+
+PATIENCE = 60
+MONTHS = "Jan Feb Mar Apr May Jun Jul Aug Sep Oct Nov Dec".split()
+#: Runs a script that may await, and gives back what it returned.
+AWAITING = """
+    const done = arguments[arguments.length - 1];
+    (async (...given) => {%s})(...arguments).then(done, (error) => done("ERROR " + error));
+"""
+
+
+class Browser:
+    """A browser of its own, with storage of its own; the same `profile` again is the same browser started again. `engine` is one that runs already."""
+
+    def __init__(
+        self,
+        name: str,
+        url: str,
+        folder: Path,
+        *,
+        profile: Path | None = None,
+        size: Size = (1100, 820),
+        certificate: Path | None = None,
+        engine: Engine | None = None,
+    ) -> None:
+        self.name, self.url, self.patience = name, url, float(PATIENCE)
+        self.profile = profile or Path(tempfile.mkdtemp(prefix="profile.", dir=folder))
+        self.engine = engine or ENGINES[name](self.profile, size, certificate)
+        self.driver = self.engine.driver
+        self.open(url)
+
+    def quit(self) -> None:
+        self.engine.quit()
+
+    # ---- what is loaded
+
+    def open(self, url: str) -> None:
+        self.load(lambda: self.driver.get(url))
+
+    def reload(self) -> None:
+        self.load(self.driver.refresh)
+
+    def load(self, action: Callable[[], Any]) -> None:
+        """Once more if the machine's network was changed meanwhile, by something else than this test."""
+        for _ in range(10):
+            try:
+                action()
+                return
+            except WebDriverException as failure:
+                if "ERR_NETWORK_CHANGED" not in str(failure):
+                    raise
+        raise AssertionError("the machine's network doesn't rest")
+
+    def new_tab(self) -> str:
+        """Opens a tab, which is the browser's from here on. Returns the name of the one before."""
+        before = str(self.driver.current_window_handle)
+        self.driver.switch_to.new_window("tab")
+        return before
+
+    def close_tab(self, name: str) -> None:
+        """Closes another tab, and stays in this one."""
+        own = self.driver.current_window_handle
+        self.driver.switch_to.window(name)
+        self.driver.close()
+        self.driver.switch_to.window(own)
+
+    def resize(self, width: int, height: int) -> None:
+        self.engine.resize(width, height)
+        self.until(
+            lambda: self.run("return innerWidth") == width,
+            f"the window is {width} wide, and not {self.run('return innerWidth')}",
+        )
+
+    def picture(self, path: Path) -> None:
+        self.driver.save_screenshot(str(path))
+
+    def saved(self, name: str, press: str) -> str:
+        """The text of a file that the page saves as that button is pressed."""
+        folder = self.profile / "downloads"
+        folder.mkdir(exist_ok=True)
+        self.engine.downloads(folder)
+        (folder / name).unlink(missing_ok=True)
+        self.press(press)
+        self.until(
+            lambda: (folder / name).exists() and (folder / name).read_text().endswith("\n"),
+            f"{name} is saved",
+        )
+        return (folder / name).read_text()
+
+    # ---- what is there
+
+    def find(self, selector: str) -> WebElement:
+        return self.driver.find_element(By.CSS_SELECTOR, selector)
+
+    def all(self, selector: str) -> list[WebElement]:
+        found: list[WebElement] = self.driver.find_elements(By.CSS_SELECTOR, selector)
+        return found
+
+    def text(self, selector: str = "body") -> str:
+        return str(self.find(selector).text)
+
+    def value(self, selector: str) -> str:
+        """What is typed into a field."""
+        return str(self.find(selector).get_attribute("value"))
+
+    def is_shown(self, selector: str) -> bool:
+        return bool(self.find(selector).is_displayed())
+
+    def focused(self) -> str:
+        """The id of what has the keyboard."""
+        return str(self.run("return document.activeElement?.id"))
+
+    def has_keyboard(self, selector: str) -> bool:
+        return bool(self.run("return document.activeElement?.matches(arguments[0])", selector))
+
+    def run(self, script: str, *arguments: object) -> Any:
+        return self.driver.execute_script(script, *arguments)
+
+    def run_module(self, script: str, *arguments: object) -> Any:
+        """A script that may import the page's own modules and await; what it returns."""
+        return self.driver.execute_async_script(AWAITING % script, *arguments)
+
+    def until(self, condition: Callable[[], Any], what: str, patience: float | None = None) -> None:
+        wait = WebDriverWait(
+            self.driver, patience or self.patience, 0.05, [StaleElementReferenceException]
+        )
+        try:
+            wait.until(lambda _: condition())
+        except TimeoutException:
+            raise AssertionError(f"{what}\n{self.text()}") from None
+
+    def waits_for(self, words: str, selector: str = "body") -> None:
+        self.until(
+            lambda: any(words in element.text for element in self.all(selector)),
+            f"the page doesn't show: {words}",
+        )
+
+    def takes_keyboard(self, selector: str) -> None:
+        self.until(lambda: self.has_keyboard(selector), f"{selector} takes the keyboard")
+
+    def complaints(self) -> list[str]:
+        """What the browser's console was told that speaks of a fault of the page itself."""
+        return self.engine.complaints()
+
+    # ---- what a person does
+
+    def type(self, selector: str, text: str) -> None:
+        """As a person types it: into a native field of a day or a month, each part by its keys."""
+        field = self.find(selector)
+        kind = self.run("return arguments[0].type", field)
+        if kind in ("date", "month") and self.name == "chromium":
+            self.type_date(field, kind, text)
+            return
+        if kind != "date":
+            field.send_keys(Keys.CONTROL, "a")
+        field.send_keys(text)
+
+    def type_date(self, field: WebElement, kind: str, text: str) -> None:
+        """Chromium's fields are typed as MM/DD/YYYY, and as a month's name and a year."""
+        year, month, *day = text.split("-")
+        self.run("arguments[0].focus()", field)
+        self.keys(
+            *([month, *day] if kind == "date" else [MONTHS[int(month) - 1], Keys.RIGHT]), year
+        )
+        self.until(lambda: field.get_attribute("value") == text, f"the field has {text}")
+
+    def press(self, selector: str) -> None:
+        """From under a notice, which stands at the top of the window, the page is scrolled first. If the page writes the element anew meanwhile, the new one is pressed."""
+        for _ in range(5):
+            self.rested(selector)
+            element = self.find(selector)
+            try:
+                near = "{ block: 'nearest', inline: 'nearest' }"
+                self.run(f"arguments[0].scrollIntoView({near})", element)
+                element.click()
+                return
+            except StaleElementReferenceException:
+                time.sleep(0.2)
+        raise AssertionError(f"{selector} is written anew again and again")
+
+    def rested(self, selector: str) -> None:
+        """A button of a question does nothing at first."""
+        self.until(
+            lambda: self.find(selector).get_attribute("aria-disabled") is None,
+            f"{selector} has rested",
+        )
+
+    def double_click(self, selector: str) -> None:
+        button = self.find(selector)
+        self.run("arguments[0].scrollIntoView({ block: 'nearest' })", button)
+        ActionChains(self.driver).double_click(button).perform()
+
+    def keys(self, *keys: str) -> None:
+        """Keys for whatever has the keyboard."""
+        for key in keys:
+            ActionChains(self.driver).send_keys(key).perform()
+
+    def tab(self, back: bool = False) -> None:
+        """To the page's next control, or back to the one before."""
+        chain = ActionChains(self.driver)
+        if back:
+            chain = chain.key_down(Keys.SHIFT).send_keys(Keys.TAB).key_up(Keys.SHIFT)
+        else:
+            chain = chain.send_keys(Keys.TAB)
+        chain.perform()
+        self.engine.come_round(back)
+
+    def tab_to(self, selector: str, back: bool = False) -> int:
+        """Tabs until that element has the keyboard; how many keys it took."""
+        for count in range(80):
+            if self.has_keyboard(selector):
+                return count
+            self.tab(back)
+        raise AssertionError(f"no tab reaches {selector}")

@@ -1,0 +1,285 @@
+"""The page for tellers, as a teller works it."""
+
+from __future__ import annotations
+
+import time
+from typing import Any, Callable
+
+from tests.browser.browser import Browser
+
+#: Dollars of the bonds of `bank.bonds_of` in February 2012, by the published rates, in cents.
+VALUES = {"L": 2516, "K": 3807, "M": 502400}
+DOUBT = "Do these bonds agree with the paper?"
+#: What a reply that came late or twice adds.
+EARLIER = "The connection was interrupted."
+#: Opens the page's own databases.
+OPEN = """
+    const opened = (request) => new Promise((resolve) => { request.onsuccess = () => resolve(request.result); });
+    const database = await opened(indexedDB.open(given[0]));
+"""
+READ_JOURNAL = """
+    const record = await opened(database.transaction("journal").objectStore("journal").get("journal"));
+    database.close();
+    return record ?? {};
+"""
+READ_RECEIPTS = """
+    const records = await opened(database.transaction("payments").objectStore("payments").index("ticket").getAll());
+    database.close();
+    return records;
+"""
+#: Writes another journal, which a function makes of the one that is there.
+WRITE_JOURNAL = """
+    const change = database.transaction("journal", "readwrite");
+    const store = change.objectStore("journal");
+    const record = await opened(store.get("journal"));
+    store.put((%s)(record), "journal");
+    await new Promise((resolve) => { change.oncomplete = resolve; });
+    database.close();
+"""
+
+
+def dollars(cents: int) -> str:
+    return f"${cents // 100:,}.{cents % 100:02}"
+
+
+class Page(Browser):
+    """The page for tellers in a browser."""
+
+    #: The bonds of the last question, as `bonds_asked` has them.
+    asked: list[list[str]]
+
+    # ---- what it keeps
+
+    def journal(self) -> dict[str, Any]:
+        """The page's journal, which is empty before a desk is chosen."""
+        found: dict[str, Any] = self.run_module(OPEN + READ_JOURNAL, "ladwenpik-teller")
+        return found
+
+    def write_journal(self, change: str) -> None:
+        """Changes the journal behind the page's back, by a function in JavaScript."""
+        self.run_module(OPEN + WRITE_JOURNAL % change, "ladwenpik-teller")
+
+    def receipts(self) -> list[dict[str, Any]]:
+        """What the browser keeps of payments, in the order of the tickets."""
+        found: list[dict[str, Any]] = self.run_module(OPEN + READ_RECEIPTS, "ladwenpik-receipts")
+        return found
+
+    def settled(self) -> None:
+        """Nothing is open, and no step is shown."""
+        self.until(
+            lambda: self.journal().get("open") is None
+            and self.find("#progress").get_attribute("class") == "",
+            "the request is settled",
+        )
+
+    def hears(self, words: str) -> None:
+        """The live region says it."""
+        self.until(
+            lambda: words in str(self.find("#live").get_attribute("textContent")),
+            f"a screen reader hears: {words}",
+        )
+
+    def refuses(self, *words: str) -> str:
+        """What the notices say, once they say these words and no request is open."""
+        for one in words:
+            self.waits_for(one, "#notices")
+        self.settled()
+        return self.text("#notices")
+
+    # ---- views
+
+    def answered(
+        self, condition: Callable[[], Any], what: str, again: str, patience: float
+    ) -> None:
+        """Presses that button again if a look-up wasn't answered: the page gives up after some seconds, and a counter that was killed may take longer to come back."""
+
+        def is_so() -> Any:
+            if "The counter didn't answer" in self.text("#notices"):
+                self.press("#notices .close")
+                self.press(again)
+            return condition()
+
+        self.until(is_so, what, patience)
+
+    def choose_desk(self, desk: int) -> None:
+        self.waits_for("Choose a desk")
+        self.type("#desk", str(desk))
+        self.press("#start button")
+        self.waits_for(f"Desk {desk},", "#state")
+
+    def go(self, view: str) -> None:
+        link = f"nav a[href='#{view}']"
+        self.until(lambda: self.is_shown(link), f"the page offers the view {view}")
+        self.press(link)
+        self.until(lambda: self.is_shown(f"#{view}"), f"the view {view}")
+
+    # ---- the day
+
+    def ask_to_open(self, day: str) -> str:
+        """Up to the page's question; its texts."""
+        self.go("day")
+        self.type("#open-date", day)
+        self.press("#open-day button")
+        self.asks(again="#open-day button")
+        return self.question()
+
+    def open_day(self, day: str) -> None:
+        """Confirms it, and once more if the page asks again."""
+        self.ask_to_open(day)
+        is_asked_again = self.text("#confirm-yes") == "Continue"
+        self.press("#confirm-yes")
+        if is_asked_again:
+            self.until(
+                lambda: self.text("#confirm-yes").startswith("Open the day in"),
+                "the page asks again",
+            )
+            self.press("#confirm-yes")
+
+    def join_day(self, day: str) -> None:
+        self.go("day")
+        self.type("#join-date", day)
+        self.press("#join-day button")
+
+    def joins(self, day: str = "2012-02-06", desk: int | None = None) -> None:
+        """At a desk, if one is to be chosen, until the day is joined."""
+        if desk is not None:
+            self.choose_desk(desk)
+        self.join_day(day)
+        self.waits_for("This desk joined")
+
+    def ask_to_close(self, patience: float = 60) -> str:
+        """Up to the page's question, before which it counts the day."""
+        self.go("day")
+        self.press("#close-day button")
+        self.asks("#close-day button", patience)
+        return self.question()
+
+    def close_day(self, patience: float = 60) -> None:
+        self.ask_to_close(patience)
+        self.press("#confirm-yes")
+
+    def closes(self, words: str = "Batch of February 6, 2012") -> None:
+        self.close_day()
+        self.waits_for(words, "#batch h2")
+        self.settled()
+
+    # ---- payments
+
+    def show_sheet_begun(self, customer: int, month: str | None = None) -> None:
+        self.go("pay")
+        self.type("#customer", str(customer))
+        if month is not None:
+            self.type("#month", month)
+        self.press("#ask-sheet button")
+
+    def show_sheet(self, customer: int, month: str | None = None) -> None:
+        self.go("pay")
+        self.run(
+            "document.querySelectorAll('#sheet > *').forEach((one) => one.classList.add('earlier'))"
+        )
+        self.show_sheet_begun(customer, month)
+        self.answered(
+            lambda: self.all("#sheet .earlier") == []
+            and f"ustomer {customer} " in self.text("#sheet"),
+            "the sheet",
+            "#ask-sheet button",
+            60,
+        )
+
+    def shows_sum(self, count: int, cents: int, month: str = "February 2012") -> None:
+        """The sum beside Pay, and of how many bonds it is."""
+        self.waits_for(f"{count} bond{'s' if count > 1 else ''}, valued in {month}", "#chosen")
+        self.waits_for(dollars(cents), "#sum")
+
+    def choose(self, *serials: str) -> None:
+        for serial in serials:
+            self.press(f"input[data-serial='{serial}']")
+
+    def box(self, serial: str) -> Any:
+        return self.find(f"input[data-serial='{serial}']")
+
+    def ask_to_add(self, owner: int | str, serial: str) -> None:
+        self.type("#serial", serial)
+        self.type("#owner", str(owner))
+        self.press("#add-bond button")
+
+    def add(self, owner: int, serial: str) -> None:
+        self.ask_to_add(owner, serial)
+        self.until(lambda: self.value("#serial") == "", f"{serial} is added")
+
+    def ask_to_pay(self, payee: int | None = None) -> str:
+        """Up to the page's question; its texts."""
+        if payee is not None:
+            self.type("#payee", str(payee))
+        self.press("#pay-button")
+        return self.asked_without_doubt()
+
+    def pay(self, payee: int | None = None) -> str:
+        """Pays, and returns the texts of the question."""
+        question = self.ask_to_pay(payee)
+        self.asked = self.bonds_asked()
+        self.press("#confirm-yes")
+        return question
+
+    def is_paid(self, ticket: int, *cents: int) -> None:
+        """The ticket is shown, with its sum, and nothing is open."""
+        self.waits_for(f"Ticket {ticket}", "#ticket h2")
+        self.waits_for(dollars(sum(cents)), "#ticket tfoot")
+        self.settled()
+
+    def pays(self, ticket: int, owner: int, *serials: str, payee: int | None = None) -> None:
+        """The whole payment of bonds of a sheet."""
+        self.show_sheet(owner)
+        self.choose(*serials)
+        self.pay(payee)
+        self.is_paid(ticket, *(VALUES[serial[0]] for serial in serials))
+
+    def look_up(self, ticket: int) -> None:
+        self.go("tickets")
+        self.type("#ticket-number", str(ticket))
+        self.press("#ask-ticket button")
+
+    # ---- walk-ins
+
+    def type_walk_in(self, serial: str, denom: str, issued: str) -> None:
+        for name, text in (("serial", serial), ("denom", denom), ("issued", issued)):
+            self.type(f"#walkin-{name}", text)
+        self.press("#add-walkin button:not([type])")
+
+    def add_walk_in(self, serial: str, denom: str, issued: str = "11/2010") -> None:
+        """A bond, up to its place in the list."""
+        self.type_walk_in(serial, denom, issued)
+        self.until(lambda: self.value("#walkin-serial") == "", f"{serial} is in the list")
+
+    # ---- questions
+
+    def asks(self, again: str | None = None, patience: float = 60) -> None:
+        if again is None:
+            self.until(lambda: self.is_shown("#confirm"), "the page asks once more", patience)
+        else:
+            self.answered(lambda: self.is_shown("#confirm"), "the page asks", again, patience)
+
+    def question(self) -> str:
+        return f"{self.text('#confirm-title')}\n{self.text('#confirm-text')}"
+
+    def bonds_asked(self) -> list[list[str]]:
+        """The bonds of the question: of each the texts of its line."""
+        lines: list[list[str]] = self.run(
+            "return [...document.querySelectorAll('#confirm li')].map((line) => [...line.children].map((part) => part.textContent))"
+        )
+        return lines
+
+    def asked_without_doubt(self) -> str:
+        """The texts of the page's question. Before it the page asks about letters that don't fit the denomination, as many here, and about issue months."""
+        self.asks()
+        if DOUBT in self.question():
+            self.press("#confirm-yes")
+            self.until(
+                lambda: self.is_shown("#confirm") and DOUBT not in self.question(),
+                "the page asks again",
+            )
+        return self.question()
+
+    def sleep(self, seconds: float) -> None:
+        """If nothing may happen."""
+        time.sleep(seconds)

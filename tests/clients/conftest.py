@@ -1,0 +1,73 @@
+"""A bank, and its page for tellers in a browser."""
+
+from __future__ import annotations
+
+import os
+from pathlib import Path
+from typing import TYPE_CHECKING, Iterator, Protocol
+
+import pytest
+
+from tests.browser.bank import DAY, Bank
+
+if TYPE_CHECKING:
+    from tests.browser.page import Page
+
+DESK = 5
+
+
+@pytest.fixture
+def bank(program: Path, folder: Path) -> Iterator[Bank]:
+    """A bank without a rate, a bond and a day."""
+    made = Bank(program, folder)
+    yield made
+    made.end()
+
+
+@pytest.fixture(params=["chromium", pytest.param("firefox", marks=pytest.mark.slow)])
+def browser(request: pytest.FixtureRequest) -> str:
+    """Each browser by turns."""
+    return str(request.param)
+
+
+class NewPage(Protocol):
+    def __call__(
+        self, desk: int | None = DESK, *, day: str | None = None, profile: Path | None = None
+    ) -> Page:
+        ...
+
+
+@pytest.fixture
+def new_page(bank: Bank, browser: str) -> Iterator[NewPage]:
+    """Starts a browser on the page: at a desk, if it isn't None, that has joined a day, if one is named. It ends with the test. The same `profile` again is a browser that was there before."""
+    from tests.browser.page import Page
+
+    made: list[Page] = []
+
+    def make(
+        desk: int | None = DESK, *, day: str | None = None, profile: Path | None = None
+    ) -> Page:
+        page = Page(browser, bank.url, bank.folder, profile=profile, certificate=bank.certificate)
+        made.append(page)
+        if desk is not None:
+            page.choose_desk(desk)
+        if day is not None:
+            page.joins(day)
+        return page
+
+    yield make
+    for page in made:
+        page.quit()
+
+
+@pytest.fixture
+def page(bank: Bank, new_page: NewPage) -> Page:
+    """The page at a desk that has joined February 6, 2012. Customers 7, 9 and 11 have three bonds each."""
+    bank.begin()
+    return new_page(day=DAY)
+
+
+@pytest.fixture
+def pictures() -> Path | None:
+    """The folder in which a test leaves pictures for people, if $PICTURES names one."""
+    return Path(os.environ["PICTURES"]) if "PICTURES" in os.environ else None
