@@ -3,7 +3,7 @@
 Ten million take 2 GB of memory and a quarter of an hour. A store that is in FOLDER as BONDS.db is measured as it is: it has to be unpaid bonds alone, as stores.py makes them.
 
 A row for each: the file, an opening, a redemption of one bond and an inventory of ten of customers all over the store, and the close of a day with 1,000 tickets. Times are of the processor, medians of
-1,000 redemptions and 100 inventories. The last row is reckoned from the largest two for 71 million bonds: file and
+1,000 redemptions and 100 inventories. The last row is extrapolated from the largest two for 71 million bonds: file and
 opening in a straight line, and requests by the logarithm, as a tree gets deeper."""
 from __future__ import annotations
 
@@ -95,7 +95,7 @@ def measured(count: int) -> Row:
     )
 
 
-def reckoned(small: int, less: Row, large: int, more: Row) -> Row:
+def extrapolated(small: int, less: Row, large: int, more: Row) -> Row:
     straight = (RECKONED - large) / (large - small)
     by_levels = math.log(RECKONED / large) / math.log(large / small)
     return Row(
@@ -116,4 +116,4 @@ for size in SIZES:
     print(f"| {size:,} | {rows[size].cells()} |", flush=True)
 if len(rows) > 1:
     (small, less), (large, more) = sorted(rows.items())[-2:]
-    print(f"| {RECKONED:,}, reckoned | {reckoned(small, less, large, more).cells()} |")
+    print(f"| {RECKONED:,}, extrapolated | {extrapolated(small, less, large, more).cells()} |")

@@ -28,6 +28,10 @@ PAGES = {
     "ee_store.5": "cksumvfs",
     "counter.service.8": "returns only then",
     "counter-selftest.8": "compares",
+    "counter-archive.8": "chained by checksums",
+    "counter-check.8": "batch of a day without one",
+    "counter-copy.8": "only after the program opened it",
+    "counter-restore.8": "compares every reply byte for byte",
     "ladwenpik-verify.1": "checks the folder of a release, and changes nothing",
 }
 #: What is typed, and what stands in the line after a Tab.
