@@ -20,14 +20,14 @@ import typing
 import zipfile
 
 HERE = pathlib.Path(__file__).resolve().parent
-SOURCES = (
+MODULE = (
     "ee_value/__init__.py",
+    "ee_value/__main__.py",
+    "ee_value/command.py",
     "ee_value/py.typed",
-    "examples/inventory.py",
-    "pyproject.toml",
-    "value_wheel.py",
-    "README-python.md",
 )
+SOURCES = (*MODULE, "examples/inventory.py", "pyproject.toml", "value_wheel.py", "README-python.md")
+COMMANDS = "[console_scripts]\nee-value = ee_value.command:main\n"
 #: Where `build` puts the library of a processor, and the number of that processor in an ELF file.
 LIBRARIES = {"x86_64": ("out", 62), "aarch64": ("out/aarch64", 183)}
 #: The least version of the C library of which an index knows a tag, by processor.
@@ -115,10 +115,10 @@ def build_wheel(
     name, tag = f"ee_value-{version()}", tag_of(library, processor)
     tags = "".join(f"Tag: py3-none-{platform}\n" for platform in tag.split("-")[2].split("."))
     files = {
-        "ee_value/__init__.py": (HERE / "ee_value" / "__init__.py").read_bytes(),
-        "ee_value/py.typed": b"",
+        **{path: (HERE / path).read_bytes() for path in MODULE},
         "ee_value/libee_value.so.1": library,
         f"{name}.dist-info/METADATA": metadata(),
+        f"{name}.dist-info/entry_points.txt": COMMANDS.encode(),
         f"{name}.dist-info/WHEEL": f"Wheel-Version: 1.0\nGenerator: value_wheel\nRoot-Is-Purelib: false\n{tags}".encode(),
     }
     record = "".join(f"{path},sha256={digest(data)},{len(data)}\n" for path, data in files.items())

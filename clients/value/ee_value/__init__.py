@@ -213,6 +213,8 @@ def _number(value: int) -> int:
 
 def _whole(value: object, what: str) -> int:
     """Return what stands for a whole number, as int or numpy's do, as the library takes it."""
+    if type(value) is int:  # the check of a protocol takes long
+        return _number(value)
     if isinstance(value, bool) or not isinstance(value, typing.SupportsIndex):
         raise TypeError(what)
     try:

@@ -18,7 +18,7 @@ def main(rates: str, count: int) -> None:
     columns = [0] * 4
     print("serial,denom,issued,owner,coowner")
     for k in range(count):
-        dollars, issued = dice.choice(exact.DOLLARS), exact.number_of(dice.randrange(12 * 2005 + 4, 12 * 2027))
+        dollars, issued = dice.choice(exact.DOLLARS), exact.number_of(dice.randrange(12 * 2005 + 4, 12 * 2021 + 4))
         year, month = divmod(issued, 100)
         written = f"{year}-{month:02}" if k % 3 else f"{month:02}/{year}"
         print(f"A{k + 1}EE,{dollars},{written},{k % 9 + 1},")

@@ -1,0 +1,249 @@
+"""The command ee-value: what each bond of a list is worth, and which bonds it refuses.
+
+Expected values are the Treasury's published ones, worked rows of the rules, and whole-number arithmetic."""
+
+from __future__ import annotations
+
+import csv
+import importlib.util
+import os
+import pty
+import random
+import subprocess
+import sys
+from pathlib import Path
+
+import pytest
+
+from tests.shared import exact
+
+TOP = Path(__file__).resolve().parents[2]
+VALUE = TOP / "clients/value"
+DATA = TOP / "crates/published_values/data"
+LIBRARY = Path(os.environ.get("EE_VALUE_LIBRARY", VALUE / "out/libee_value.so.1"))
+RATES = TOP / "samples/rates.csv"
+HEADER = "serial,denom,issued,owner,coowner\n"
+
+pytestmark = pytest.mark.skipif(
+    not LIBRARY.exists(), reason="the library isn't there: clients/value/build makes it"
+)
+
+#: The sheet of the formats, with its rates and its inventory.
+SHEET_RATES = "from,rate\n2010-05,2.00\n2010-11,3.50%\n"
+SHEET_BONDS = f"{HEADER}K-0002-EE,75,10/2010,7,8\nL1EE,50,2010-11,7,\nX3EE,10000,2011-02,7,\n"
+SHEET = """\
+Serial        Series  Denom Issued  Next    Final          Price       Interest   Rate          Value Note
+K2EE          EE         75 10/2010 03/2012 10/2040        37.50           0.84  2.00%          38.34 P5
+L1EE          EE         50 11/2010 03/2012 11/2040        25.00           0.88  3.50%          25.88 P5
+X3EE          EE      10000 02/2011 03/2012 02/2041      5000.00         132.00  3.50%        5132.00 P5
+Total                                                    5062.50         133.72               5196.22
+"""
+
+
+def ran(*words: object, given: str = "") -> subprocess.CompletedProcess[str]:
+    line = [sys.executable, "-m", "ee_value", *map(str, words)]
+    paths = {**os.environ, "PYTHONPATH": str(VALUE), "EE_VALUE_LIBRARY": str(LIBRARY)}
+    return subprocess.run(line, input=given, capture_output=True, text=True, env=paths, timeout=300)
+
+
+def rows(done: subprocess.CompletedProcess[str]) -> list[dict[str, str]]:
+    return list(csv.DictReader(done.stdout.splitlines()))
+
+
+def written(path: Path, text: str) -> Path:
+    path.write_text(text)
+    return path
+
+
+def test_table_is_the_sheet(folder: Path) -> None:
+    rates = written(folder / "rates.csv", SHEET_RATES)
+    bonds = written(folder / "bonds.csv", SHEET_BONDS)
+    done = ran(bonds, "02/2012", "--rates", rates, "--table")
+    assert (done.stdout, done.stderr, done.returncode) == (SHEET, "", 0)
+
+
+def test_terminal_gets_the_table(folder: Path) -> None:
+    rates = written(folder / "rates.csv", SHEET_RATES)
+    bonds = written(folder / "bonds.csv", SHEET_BONDS)
+    parent, child = pty.openpty()
+    line = [sys.executable, "-m", "ee_value", str(bonds), "2012-02", "--rates", str(rates)]
+    paths = {**os.environ, "PYTHONPATH": str(VALUE), "EE_VALUE_LIBRARY": str(LIBRARY)}
+    assert subprocess.run(line, stdout=child, env=paths, timeout=60).returncode == 0
+    os.close(child)
+    assert os.read(parent, 1 << 16).decode().replace("\r\n", "\n") == SHEET
+    os.close(parent)
+
+
+def test_a_row_for_each_bond(folder: Path) -> None:
+    """A bond before its issue, below 12 months, in extended maturity at another rate, and matured."""
+    rates = written(folder / "rates.csv", "from,rate,extension\n2010-05,3.40%,4.00\n2010-11,3.5,\n")
+    done = ran("-", "2030-11", "--rates", rates, given=f"{HEADER}A1EE,50,2010-05,7,\n")
+    assert done.stdout.splitlines()[1] == (
+        "A1EE,50,2010-05,3.40%,4.00%,25.00,26.00,51.00,51.00,,2030-12,2040-05,"
+    )
+    for month, expected in {
+        "2010-04": "A1EE,50,2010-05,3.40%,4.00%,0.00,0.00,0.00,0.00,NI,,,",
+        "2011-04": "A1EE,50,2010-05,3.40%,4.00%,25.00,0.00,25.00,0.00,NE,2011-05,2040-05,",
+    }.items():
+        done = ran("-", month, "--rates", rates, given=f"{HEADER}A1EE,50,2010-05,7,\n")
+        assert done.stdout.splitlines()[1:] == [expected]
+        assert (done.stderr, done.returncode) == ("", 0)
+    matured = ran("-", "2045-01", "--rates", rates, given=f"{HEADER}A1EE,50,2010-05,7,\n")
+    assert rows(matured)[0]["note"] == "MA"
+
+
+def published(month: str, rates: Path) -> None:
+    """Compares the values that the Treasury published for a month with the rows of a list."""
+    with open(DATA / "published-values.csv", newline="") as file:
+        listed = [row for row in csv.DictReader(file) if row["redeemed"] == month]
+    denominations = [exact.DOLLARS[place % 8] for place in range(len(listed))]
+    bonds = [
+        f"A{place}EE,{dollars},{row['issued']},7,\n"
+        for place, (dollars, row) in enumerate(zip(denominations, listed), 1)
+    ]
+    done = ran("-", month, "--rates", rates, given=HEADER + "".join(bonds))
+    units = [int(row["unit_cents"]) for row in listed]
+    assert len(units) > 90
+    assert [int(row["payable"].replace(".", "")) for row in rows(done)] == [
+        dollars // 25 * cents for dollars, cents in zip(denominations, units)
+    ]
+
+
+@pytest.mark.parametrize("month", ["2014-04", "2016-12"])
+def test_published_values(month: str) -> None:
+    published(month, DATA / "rates.csv")
+
+
+def test_published_values_find_a_wrong_rate(folder: Path) -> None:
+    text = (DATA / "rates.csv").read_text().replace("2008-05,1.40", "2008-05,1.50")
+    with pytest.raises(AssertionError):
+        published("2016-12", written(folder / "rates.csv", text))
+
+
+def test_values_are_those_of_whole_numbers(folder: Path, dice: random.Random) -> None:
+    """Many bonds of any period, at any rates, in months from before their issue to after maturity."""
+    periods = [year * 100 + month for year in range(2005, 2035) for month in (5, 11)]
+    terms = {period: (dice.randrange(2001), dice.randrange(2001)) for period in periods}
+    bonds = [
+        (dice.choice(exact.DOLLARS), dice.randrange(2005 * 12 + 4, 2035 * 12 + 4))
+        for _ in range(3000)
+    ]
+    asked = exact.number_of(dice.randrange(2006 * 12, 2068 * 12))
+    rates = "".join(
+        f"{period // 100}-{period % 100:02},{rate / 100:.2f}%,{extension / 100:.2f}\n"
+        for period, (rate, extension) in terms.items()
+    )
+    lines, expected = [], []
+    for place, (dollars, count) in enumerate(bonds, 1):
+        issued = exact.number_of(count)
+        lines.append(f"B{place}EE,{dollars},{issued // 100}-{issued % 100:02},7,\n")
+        period = max(it for it in periods if it <= issued)
+        payable, price, interest, value, *_ = exact.row(dollars, issued, asked, *terms[period])
+        expected.append([price, interest, value, payable])
+    path = written(folder / "rates.csv", "from,rate,extension\n" + rates)
+    text = f"{asked // 100}-{asked % 100:02}"
+    done = ran("-", text, "--rates", path, given=HEADER + "".join(lines))
+    names = ("price", "interest", "value", "payable")
+    assert [[int(row[name].replace(".", "")) for name in names] for row in rows(done)] == expected
+
+
+#: A faulty row, and what is said of it.
+REFUSED = {
+    "A1,50,2010-05,7,": "serial 'A1' isn't a letter, a number and EE",
+    "A0EE,50,2010-05,7,": "serial 'A0EE' isn't a letter, a number and EE",
+    "A1EE,60,2010-05,7,": "denom '60' isn't one of 50, 75, 100, 200, 500, 1000, 5000, 10000",
+    "A1EE,50,2010-13,7,": "issued '2010-13' isn't a month from 2005-05 to 2099-12",
+    "A1EE,50,2004-05,7,": "issued '2004-05' isn't a month from 2005-05 to 2099-12",
+    "A1EE,50,2006-04,7,": "the rates have none from 2005-11",
+    "A1EE,50,2012-05,7,": "the rates have none from 2012-05",
+    "L0001EE,50,2010-05,7,": "serial L1EE is in row 2 too",
+    "A1EE,50": "2 fields in place of 5",
+}
+
+
+@pytest.mark.parametrize("row", REFUSED)
+def test_refused_rows(folder: Path, row: str) -> None:
+    """A bond issued before the first row of rates is refused, and so is one after the last period."""
+    rates = written(folder / "rates.csv", "from,rate\n2006-05,3.70\n2010-05,1.40\n2011-11,0.60\n")
+    text = f"{HEADER}L1EE,50,2010-05,7,\n\n{row}\nK2EE,75,2010-10,7,8\n"
+    done = ran("-", "2026-11", "--rates", rates, given=text)
+    said = f"ee-value: -: row 3: {REFUSED[row]}\nee-value: 1 of 3 bonds refused\n"
+    assert (done.stderr, done.returncode) == (said, 1)
+    found = rows(done)
+    assert [it["refused"] for it in found] == ["", REFUSED[row], ""]
+    value = exact.row(50, 201005, 202611, 140, 140)[3]
+    assert [it["value"] for it in found] == [f"{value / 100:.2f}", "", "46.95"]
+    table = ran("-", "2026-11", "--rates", rates, "--table", given=text)
+    assert (table.stderr, table.returncode) == (said, 1)
+    assert table.stdout.splitlines()[2].endswith("refused: row 3")
+    assert table.stdout.split()[-1] == f"{(value + 4695) / 100:.2f}"
+
+
+@pytest.mark.parametrize("month", ["2026-13", "2005-04", "2200-01", "11/26", "November"])
+def test_refused_months(month: str) -> None:
+    done = ran(TOP / "samples/inventory.csv", month, "--rates", RATES)
+    assert (done.stdout, done.returncode) == ("", 2)
+    assert f"MONTH '{month}' isn't a month from 2005-05 to 2199-12" in done.stderr
+
+
+#: Rates that can't be used, and what is said of them.
+FAULTY = {
+    "": "row 1: the header isn't from,rate or from,rate,extension",
+    "from,rates\n": "row 1: the header isn't from,rate or from,rate,extension",
+    "from,rate\n2010-06,1.40\n": "row 2: '2010-06' isn't a May or November from 2005-05",
+    "from,rate\n2010-05,20.01\n": "row 2: a rate isn't from 0.00% to 20.00%",
+    "from,rate\n2010-05,1.40\n2010-05,1.41\n": "row 3: 2010-05 has another rate above",
+    "from,rate\n2010-05,1.40,\n": "row 2: 3 fields in place of 2",
+    "from,rate,extension\n2010-05,1.40,none\n": "row 2: a rate isn't from 0.00% to 20.00%",
+}
+
+
+@pytest.mark.parametrize("text", FAULTY)
+def test_faulty_rates(folder: Path, text: str) -> None:
+    path = written(folder / "rates.csv", text)
+    done = ran(TOP / "samples/inventory.csv", "2026-11", "--rates", path)
+    assert (done.stdout, done.returncode) == ("", 3)
+    assert done.stderr == f"ee-value: {path}: {FAULTY[text]}\n"
+
+
+def test_faulty_lists(folder: Path) -> None:
+    missing = folder / "missing.csv"
+    done = ran(missing, "2026-11", "--rates", RATES)
+    assert (done.returncode, done.stderr) == (
+        3,
+        f"ee-value: {missing}: No such file or directory\n",
+    )
+    done = ran("-", "2026-11", "--rates", RATES, given="serial,denom\nL1EE,50\n")
+    assert (done.returncode, done.stderr) == (3, "ee-value: -: row 1: there is no column issued\n")
+    (folder / "bytes.csv").write_bytes(HEADER.encode() + b"\xff1EE,50,2010-05,7,\n")
+    done = ran(folder / "bytes.csv", "2026-11", "--rates", RATES)
+    assert done.returncode == 3 and "'utf-8' codec can't decode byte 0xff" in done.stderr
+
+
+def test_plot(folder: Path) -> None:
+    """A picture of a bond's life, or what to install."""
+    path = folder / "bond.png"
+    line = (TOP / "samples/inventory.csv", "2026-11", "--rates", RATES, "--plot")
+    done = ran(*line, "X3EE", path)
+    if importlib.util.find_spec("matplotlib") is None:
+        said = "ee-value: --plot needs matplotlib, as in Debian's python3-matplotlib\n"
+        assert (done.stderr, done.returncode) == (said, 3)
+    else:
+        assert (done.stderr, done.returncode) == ("", 0)
+        assert path.read_bytes().startswith(b"\x89PNG")
+    done = ran(*line, "A1EE", path)
+    assert done.returncode == 3 and "has no bond A1EE with a rate" in done.stderr
+
+
+def test_example(folder: Path) -> None:
+    """The example adds up the same rows, and its status says that a bond was refused."""
+    bonds = written(folder / "bonds.csv", SHEET_BONDS + "A1EE,50,2005-05,7,\n")
+    rates = written(folder / "rates.csv", SHEET_RATES)
+    line = [sys.executable, str(VALUE / "examples/inventory.py"), str(bonds), str(rates), "2012-02"]
+    paths = {**os.environ, "PYTHONPATH": str(VALUE), "EE_VALUE_LIBRARY": str(LIBRARY)}
+    done = subprocess.run(line, capture_output=True, text=True, env=paths, timeout=60)
+    assert done.returncode == 1
+    assert done.stdout.splitlines() == [
+        *("4 bonds in 2012-02, 1 refused", "price 5062.50", "interest 133.72"),
+        *("value 5196.22", "payable 5196.22"),
+    ]
