@@ -23,7 +23,7 @@ PATHS = (
 #: Files that packages have under another name.
 NAMED = (("samples/systemd/counter.sysusers", "debian/ladwenpik.sysusers"),)
 #: Pages say what the repository has, and keep its paths.
-PAGES = (".md", ".json", ".png", ".a", ".1")
+PAGES = (".md", ".json", ".png", ".pdf", ".a", ".1")
 
 
 def lay_out(tree: Path, program: Path, library: Path, version: str, epoch: int) -> None:

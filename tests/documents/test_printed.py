@@ -1,0 +1,68 @@
+"""The sheet for the window prints on two sides, and its PDF is the page's."""
+
+from __future__ import annotations
+
+import subprocess
+import sys
+from pathlib import Path
+
+import pytest
+
+from tests.conftest import TOP
+
+PAGE = TOP / "docs" / "AT_THE_WINDOW.md"
+PDF = PAGE.with_suffix(".pdf")
+
+pytestmark = pytest.mark.needs("pdftotext", "module:weasyprint", "module:markdown")
+
+
+def printed(page: Path, pdf: Path) -> list[str]:
+    """The texts of the sides of a page's PDF."""
+    subprocess.run([sys.executable, TOP / "packaging/printed", page, pdf], check=True)
+    return sides(pdf)
+
+
+def sides(pdf: Path) -> list[str]:
+    text = subprocess.run(["pdftotext", "-layout", pdf, "-"], stdout=subprocess.PIPE, check=True)
+    return text.stdout.decode().split("\f")[:-1]
+
+
+def pictures(pdf: Path) -> list[str]:
+    """The widths, heights and sizes of the pictures of a PDF."""
+    listed = subprocess.run(["pdfimages", "-list", pdf], stdout=subprocess.PIPE, check=True)
+    return [
+        " ".join(line.split()[3:5] + line.split()[-2:-1])
+        for line in listed.stdout.decode().splitlines()[2:]
+    ]
+
+
+def other_page(folder: Path, text: str) -> Path:
+    """A page next to the same pictures."""
+    (folder / "pictures").symlink_to(PAGE.parent / "pictures")
+    page = folder / "page.md"
+    page.write_text(text)
+    return page
+
+
+def test_the_sheet_has_two_sides() -> None:
+    assert [text.lstrip()[:6] for text in sides(PDF)] == ["At the", "Side 2"]
+
+
+def test_the_pdf_is_of_this_page(folder: Path) -> None:
+    assert printed(PAGE, folder / "page.pdf") == sides(PDF)
+    assert pictures(folder / "page.pdf") == pictures(PDF) != []
+
+
+def test_a_longer_page_is_found(folder: Path) -> None:
+    """Control: with a second table of what is odd the sheet has a third side."""
+    text = PAGE.read_text()
+    page = other_page(folder, text + text[text.index("| You see") : text.index("![A payment")])
+    with pytest.raises(AssertionError):
+        assert len(printed(page, folder / "page.pdf")) == 2
+
+
+def test_a_changed_sentence_is_found(folder: Path) -> None:
+    """Control: the PDF of another page isn't this page's."""
+    page = other_page(folder, PAGE.read_text().replace("Don't pay.", "Pay it."))
+    with pytest.raises(AssertionError):
+        assert printed(page, folder / "page.pdf") == sides(PDF)
