@@ -34,8 +34,8 @@ GIT = {"GIT_CONFIG_GLOBAL": "/dev/null", "GIT_COMMITTER_NAME": "test", "GIT_AUTH
 GIT |= {f"GIT_{who}_EMAIL": "test@bank.example" for who in ("COMMITTER", "AUTHOR")}
 
 
-def done(*words: str | Path, **more: Path) -> str:
-    return subprocess.run(words, check=True, stdout=subprocess.PIPE, text=True, **more).stdout
+def done(*words: str | Path, cwd: Path | None = None) -> str:
+    return subprocess.run(words, check=True, stdout=subprocess.PIPE, text=True, cwd=cwd).stdout
 
 
 @dataclass
@@ -47,7 +47,8 @@ class Owner:
     env: dict[str, str]
 
     def release(self, name: str, *words: str) -> tuple[int, str]:
-        line = [sys.executable, self.tree / "packaging/release", self.folder / name, *words]
+        script = str(self.tree / "packaging/release")
+        line = [sys.executable, script, str(self.folder / name), *words]
         ran = subprocess.run(
             line, env=self.env, stdout=subprocess.PIPE, stderr=subprocess.STDOUT, text=True
         )
@@ -61,9 +62,9 @@ class Owner:
         key = done("gpg", "--homedir", self.env["GNUPGHOME"], "--with-colons", "--list-keys")
         found = re.search("^fpr:+([0-9A-F]{40}):", key, re.M)
         assert found
-        verifier = self.folder / name / "ladwenpik-verify"
-        line = [sys.executable, verifier, self.folder / name, "--fingerprint", found[1]]
-        words = [*line, "--checkout", self.tree]
+        place = self.folder / name
+        line = [sys.executable, str(place / "ladwenpik-verify"), str(place)]
+        words = [*line, "--fingerprint", found[1], "--checkout", str(self.tree)]
         return subprocess.run(words, env=self.env, stdout=subprocess.DEVNULL).returncode == 0
 
 
