@@ -15,7 +15,7 @@ from tests.fence.conftest import Machine, MakeMachine, Release, blocks
 pytestmark = [pytest.mark.root, pytest.mark.machine, pytest.mark.slow]
 
 #: The steps of docs/UPGRADE.md. The archive's lines need its disks.
-STEPS = ("1. Stop", "2. Copy", "3. Install", "4. Try the new program on a copy", "5. Go on")
+STEPS = ("1. Stop", "2. Copy", "3. Install", "4. Try the new program on a copy", "5. Resume")
 NEW_TICKET = '{"desk":999,"number":90,"day":"2026-12-01","payee":9,"serials":["R6EE"]}'
 #: A local user who listens where the counter of e30226db listened.
 IMPOSTOR = """
@@ -65,8 +65,8 @@ def test_an_upgrade_asks_nothing_and_serves_by_certificates(old: Machine, releas
     assert old.shell("grep -c redeem /var/log/counter/counter.log").strip() == tickets
     assert old.ask("anna", "/batch/2199-12-31") == '{"code":69,"fault":"NotFound"}'
     assert old.ask("cleo", "/user") == '{"user":"cleo","groups":"registrar"}'
-    old.shell(blocks("UPGRADE", "5. Go on")[1])
-    ran = old.on("sh", "-c", "cd /root; " + blocks("UPGRADE", "5. Go on")[2])
+    old.shell(blocks("UPGRADE", "5. Resume")[1])
+    ran = old.on("sh", "-c", "cd /root; " + blocks("UPGRADE", "5. Resume")[2])
     assert ran.returncode == 3, ran.stdout
 
 
