@@ -248,7 +248,7 @@ def told(
             "open_day": None,
             "rows": {},
         },
-        "rates": rates_of(store) if is_readable else [],
+        "rates": if_readable(rates_of, store) or [],
         "tests": [dataclasses.asdict(one) for one in findings],
         "tested": sum(one.tested for one in findings),
         "differing": sum(one.differing for one in findings),
