@@ -31,7 +31,7 @@ PROOF = (
 )
 
 #: What the list of materials may have.
-FIELDS = Path(__file__).resolve().parent / "spdx_fields.json"
+FIELDS = Path(__file__).resolve().parents[1] / "parts" / "spdx_fields.json"
 
 
 def right(is_right: object, what: str, found: object = "") -> None:

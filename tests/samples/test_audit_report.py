@@ -1,0 +1,508 @@
+"""The report of samples/audit/report over known stores: its figures are those worked by hand, and it tells of each store what it should."""
+
+from __future__ import annotations
+
+import hashlib
+import json
+import shutil
+import sqlite3
+import subprocess
+import time
+from contextlib import closing
+from pathlib import Path
+from typing import Any, Callable
+from unittest import mock
+
+import pytest
+from reporting import making, page, texts
+from reporting.period import Figures
+
+from tests.restore.counter_day import run
+from tests.samples.books import changed, files_of
+from tests.samples.reports import AUDIT, REPORT, differing, made, report, reported
+from tests.samples.test_audit_by_chance import has_the_sums_of_the_queries
+from tests.shared.counter_calls import BONDS, RATES, apply, ask, post, redeem, served
+
+DAY = [
+    post("/rates", {"number": 1, "rates": RATES}, b""),
+    post("/bonds", {"number": 2, "bonds": BONDS}, b""),
+    post("/day/open", {"number": 3, "day": "2012-02-06"}, b""),
+    redeem(1, 4, "2012-02-06", 7, "L1EE", "M3EE"),
+    redeem(2, 10, "2012-02-06", 8, "K2EE"),
+    redeem(1, 5, "2012-02-06", 7, "K2EE"),
+    redeem(1, 6, "2012-02-06", 7, "K2EE"),
+    post("/day/close", {"number": 4, "day": "2012-02-06"}, b""),
+    post("/day/open", {"number": 5, "day": "2012-03-07"}, b""),
+    redeem(2, 12, "2012-03-07", 9, "N4EE"),
+]
+# Worked by hand from the rules: the values of February 2012 are those of docs/FORMATS.md; N4EE has age 16 in March, and pays 25.96.
+WANTED: dict[str, Any] = {
+    "sums": {"bonds": 4, "total": "5222.18", "price": "5087.50", "interest": "134.68"},
+    "days": [
+        {"day": "2012-02-06", "is_closed": True, "tickets": 2, "bonds": 3, "total": "5196.22"},
+        {"day": "2012-03-07", "is_closed": False, "tickets": 1, "bonds": 1, "total": "25.96"},
+    ],
+    "issue_periods": [
+        {"period": "2010-05", "bonds": 1, "total": "38.34"},
+        {"period": "2010-11", "bonds": 3, "total": "5183.84"},
+    ],
+    "denominations": [
+        {"denom": 50, "bonds": 2, "total": "51.84"},
+        {"denom": 75, "bonds": 1, "total": "38.34"},
+        {"denom": 10000, "bonds": 1, "total": "5132.00"},
+    ],
+    "ages": [{"years": 1, "note": "P5", "bonds": 4, "total": "5222.18"}],
+    "refusals": [{"code": 52, "name": "AlreadyPaid", "requests": 2}],
+    "desks": [
+        {"desk": 0, "requests": 5, "refused": 0, "again": 0},
+        {"desk": 1, "requests": 3, "refused": 2, "again": 1},
+        {"desk": 2, "requests": 2, "refused": 0, "again": 0},
+    ],
+    "largest": [
+        {"ticket": 1, "day": "2012-02-06", "payee": 7, "bonds": 2, "total": "5157.88"},
+        {"ticket": 2, "day": "2012-02-06", "payee": 8, "bonds": 1, "total": "38.34"},
+        {"ticket": 3, "day": "2012-03-07", "payee": 9, "bonds": 1, "total": "25.96"},
+    ],
+}
+pytestmark = pytest.mark.needs("sqlite3")
+
+
+def figures_of(found: making.Report) -> Figures:
+    assert found["period"] is not None
+    return found["period"]
+
+
+def here(store: Path) -> making.Report:
+    return reported(store, making.Asked(as_of=texts.read_day("2199-12-31") or 0))
+
+
+@pytest.fixture(scope="module")
+def day(program: Path, place: Path) -> Path:
+    """The store of two known days, which is only read."""
+    statuses = [status for status, _ in apply(program, place / "day.db", DAY)]
+    assert statuses == [200] * 5 + [409, 409, 200, 200, 200]
+    return place / "day.db"
+
+
+def test_known_days(day: Path, tmp_path: Path) -> None:
+    before, to = files_of(day), tmp_path / "report"
+    ran, found = made(day, to)
+    assert ran.returncode == 0 and found["differing"] == 0 and len(found["tests"]) == 18, ran
+    assert all(test["tested"] for test in found["tests"]), "each test has something to test"
+    assert files_of(day) == before and set(day.parent.iterdir()) == {day, Path(f"{day}-wal")}
+    period: dict[str, Any] = dict(figures_of(found))
+    assert {name: period[name] for name in WANTED} == WANTED
+    outlook = period["outlook"]
+    assert (outlook["bonds"], outlook["price"]) == (1, "25.00")
+    assert outlook["months"][0] == {"month": "2012-03", "worth": "25.96", "earning": 1}
+    last = [(month["month"], month["earning"]) for month in outlook["months"][-2:]]
+    assert last == [("2040-10", 1), ("2040-11", 0)], "the outlook ends when it matures"
+    has_the_sums_of_the_queries(day, found)
+    # What is printed to be signed are the sums of the files, and the same store gives the same bytes.
+    names = ("report.json", "report.html")
+    sums = {name: hashlib.sha256((to / name).read_bytes()).hexdigest() for name in names}
+    text = (to / "report.html").read_text()
+    assert sums["report.json"] in text and hashlib.sha256(day.read_bytes()).hexdigest() in text
+    assert (to / "SHA256SUMS").read_text() == "".join(f"{sums[name]}  {name}\n" for name in names)
+    assert {path.name for path in to.iterdir()} == {"SHA256SUMS", *names}
+    report(day, to)
+    assert {name: hashlib.sha256((to / name).read_bytes()).hexdigest() for name in names} == sums
+
+
+def test_month(day: Path, tmp_path: Path) -> None:
+    """A month has its own figures, and the tests of the whole store."""
+    ran, found = made(day, tmp_path / "march", "--month", "2012-03")
+    period = figures_of(found)
+    assert ran.returncode == 0 and found["month"] == "2012-03" and found["differing"] == 0
+    assert period["sums"]["total"] == "25.96" and period["refusals"] == []
+    assert [one["day"] for one in period["days"]] == ["2012-03-07"]
+    assert found["tested"] == made(day, tmp_path / "again")[1]["tested"]
+
+
+@pytest.mark.parametrize(
+    "words", ["--month 2012-13", "--year 2004", "--year 12", "--as-of 2026-11-31"]
+)
+def test_bad_words(day: Path, tmp_path: Path, words: str) -> None:
+    assert report(day, tmp_path / "bad", *words.split()).returncode == 2
+
+
+def test_refused_stores(program: Path, day: Path, tmp_path: Path) -> None:
+    """A store that is served, what is no database or missing. A copy of a served store, and a database without the tables, are reported on."""
+    store, to = Path(shutil.copy(day, tmp_path / "served.db")), tmp_path / "to"
+    with served(program, store):
+        ran = report(store, to)
+        assert ran.returncode == 3 and "using this store" in ran.stderr, ran
+        assert report(Path(shutil.copy(store, tmp_path / "copy.db")), to).returncode == 0
+    (tmp_path / "other.txt").write_text("no store")
+    for name in ("other.txt", "missing"):
+        assert report(tmp_path / name, to).returncode == 3
+    strange = changed(
+        day, tmp_path / "strange.db", "DROP TABLE desk; CREATE TABLE desk (id INTEGER)"
+    )
+    ran, found = made(strange, to)
+    assert ran.returncode == 1 and "tables" in differing(found)
+
+
+def test_log_of_a_killed_server(program: Path, tmp_path: Path) -> None:
+    """The report reads what is in it."""
+    store = tmp_path / "killed.db"
+    apply(program, store, DAY[:3])
+    with served(program, store) as port:
+        message = redeem(1, 4, "2012-02-06", 7, "L1EE", "M3EE")
+        assert ask(port, message.replace(b"\r\n", b"\r\nConnection: close\r\n", 1))
+    ran, found = made(store, tmp_path / "to")
+    assert ran.returncode == 0 and [one["name"] for one in found["files"]] == [
+        "killed.db",
+        "killed.db-wal",
+    ]
+    assert figures_of(found)["sums"]["bonds"] == 2 and Path(f"{store}-wal").stat().st_size > 0
+
+
+def test_empty_stores(program: Path, tmp_path: Path) -> None:
+    """One in which nothing was done, and one with rates and bonds, in a month without a day."""
+    store = tmp_path / "empty.db"
+    run(program, "export", "7", "--db", store).check_returncode()
+    ran, found = made(store, tmp_path / "to")
+    period = figures_of(found)
+    assert (ran.returncode, found["differing"], period["days"], period["outlook"]) == (
+        0,
+        0,
+        [],
+        None,
+    )
+    apply(program, store, DAY[:2])
+    ran, found = made(store, tmp_path / "to", "--month", "2030-01")
+    outlook = figures_of(found)["outlook"]
+    assert outlook is not None and (ran.returncode, outlook["bonds"]) == (0, 5)
+    assert outlook["months"][0]["month"] == "2030-01"
+
+
+def test_limits(program: Path, tmp_path: Path) -> None:
+    """The longest lists, a full day and one ticket more, the last values, and each refusal that has a limit."""
+    store, last, payee = tmp_path / "limits.db", "2199-12-31", 999_999_999
+    serials = [*(f"A{nth}EE" for nth in range(1, 1200)), "Z9999999999EE"]
+    kind: dict[str, Any] = {"denom": 50, "issued": "2010-11", "owner": payee}
+    bonds = [{"serial": serial, **kind} for serial in serials]
+    messages = [post("/rates", {"number": 2**63 - 1, "rates": RATES}, b"")]
+    messages += [post("/bonds", {"number": 1, "bonds": bonds[:501]}, b"")]
+    messages += [
+        post("/bonds", {"number": 2 + at, "bonds": bonds[at : at + 500]}, b"")
+        for at in (0, 500, 1000)
+    ]
+    messages += [post("/day/open", {"desk": 999, "number": 1, "day": last}, b"")]
+    messages += [redeem(1, nth, last, payee, serials[nth - 1]) for nth in range(1, 1000)]
+    messages += [
+        redeem(2, 1, last, payee, *serials[-101:]),
+        redeem(2, 2, last, payee, *serials[-100:]),
+    ]
+    messages += [
+        redeem(2, 3, last, payee, "A1000EE"),
+        post("/day/close", {"number": 9999, "day": last}, b""),
+    ]
+    apply(program, store, messages)
+    ran, found = made(store, tmp_path / "to")
+    period = figures_of(found)
+    assert ran.returncode == 0 and period["days"][0]["bonds"] == 1099
+    assert {one["code"]: one["requests"] for one in period["refusals"]} == {12: 2, 44: 1}
+
+
+# ---- announced rates
+
+ENTERED = [
+    {"from": "2005-05", "rate": "3.50", "extension": "4.00"},
+    {"from": "2010-05", "rate": "1.40"},
+    {"from": "2010-11", "rate": "0.61"},
+    {"from": "2099-05", "rate": "1.00"},
+]
+#: A list of rates, and what of ENTERED differs from it.
+LISTS: list[tuple[str, list[str]]] = [
+    ("from,rate\n2005-05,3.50\n2010-05,1.40\n2010-11,0.61\n2099-05,1.00\n", []),
+    (
+        "\ufefffrom,rate,source\r\n05/2005,3.5,a\r\n05/2010,1.4%,b\r\n2010-11,0.61%,c\r\n2099-05,1,d\r\n",
+        [],
+    ),
+    ("from,rate,extension\n2005-05,3.50,4\n2010-05,1.40,\n2010-11,0.61,\n2099-05,1.00,\n", []),
+    (
+        "from,rate,extension\n2005-05,3.50,\n2010-05,1.40,\n2010-11,0.61,\n2099-05,1.00,\n",
+        ["2005-05"],
+    ),
+    (
+        "from,rate,extension\n2005-05,3.50,4.10\n2010-05,1.40,2\n2010-11,0.61,\n2099-05,1.00,1.00\n",
+        ["2005-05", "2010-05"],
+    ),
+]
+NO_LISTS = [
+    "rate\n1.00",
+    "from,rate\n2010-5,1.00",
+    "from,rate\n2010-05,1.000",
+    "from,rate\n2010-05",
+]
+NO_LISTS += [
+    "from,rate,extension\n2010-05,1.00,x",
+    "from,rate\n2010-05,1.00\n05/2010,1.10",
+    "from,rate\n2010-05,20.01",
+]
+
+
+def test_announced_rates(program: Path, tmp_path: Path) -> None:
+    """Rates and extensions that aren't those of a list are named. A list without a column of extensions is remarked."""
+    store, to, listed = (tmp_path / name for name in ("rates.db", "to", "listed.csv"))
+    apply(program, store, [post("/rates", {"number": 1, "rates": ENTERED}, b"")])
+    ran, found = made(store, to, "--announced", AUDIT / "announced-rates.csv")
+    periods = [("extensions", "2005-05"), ("rates", "2010-11"), ("rates", "2099-05")]
+    assert ran.returncode == 1 and differing(found) == {
+        "announced": [(*one, "rate") for one in periods]
+    }
+    for text, wanted in LISTS:
+        listed.write_bytes(text.encode())
+        ran, found = made(store, to, "--announced", listed)
+        rows = [("extensions", period, "rate") for period in wanted]
+        assert (ran.returncode, differing(found).get("announced", [])) == (bool(wanted), rows), text
+        (test,) = [test for test in found["tests"] if test["name"] == "announced"]
+        assert ("extension" in text) != bool(test["remarks"])
+    for text in NO_LISTS:
+        listed.write_text(f"{text}\n")
+        ran = report(store, to, "--announced", listed)
+        assert ran.returncode == 3 and "Traceback" not in ran.stderr, text
+
+
+# ---- a year's interest
+
+# Worked by hand: DAY pays 5157.88, 38.34 and 25.96 in 2012 for bonds of 5025.00, 37.50 and 25.00. In February 2013 N5EE has age 27, counted as 24: a unit of 12.50 grows to 12.72, 12.94, 13.17 and 13.40, so two units are 26.80.
+NEXT_YEAR = [
+    post("/day/close", {"number": 6, "day": "2012-03-07"}, b""),
+    post("/day/open", {"number": 7, "day": "2013-02-04"}, b""),
+    redeem(2, 13, "2013-02-04", 9, "N5EE"),
+]
+INTEREST = {
+    "2012": (
+        "7,2,5157.88,5025.00,132.88\n8,1,38.34,37.50,0.84\n9,1,25.96,25.00,0.96\n",
+        {"bonds": 4, "paid": "5222.18", "price": "5087.50", "interest": "134.68"},
+    ),
+    "2013": (
+        "9,1,26.80,25.00,1.80\n",
+        {"bonds": 1, "paid": "26.80", "price": "25.00", "interest": "1.80"},
+    ),
+    "2014": ("", {"bonds": 0, "paid": "0.00", "price": "0.00", "interest": "0.00"}),
+}
+
+
+@pytest.fixture(scope="module")
+def years(program: Path, place: Path) -> Path:
+    apply(program, place / "years.db", DAY + NEXT_YEAR)
+    return place / "years.db"
+
+
+@pytest.mark.parametrize("year", INTEREST)
+def test_interest(years: Path, tmp_path: Path, year: str) -> None:
+    ran, found = made(years, tmp_path, "--year", year)
+    lines, sums = INTEREST[year]
+    table = (tmp_path / f"interest-{year}.csv").read_text()
+    assert ran.returncode == 0 and table == f"payee,bonds,paid,price,interest\n{lines}"
+    assert found["interest"] is not None and found["interest"]["sums"] == sums
+    for name in ("SHA256SUMS", "report.html"):
+        assert hashlib.sha256(table.encode()).hexdigest() in (tmp_path / name).read_text()
+
+
+@pytest.mark.parametrize(
+    "statement, is_of_interest",
+    [
+        ("UPDATE paid SET cents = cents + 1 WHERE ticket = 2", True),
+        ("UPDATE batches SET total = total - 1 WHERE total > 0", True),
+        # The sums of a year still agree then; other tests name the row.
+        ("UPDATE tickets SET payee = 9 WHERE ticket = 2", False),
+        ("UPDATE bonds SET denom = 100 WHERE ticket = 2", False),
+    ],
+)
+def test_changed_interest(
+    years: Path, tmp_path: Path, statement: str, is_of_interest: bool
+) -> None:
+    found = differing(
+        made(changed(years, tmp_path / "year.db", statement), tmp_path, "--year", "2012")[1]
+    )
+    assert ("interest" in found) == is_of_interest and len(found) > 1
+
+
+# ---- remarks, and the page
+
+
+@pytest.fixture(scope="module")
+def remarkable(program: Path, place: Path) -> Path:
+    """2026-11-28 is a Saturday, and 2031-06-01 a Sunday."""
+    store, letters = place / "remarks.db", "LKCRDMVX"
+    rates = [{"from": "2010-11", "rate": "0.60"}, {"from": "2011-11", "rate": "0.60"}]
+    denoms = zip((50, 75, 100, 200, 500, 1000, 5000, 10000), letters, strict=True)
+    bonds = [
+        {"serial": f"{letter}{denom}EE", "denom": denom, "issued": "2011-12", "owner": 7}
+        for denom, letter in denoms
+    ]
+    bonds += [{"serial": "M3EE", "denom": 10000, "issued": "2011-02", "owner": 7}]
+    bonds += [{"serial": "L9EE", "denom": 50, "issued": "2012-01", "owner": 7}]
+    messages = [
+        post("/rates", {"number": 1, "rates": rates}, b""),
+        post("/bonds", {"number": 2, "bonds": bonds}, b""),
+    ]
+    for number, of_day in enumerate(("2025-11-27", "2026-11-28", "2026-11-30", "2031-06-01"), 10):
+        messages.append(post("/day/open", {"desk": 1, "number": number, "day": of_day}, b""))
+        messages.append(post("/day/close", {"desk": 2, "number": number, "day": of_day}, b""))
+    assert {status for status, _ in apply(program, store, messages)} == {200}
+    return store
+
+
+def test_remarks(remarkable: Path, tmp_path: Path) -> None:
+    """None of them is a difference."""
+    ran, found = made(remarkable, tmp_path, "--as-of", "2026-11-29")
+    assert ran.returncode == 0 and found["as_of"] == "2026-11-29"
+    assert {
+        kind["name"]: [(one["row"], one["what"]) for one in kind["rows"]]
+        for kind in found["remarks"]
+    } == {
+        "future": [("2026-11-30", "1 days later"), ("2031-06-01", "1645 days later")],
+        "weekend": [("2026-11-28", "a Saturday"), ("2031-06-01", "a Sunday")],
+        "jump": [("2031-06-01", "1644 days after 2026-11-30")],
+        "letter": [("M3EE", "10000 dollars, whose letter is X")],
+        "paper": [("L9EE", "2012-01")],
+    }
+    assert ran.stdout.count("remark: ") == 5 and "Remarks" in (tmp_path / "report.html").read_text()
+    later = made(remarkable, tmp_path, "--as-of", "2031-06-01")[1]
+    assert later["remarks"][0]["count"] == 0
+    run(REPORT, remarkable, "--to", tmp_path).check_returncode()
+    today = json.loads((tmp_path / "report.json").read_text())["as_of"]
+    assert today == time.strftime("%Y-%m-%d"), "without --as-of the clock says it"
+
+
+def no_warning(text: str) -> bool:
+    ran = run("tidy", "-q", "-e", input=text)
+    return ran.returncode == 0 and ran.stderr == ""
+
+
+@pytest.mark.needs("tidy")
+@pytest.mark.parametrize(
+    "store, words", [("day", ""), ("remarkable", ""), ("years", "--year 2012")]
+)
+def test_page(request: pytest.FixtureRequest, tmp_path: Path, store: str, words: str) -> None:
+    """tidy takes it without a warning; it has no script and fetches nothing."""
+    report(request.getfixturevalue(store), tmp_path, *words.split())
+    text = (tmp_path / "report.html").read_text()
+    assert no_warning(text) and "<script" not in text and "http" not in text
+    assert not no_warning(text.replace("</table>", "</tabel>", 1)), "control"
+
+
+@pytest.mark.browser
+@pytest.mark.needs("module:selenium")
+@pytest.mark.parametrize(
+    "width, style", [(1000, ""), (320, ""), (320, "<style>body { width: 999px }</style>")]
+)
+def test_page_fits_the_window(day: Path, tmp_path: Path, width: int, style: str) -> None:
+    """Nothing goes over the edge, on a phone neither. Control: a wide body does."""
+    from selenium import webdriver
+
+    report(day, tmp_path)
+    file = tmp_path / "report.html"
+    file.write_text(file.read_text().replace("</head>", f"{style}</head>"))
+    options = webdriver.ChromeOptions()
+    for word in ("--headless=new", "--no-sandbox", "--disable-dev-shm-usage", "--hide-scrollbars"):
+        options.add_argument(word)
+    driver = webdriver.Chrome(options=options)
+    try:
+        driver.get(f"file://{file}")
+        size = {"width": width, "height": 800, "deviceScaleFactor": 1, "mobile": False}
+        driver.execute_cdp_cmd("Emulation.setDeviceMetricsOverride", size)
+        found = driver.execute_script("return document.documentElement.scrollWidth")
+        assert (found <= width) == (style == ""), found
+    finally:
+        driver.quit()
+
+
+# ---- a store's text on a terminal
+
+ESCAPES = "\x1b[2J\x1b[H19 tests of 804 rows: 0 differing\r\n\x07\x9b1A\u202e\x00"
+HOSTILE = {
+    "a kept reply": ["UPDATE answers SET reply = ? WHERE number = 12"],
+    "a kept act": ["UPDATE answers SET act = ? WHERE number = 12"],
+    "JSON with escapes": ["UPDATE answers SET reply = json_object('opened', ?) WHERE number = 12"],
+    "a table's name": [f'CREATE TABLE "{ESCAPES[:-1]}" (id INTEGER)'],
+    "a rate": [
+        "DROP TABLE rates",
+        "CREATE TABLE rates (period, rate)",
+        "INSERT INTO rates VALUES (?1, ?1)",
+    ],
+    "a batch": [
+        "DROP TABLE batches",
+        "CREATE TABLE batches (day, tickets, bonds, total)",
+        "INSERT INTO batches VALUES (15376, ?1, ?1, ?1)",
+    ],
+    "the version": [
+        "DROP TABLE desk",
+        "CREATE TABLE desk (id, version, day, last_day)",
+        "INSERT INTO desk VALUES (1, ?, NULL, NULL)",
+    ],
+}
+
+
+def is_plain(text: str) -> bool:
+    """Whether a text has only what is printed, and line ends."""
+    return all(one.isprintable() or one == "\n" for one in text)
+
+
+@pytest.mark.parametrize("kind", HOSTILE)
+def test_hostile_texts(day: Path, tmp_path: Path, kind: str) -> None:
+    """A store's text doesn't write on the auditor's terminal or page: by the report, the queries or who_asked."""
+    store = Path(shutil.copy(day, tmp_path / "escapes.db"))
+    with closing(sqlite3.connect(store)) as base:
+        for statement in HOSTILE[kind]:
+            base.execute(statement, (ESCAPES,) if "?" in statement else ())
+        base.commit()
+    ran, _ = made(store, tmp_path / "to", "--year", "2012")
+    files = "".join(
+        (tmp_path / "to" / name).read_text()
+        for name in ("report.html", "report.json", "SHA256SUMS")
+    )
+    assert ran.returncode == 1 and is_plain(ran.stdout + ran.stderr) and is_plain(files)
+    assert kind == "a rate" or "x1b" in files or "u001b" in files, "they are shown as escapes"
+    with open(AUDIT / "replies_of_a_day.sql") as file:
+        words = ["sqlite3", "-readonly", "-cmd", ".parameter set :day 20120307", str(store)]
+        asked = subprocess.run(words, stdin=file, capture_output=True, text=True).stdout
+    assert is_plain(asked + run(AUDIT / "who_asked", store, "/dev/null").stdout)
+    if kind == "a kept reply":
+        unchanged: Callable[[str], str] = lambda value: value
+        with mock.patch.object(making, "visible", unchanged):
+            assert not is_plain(page.page(here(store), {})), "control: a page without escapes"
+
+
+# ---- forgeries
+
+NO_THIRD = "DELETE FROM paid WHERE ticket = 3; DELETE FROM tickets WHERE ticket = 3; UPDATE bonds SET ticket = NULL WHERE ticket = 3; DELETE FROM answers WHERE number = 12"
+#: Changes of several values that agree with one another, and which tests tell them beside the checksums.
+FORGERIES: dict[str, tuple[str, set[str]]] = {
+    "a cent more on a line, its ticket, its batch and both replies": (
+        "UPDATE paid SET cents = 3835 WHERE ticket = 2; UPDATE tickets SET total = 3835 WHERE ticket = 2; UPDATE batches SET total = total + 1; UPDATE answers SET reply = replace(replace(reply, '38.34', '38.35'), '5196.22', '5196.23')",
+        {"values", "replies"},
+    ),
+    "a ticket that no request asked for": (
+        "INSERT INTO tickets VALUES (4, 15406, 9, 1, 2596); INSERT INTO paid VALUES (4, 1, 14, 5, 2596); UPDATE bonds SET ticket = 4 WHERE number = 5",
+        {"told", "books"},
+    ),
+    "a request that is gone, with its ticket of a closed day": (
+        """DELETE FROM paid WHERE ticket = 2; DELETE FROM tickets WHERE ticket = 2; UPDATE bonds SET ticket = NULL WHERE ticket = 2; DELETE FROM answers WHERE desk = 2 AND number = 10; UPDATE batches SET tickets = 1, bonds = 2, total = 515788; UPDATE answers SET reply = '{"bonds":2,"day":"2012-02-06","tickets":1,"total":"5157.88"}' WHERE reply LIKE '{"bonds"%'""",
+        {"tickets", "texts", "replies", "books"},
+    ),
+    "a payee who isn't named on the bond, in all that names the payee": (
+        """UPDATE tickets SET payee = 77 WHERE ticket = 3; UPDATE answers SET act = replace(act, '"payee":9', '"payee":77'), reply = replace(reply, '"payee":9', '"payee":77') WHERE number = 12""",
+        {"payees", "replies"},
+    ),
+    # Books don't depend on a desk; an archive tells, and an earlier report (test_damaged_books.py).
+    "another desk": ("UPDATE answers SET desk = 9 WHERE desk = 2 AND number = 10", set()),
+    "another owner, in the register and in its request": (
+        """UPDATE bonds SET owner = 10 WHERE number = 5; UPDATE answers SET act = replace(act, '"owner":9,"serial":"N5EE"', '"owner":10,"serial":"N5EE"')""",
+        set(),
+    ),
+    "the last request gone with all that it did": (NO_THIRD, set()),
+}
+
+
+@pytest.mark.parametrize("kind", FORGERIES)
+def test_forgery(day: Path, folder: Path, kind: str) -> None:
+    statements, wanted = FORGERIES[kind]
+    found = differing(here(changed(day, folder / "forged.db", statements)))
+    assert set(found) == wanted | {"checksums"}

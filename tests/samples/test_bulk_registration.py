@@ -1,0 +1,327 @@
+"""Registration in bulk by the client's command, as samples/bulk has it: each bond is entered once, and nothing else is taken for done."""
+
+from __future__ import annotations
+
+import csv
+import http.server
+import json
+import subprocess
+import sys
+import threading
+import time
+from contextlib import contextmanager
+from pathlib import Path
+from typing import Callable, Iterator
+
+import pytest
+from ee_counter_client.testing import Gate
+
+from tests.conftest import TOP
+from tests.shared.counter_calls import RATES, apply, free_port, post, rows, serve, served, wait_for
+
+FIRST, LAST = 20260206001, 2**63 - 1
+HEADER = "serial,denom,issued,owner,coowner"
+REFUSED = "the proxy got no certificate of the staff"
+KILLS = 8
+ISSUED = "printf('%04d-%02d', 2005 + (issued + 4) / 12, (issued + 4) % 12 + 1)"
+ALL = f"SELECT char(64 + letter) || number || 'EE', denom, {ISSUED}, owner, coowner FROM bonds"
+
+
+def line(n: int) -> str:
+    denom, coowner = (50, 75, 100, 10000)[n % 4], n // 10 + 2 if n % 3 == 0 else ""
+    return f"{chr(65 + n % 26)}{n}EE,{denom},2010-{5 + n % 8:02},{n // 10 + 1},{coowner}"
+
+
+def make_file(path: Path, lines: list[str]) -> Path:
+    path.write_text("\n".join([HEADER, *lines, ""]))
+    return path
+
+
+def make_store(program: Path, path: Path) -> Path:
+    """A store with rates alone."""
+    assert apply(program, path, [post("/rates", {"number": 1, "rates": RATES}, b"")])[0][0] == 200
+    return path
+
+
+@pytest.fixture
+def store(program: Path, folder: Path) -> Path:
+    return make_store(program, folder / "day.db")
+
+
+@pytest.fixture
+def journal(folder: Path) -> Path:
+    return make_journal(folder / "journal", FIRST)
+
+
+def make_journal(path: Path, number: int) -> Path:
+    """A journal of desk 3, whose next number is this one."""
+    path.write_text(
+        json.dumps({"desk": 3, "next": number, "open": None, "last": None, "bookmark": None})
+    )
+    return path
+
+
+def words_for(journal: Path, port: int, file: Path, *more: str) -> list[str]:
+    command = [sys.executable, "-B", str(TOP / "clients/counter.py"), "--journal", str(journal)]
+    at = ["--desk", "3", "--at", f"http://127.0.0.1:{port}"]
+    return [*command, *at, *more, "register", "--even-so", str(file)]
+
+
+@contextmanager
+def started(journal: Path, port: int, file: Path) -> Iterator[subprocess.Popen[str]]:
+    """The client as it registers a file. It is killed at the end, if it still runs."""
+    words = words_for(journal, port, file)
+    client = subprocess.Popen(words, stdout=subprocess.PIPE, stderr=subprocess.STDOUT, text=True)
+    try:
+        yield client
+    finally:
+        client.kill()
+        client.communicate()
+
+
+def register(journal: Path, port: int, file: Path, *more: str) -> tuple[int, str]:
+    """The status, and all that was printed."""
+    ran = subprocess.run(
+        words_for(journal, port, file, *more),
+        stdout=subprocess.PIPE,
+        stderr=subprocess.STDOUT,
+        text=True,
+        timeout=1800,
+    )
+    return ran.returncode, ran.stdout
+
+
+def counts(ended: tuple[int, str]) -> tuple[int, int, int]:
+    """What a registration that is done says of the bonds: new, the same, and before."""
+    assert ended[0] == 0, ended
+    found = json.loads(ended[1].strip().splitlines()[-1])
+    return found["new"], found["same"], found["before"]
+
+
+def fault_of(store: Path, file: Path, first: int = FIRST) -> str | None:
+    """How the books differ from the file, or the numbers of desk 3 from those of its requests. None if all fits."""
+    with open(file, newline="") as text:
+        lines = list(csv.reader(text))[1:]
+    wanted = sorted((one[0], int(one[1]), one[2], int(one[3]), int(one[4] or 0)) for one in lines)
+    found = sorted((*row[:4], row[4] or 0) for row in rows(store, ALL))
+    if found != wanted:
+        return f"{len(found)} bonds for {len(wanted)}"
+    sizes = [min(500, len(wanted) - at) for at in range(0, len(wanted), 500)]
+    replies = rows(store, "SELECT number, reply FROM answers WHERE desk = 3 ORDER BY number")
+    if replies != [(first + at, f'{{"new":{size},"same":0}}') for at, size in enumerate(sizes)]:
+        return f"desk 3 has the replies {replies[:3]} .. {replies[-1:]}"
+    return None if rows(store, "PRAGMA integrity_check") == [("ok",)] else "not whole"
+
+
+# ---- the file, in peace and under kills
+
+counts_of_bonds = pytest.mark.parametrize(
+    "bonds", [5000, pytest.param(100_000, marks=pytest.mark.slow)]
+)
+
+
+@counts_of_bonds
+def test_in_peace(program: Path, store: Path, journal: Path, folder: Path, bonds: int) -> None:
+    """Run again it sends nothing; with another journal the counter has each bond already."""
+    lines = [line(n) for n in range(1, bonds + 1)]
+    file = make_file(folder / "bonds.csv", lines)
+    with served(program, store) as port:
+        assert counts(register(journal, port, file)) == (bonds, 0, 0)
+        assert counts(register(journal, port, file)) == (0, 0, bonds)
+    assert fault_of(store, file) is None
+    other = make_file(folder / "other.csv", [lines[0].replace(",1,", ",77,"), *lines[1:]])
+    assert fault_of(store, make_file(folder / "less.csv", lines[:-1])), "control: a bond less"
+    assert fault_of(store, other), "control: another owner"
+    assert fault_of(store, file, 2**31 - 1), "control: another first number"
+    with served(program, store) as port:
+        later = make_journal(folder / "later", FIRST + bonds // 500)
+        assert counts(register(later, port, file)) == (0, bonds, 0)
+
+
+def number_in(journal: Path) -> int:
+    """The next number of a journal: how far the client is."""
+    return int(json.loads(journal.read_text())["next"])
+
+
+def has_risen(journal: Path, count: int, ends: Callable[[], bool]) -> bool:
+    """Waits until the next number has risen by `count`, and then for a moment that differs. False once `ends` says so."""
+    wanted = number_in(journal) + count
+    while not ends():
+        if number_in(journal) >= wanted:
+            time.sleep(wanted * 7 % 11 / 500)
+            return True
+        time.sleep(0.002)
+    return False
+
+
+@counts_of_bonds
+def test_under_kills(program: Path, store: Path, journal: Path, folder: Path, bonds: int) -> None:
+    """The server and the client are killed at different places of the file, each while requests are sent."""
+    file, port = (
+        make_file(folder / "bonds.csv", [line(n) for n in range(1, bonds + 1)]),
+        free_port(),
+    )
+    requests, kills, stops, is_over = bonds // 500, 0, 0, False
+    server = serve(program, store, port)
+    wait_for(port)
+
+    def kill_now_and_then() -> None:
+        nonlocal server, kills
+        while kills < KILLS and has_risen(journal, max(1, requests // 12), lambda: is_over):
+            server.kill()
+            server.wait()
+            kills += 1
+            server = serve(program, store, port)
+
+    killing = threading.Thread(target=kill_now_and_then)
+    killing.start()
+    for _ in range(4):
+        with started(journal, port, file) as client:
+            stops += has_risen(journal, max(1, requests // 7), lambda: client.poll() is not None)
+    ended = register(journal, port, file)
+    is_over = True
+    killing.join()
+    server.kill()
+    server.wait()
+    new, same, before = counts(ended)
+    assert same == 0 and new + before == bonds and before > 0
+    assert stops == 4 and kills >= KILLS // 2, (stops, kills)
+    assert fault_of(store, file) is None
+
+
+def test_control_one_number_for_all(program: Path, store: Path) -> None:
+    """Of four requests under one number, as awk may print it for each above 2,147,483,647, one is entered."""
+    bonds = [
+        {"serial": f"A{n}EE", "denom": 50, "issued": "2010-11", "owner": 7} for n in range(1, 2001)
+    ]
+    parts = [bonds[at : at + 500] for at in range(0, 2000, 500)]
+    sent = [
+        post("/bonds", {"desk": 3, "number": 2**31 - 1, "bonds": part}, b"") for part in parts
+    ]
+    assert [status for status, _ in apply(program, store, sent)] == [200, 409, 409, 409]
+    assert len(rows(store, ALL)) == 500
+
+
+# ---- what mustn't be taken for done
+
+
+def test_last_numbers(program: Path, store: Path, folder: Path) -> None:
+    """Numbers end at 2^63 - 1. A registration that needs more ends, and says so; with other numbers the rest is entered."""
+    lines = [line(n) for n in range(1, 2501)]
+    file, four = make_file(folder / "all.csv", lines), make_file(folder / "four.csv", lines[:2000])
+    with served(program, store) as port:
+        status, said = register(make_journal(folder / "last", LAST - 3), port, file)
+        assert status == 3 and "desk 3 has no numbers left" in said, said
+    assert fault_of(store, four, LAST - 3) is None
+    with served(program, store) as port:
+        assert counts(register(make_journal(folder / "first", 1), port, file)) == (500, 2000, 0)
+
+
+def test_no_certificate(program: Path, store: Path, journal: Path, folder: Path) -> None:
+    """Without a valid certificate, from the start or midway, it ends after one sending; with the right one it continues."""
+    file = make_file(folder / "bonds.csv", [line(n) for n in range(1, 20_001)])
+    with served(program, store) as port, Gate(port) as gate:
+        gate.is_wide, gate.faults = True, ["no certificate"] * 1000
+        status, said = register(journal, gate.port, file)
+        assert status == 3 and REFUSED in said and len(gate.met) == 1, said
+        gate.is_wide, gate.faults, before = False, [], len(gate.bodies)
+        with started(journal, gate.port, file) as client:
+            while len(gate.bodies) < before + 3 and client.poll() is None:
+                time.sleep(0.001)
+            gate.faults, gate.met = ["no certificate"] * 1000, []
+            assert client.stdout is not None
+            said = client.stdout.read()
+            assert client.wait(timeout=60) == 3 and REFUSED in said and len(gate.met) == 1, said
+        gate.faults = []
+        new, same, before = counts(register(journal, gate.port, file))
+        assert before >= 500 and same == 0 and new + before == 20_000
+    assert fault_of(store, file) is None
+
+
+def test_refused_row(program: Path, store: Path, journal: Path, folder: Path) -> None:
+    """It is named with its line and the counter's words, and sent once. With the row corrected the rest is entered."""
+    lines = [line(n) for n in range(1, 1801)]
+    wrong = [*lines[:10], "", *lines[10:1200], lines[1200].replace("2010-", "2011-"), *lines[1201:]]
+    serial = lines[1200].split(",")[0]
+    with served(program, store) as port, Gate(port) as gate:
+        status, said = register(journal, gate.port, make_file(folder / "rows.csv", wrong))
+        assert status == 1 and f'{{"code":30,"refused":"NoRate","serial":"{serial}"}}' in said, said
+        place = f"serial {serial}, line 1203 of the file; with it rows 1002 to 1501"
+        assert f"NoRate (code 30), {place}" in said and len(gate.bodies) == 3, said
+        again = register(journal, gate.port, make_file(folder / "rows.csv", lines))
+        assert counts(again) == (800, 0, 1000)
+        other = make_file(folder / "other.csv", [*lines[:2], lines[2].replace(",10000,", ",50,")])
+        status, said = register(make_journal(folder / "other", FIRST + 100), gate.port, other)
+        assert status == 1 and '"refused":"SerialConflict"' in said and "line 4 of" in said, said
+
+
+@pytest.mark.parametrize(
+    "text, said",
+    [
+        ("serial,denom\n", f"row 1: the header isn't {HEADER}"),
+        (f"{HEADER}\nA1EE,50,2010-05,7\n", "row 2: it has 4 fields, and not 5"),
+        (f"{HEADER}\nA1EE,50,2010-05,7,\nA2EE,60,2010-05,7,\n", "row 3: '60' is no denomination"),
+        (f"{HEADER}\nA1EE,50,2010-13,7,\n", "row 2: '2010-13' is no month"),
+        (
+            f"{HEADER}\nA1EE,50,2010-05,7,\nA-1-EE,50,2010-05,7,\n",
+            "row 3: A1EE stands in row 2 already",
+        ),
+    ],
+)
+def test_unreadable_row(journal: Path, tmp_path: Path, text: str, said: str) -> None:
+    """It is named before anything is sent."""
+    (tmp_path / "bad.csv").write_text(text)
+    with Gate(free_port()) as gate:
+        status, found = register(journal, gate.port, tmp_path / "bad.csv")
+        assert status == 2 and found.strip().splitlines()[-1].startswith(said) and gate.heads == []
+
+
+@contextmanager
+def web_server(answer: Callable[[str, bytes], str]) -> Iterator[int]:
+    """Something that isn't the counter: `answer` gives the body of the 200 to a method and a body."""
+
+    class Handler(http.server.BaseHTTPRequestHandler):
+        def do_GET(self) -> None:
+            sent = self.rfile.read(int(self.headers.get("Content-Length", 0)))
+            body = answer(self.command, sent).encode()
+            self.send_response(200)
+            self.send_header("Content-Length", str(len(body)))
+            self.end_headers()
+            self.wfile.write(body)
+
+        do_POST = do_GET
+
+        def log_message(self, *_: object) -> None:
+            pass
+
+    with http.server.ThreadingHTTPServer(("127.0.0.1", 0), Handler) as server:
+        threading.Thread(target=server.serve_forever, daemon=True).start()
+        yield server.server_address[1]
+        server.shutdown()
+
+
+@pytest.mark.parametrize("body", ["<html>OK</html>", "", '{"status":"ok"}'])
+def test_web_server(journal: Path, tmp_path: Path, body: str) -> None:
+    """One that answers everything with 200 is no counter."""
+    file = make_file(tmp_path / "bonds.csv", [line(n) for n in range(1, 1001)])
+    with web_server(lambda *_: body) as port:
+        status, said = register(journal, port, file)
+    assert status == 3 and "that isn't the counter's" in said and "new" not in said, said
+
+
+@pytest.mark.parametrize("more", [-1, -500, 1, 0])
+def test_counts_that_do_not_fit(journal: Path, tmp_path: Path, more: int) -> None:
+    """A reply that counts other bonds than were sent is no reply. Control: with the right counts it is done."""
+    file = make_file(tmp_path / "bonds.csv", [line(n) for n in range(1, 1001)])
+
+    def answer(method: str, body: bytes) -> str:
+        if method == "GET":
+            return '{"bonds":0,"day":"2005-05-01","tickets":0,"total":"0.00"}'
+        return f'{{"new":{len(json.loads(body)["bonds"]) + more},"same":0}}'
+
+    with web_server(answer) as port:
+        ended = register(journal, port, file, "--patience", "2")
+    if more:
+        assert ended[0] == 3 and "no reply within 2 seconds" in ended[1], ended
+    else:
+        assert counts(ended) == (1000, 0, 0)

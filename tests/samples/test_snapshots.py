@@ -1,0 +1,220 @@
+"""Copies of a store while it is served: snapshots of btrfs, what samples/snapshots/snapshot_copy sends and keeps, samples/copy_store on each file system, and copies of both files at a stop."""
+
+from __future__ import annotations
+
+import os
+import random
+import shutil
+import signal
+import subprocess
+import time
+from pathlib import Path
+from typing import Iterator
+
+import pytest
+
+from tests.conftest import TOP
+from tests.restore.counter_day import Ran, run
+from tests.samples.books import forget, script
+from tests.samples.conftest import Mount
+from tests.samples.load import Busy, copied
+from tests.shared.counter_calls import Name, replaced
+
+SNAPSHOT_COPY, COPY_STORE = TOP / "samples/snapshots/snapshot_copy", TOP / "samples/copy_store"
+SNAPSHOTS, BONDS = 30, 8000
+pytestmark = [pytest.mark.root, pytest.mark.needs("file:/dev/loop-control")]
+btrfs = pytest.mark.needs("mkfs.btrfs")
+
+
+class Disks:
+    """A file system with the store's subvolume and the snapshots, and a second one for the copies."""
+
+    def __init__(self, program: Path, mount: Mount) -> None:
+        self.program, books, self.copies = (
+            program,
+            mount("btrfs", "books"),
+            mount("btrfs", "copies"),
+        )
+        self.store, self.snapshots = books / "store", books / "snapshots"
+        subprocess.run(["btrfs", "-q", "subvolume", "create", self.store], check=True)
+        self.snapshots.mkdir()
+
+    def copy(
+        self,
+        *before: object,
+        by: Path = SNAPSHOT_COPY,
+        to: Path | None = None,
+        program: object = None,
+    ) -> Ran:
+        """The sample, which keeps two copies."""
+        words = [self.store, self.snapshots, to or self.copies, "2", program or self.program]
+        return run(*before, by, *words)
+
+    def names(self) -> tuple[set[str], set[str]]:
+        return set(os.listdir(self.snapshots)), set(os.listdir(self.copies))
+
+    def kept(self) -> list[list[str]]:
+        """The snapshots and the copies, by their names."""
+        return [sorted(name for name in names if name[0] == "2") for names in self.names()]
+
+
+@pytest.fixture(scope="module")
+def disks(program: Path, mount: Mount) -> Disks:
+    return Disks(program, mount)
+
+
+@pytest.fixture(scope="module")
+def busy(disks: Disks) -> Iterator[Busy]:
+    made = Busy(disks.program, disks.store / "day.db", BONDS)
+    yield made
+    made.stop()
+
+
+def while_clients_redeem(busy: Busy, seconds: float) -> dict[Name, str]:
+    """What is acknowledged after this time; the clients go on."""
+    busy.load.start()
+    time.sleep(seconds)
+    return dict(busy.load.replies)
+
+
+@btrfs
+@pytest.mark.slow
+def test_snapshots(busy: Busy, disks: Disks, dice: random.Random, folder: Path) -> None:
+    """Each opens with all that was acknowledged before it, and answers a retry of all requests rightly."""
+    taken: list[dict[Name, str]] = []
+    busy.load.start()
+    for nth in range(SNAPSHOTS):
+        time.sleep(dice.uniform(0.02, 0.35))
+        taken.append(dict(busy.load.replies))
+        to = disks.snapshots / f"random-{nth}"
+        run("btrfs", "subvolume", "snapshot", "-r", disks.store, to).check_returncode()
+    assert busy.load.turn < BONDS, "the clients still redeem"
+    busy.load.stop()
+    for nth, acknowledged in enumerate(taken[1:], 1):
+        copy = copied(disks.snapshots / f"random-{nth}" / "day.db", folder / str(nth))
+        busy.is_right(copy, acknowledged)
+        shutil.rmtree(copy.parent)
+    assert len({len(acknowledged) for acknowledged in taken}) > SNAPSHOTS // 2
+
+
+@btrfs
+def test_sent(busy: Busy, disks: Disks, folder: Path) -> None:
+    """Three nightly copies while clients redeem, of which two are kept."""
+    for night in range(3):
+        acknowledged = while_clients_redeem(busy, 1)
+        ran = disks.copy()
+        busy.load.stop()
+        assert ran.returncode == 0, ran
+        name = ran.stdout.split(": ")[0]
+        busy.is_right(copied(disks.copies / name / "day.db", folder / str(night)), acknowledged)
+    assert [len(names) for names in disks.kept()] == [2, 2]
+
+
+@btrfs
+def test_refused_copies(busy: Busy, disks: Disks) -> None:
+    """What can't be copied is told, no copy is deleted, and no snapshot stays on the store's disk."""
+    before = disks.names()
+    assert disks.copy(to=disks.copies / "none").returncode == 1 and disks.names() == before
+    ran = disks.copy(program="/bin/false")
+    (more,) = disks.names()[1] - before[1]
+    assert ran.returncode == 1 and more.startswith("refused-") and before[1] < disks.names()[1]
+    assert disks.names()[0] == before[0]
+
+
+@btrfs
+@pytest.mark.needs("faketime")
+def test_clock_set_back(busy: Busy, disks: Disks, folder: Path) -> None:
+    """A new copy is kept although its name is the oldest one, and the copy that was made first goes."""
+    for _ in range(2):
+        assert disks.copy().returncode == 0
+    newest = disks.kept()[1][-1]
+    assert disks.copy("faketime", "2001-02-03 04:05:06").returncode == 0
+    assert [[name[:4] for name in kept] for kept in disks.kept()] == [["2001", newest[:4]]] * 2
+    assert [kept[-1] for kept in disks.kept()] == [newest] * 2
+    assert disks.copy().returncode == 0
+    kept = disks.kept()[1]
+    assert len(kept) == 2 and kept[0].startswith("2001") and kept[1] != newest
+    by_names = replaced(SNAPSHOT_COPY.read_text(), [("| sort -n |", "| sort -k 2 |")])
+    ran = disks.copy("faketime", "2000-02-03 04:05:06", by=script(folder / "by_names", by_names))
+    assert ran.returncode == 0 and "arrived and opened" in ran.stdout
+    assert disks.kept()[1] == kept, "control: a script that goes by names has deleted the new one"
+
+
+@btrfs
+def test_killed_copies(busy: Busy, disks: Disks, folder: Path) -> None:
+    """A stopped copy leaves nothing; a killed one nothing that has a copy's name, and the next one removes what it left."""
+    waits, before = script(folder / "waits", "#!/bin/sh\nexec sleep 600\n"), disks.names()
+    for by, wanted in ((signal.SIGTERM, []), (signal.SIGKILL, ["opened-", "part-", "part-"])):
+        words: list[str | Path] = [SNAPSHOT_COPY, disks.store, disks.snapshots, disks.copies]
+        process = subprocess.Popen([*words, "2", waits], start_new_session=True)
+        for _ in range(600):
+            if any(name.startswith("opened-") for name in os.listdir(disks.copies)):
+                break
+            time.sleep(0.05)
+        time.sleep(0.3)
+        assert process.poll() is None, "it opens the copy"
+        os.killpg(process.pid, by)
+        process.wait()
+        left = [now - then for now, then in zip(disks.names(), before)]
+        assert sorted(name.split("2")[0] for names in left for name in names) == wanted
+    assert disks.copy().returncode == 0
+    names = set.union(*disks.names())
+    assert not [name for name in names if name.startswith(("part-", "opened-"))]
+
+
+@btrfs
+def test_gone_back(busy: Busy, disks: Disks) -> None:
+    """The store is lost, and the last copy takes its place."""
+    acknowledged = while_clients_redeem(busy, 0.5)
+    ran = disks.copy()
+    busy.load.stop()
+    assert ran.returncode == 0, ran
+    busy.stop()
+    forget(busy.path)
+    for name in ("day.db", "day.db-wal"):
+        shutil.copy(disks.copies / ran.stdout.split(": ")[0] / name, disks.store)
+    busy.start()
+    answers = [busy.ask(busy.load.requests[name]) for name in acknowledged]
+    assert answers == [(200, reply) for reply in acknowledged.values()]
+    busy.stop()
+    busy.is_right(busy.path, acknowledged)
+    busy.start()
+
+
+@pytest.mark.parametrize("kind", ["ext4", "xfs", "btrfs", "tmpfs"])
+def test_copy_store(
+    program: Path, mount: Mount, dice: random.Random, folder: Path, kind: str
+) -> None:
+    """Copies while clients redeem, on each file system that the script takes."""
+    if kind != "tmpfs" and shutil.which(f"mkfs.{kind}") is None:
+        pytest.skip(f"needs mkfs.{kind}")
+    disk = mount(kind, f"copied-{kind}")
+    busy = Busy(program, disk / "day.db", BONDS, pause=0.01 if kind == "tmpfs" else 0)
+    taken: list[dict[Name, str]] = []
+    try:
+        busy.load.start()
+        while len(taken) < 8 and busy.load.turn < BONDS * 3 // 4:
+            time.sleep(dice.uniform(0.05, 0.2))
+            taken.append(dict(busy.load.replies))
+            ran = run(COPY_STORE, busy.path, folder / str(len(taken)), program)
+            assert ran.returncode == 0, ran
+        assert busy.load.turn < BONDS and len(taken) >= 4
+        busy.load.stop()
+    finally:
+        busy.stop()
+    for nth, acknowledged in enumerate(taken, 1):
+        busy.is_right(folder / str(nth) / "day.db", acknowledged)
+
+
+def test_copies_at_a_stop(program: Path, folder: Path) -> None:
+    """Where there are no snapshots: stop, copy both files, start, while clients ask on."""
+    busy = Busy(program, folder / "day.db", BONDS, pause=0.005)
+    for nth in range(3):
+        acknowledged = while_clients_redeem(busy, 0.5)
+        busy.stop()
+        copy = copied(busy.path, folder / str(nth))
+        busy.start()
+        time.sleep(0.2)
+        busy.load.stop()
+        busy.is_right(copy, acknowledged)
+    busy.stop()

@@ -1,0 +1,375 @@
+"""The units of samples/systemd and samples/restore on a machine, set up by the commands of their pages, with the disks of samples/snapshots. That nobody takes the counter's place there is in tests/fence/test_units.py."""
+
+from __future__ import annotations
+
+import re
+import shutil
+import threading
+import time
+from pathlib import Path
+from typing import Iterator
+
+import pytest
+
+from tests.conftest import TOP
+from tests.fence.conftest import Machine, MakeMachine
+from tests.restore.counter_day import run
+from tests.samples.load import copied
+from tests.shared.counter_calls import (
+    Answer,
+    Load,
+    apply,
+    ask,
+    beginning,
+    bond,
+    day_text,
+    get,
+    post,
+    sql,
+)
+
+pytestmark = [
+    pytest.mark.root,
+    pytest.mark.machine,
+    pytest.mark.slow,
+    pytest.mark.needs("mkfs.btrfs", "sqlite3", "file:/dev/loop-control"),
+]
+STORE, BONDS = "/var/lib/counter/day.db", 6000
+UNITS = "/etc/systemd/system"
+
+
+def page(name: str, nth: int) -> str:
+    """One block of a page of samples."""
+    return (TOP / f"samples/{name}/README.md").read_text().split("```\n")[2 * nth + 1]
+
+
+class Bank:
+    """A machine that was set up by the pages, with a store and clients."""
+
+    def __init__(self, program: Path, machine: Machine) -> None:
+        self.machine = machine
+        shutil.copy(program, machine.path("/root/ee_cli"))
+        shutil.copytree(TOP / "samples", machine.path("/root/samples"))
+        machine.shell("mkdir -p /srv/archive /srv/requests")
+        machine.shell(page("systemd", 0))
+        self.load = Load(self.ask, BONDS, 4)
+
+    def ask(
+        self, message: bytes, patience: float = 60, at: str = "/run/counter-http.sock"
+    ) -> Answer | None:
+        """The answer over the counter's socket, as root."""
+        return ask(self.machine.path(at), message, patience)
+
+    def wait_until_served(self) -> None:
+        for _ in range(600):
+            if self.ask(get("/ticket/1")) is not None:
+                return
+            time.sleep(0.1)
+        raise AssertionError(
+            self.machine.on("systemctl", "status", "--no-pager", "counter.service").stdout
+        )
+
+    def is_active(self, unit: str = "counter.service", seconds: int = 60) -> bool:
+        return self.machine.wait(unit, "ActiveState", "active", seconds)
+
+    def journal(self, *words: str) -> str:
+        return self.machine.on("journalctl", "-q", "-o", "cat", *words).stdout
+
+    def gives_all_replies_again(self) -> None:
+        names = self.load.in_order()
+        wanted = [(200, self.load.replies[name]) for name in names]
+        assert [self.ask(self.load.requests[name]) for name in names] == wanted != []
+
+    def ends_for_good(self, said: str) -> None:
+        """The unit is started, fails with a final status, isn't started again, and somebody is called with the reason."""
+        m = self.machine
+        m.shell(
+            "journalctl --rotate; journalctl --vacuum-time=1s; systemctl reset-failed counter.service"
+        )
+        m.on("systemctl", "start", "--no-block", "counter.service")
+        assert m.wait("counter.service", "ActiveState", "failed", 60), self.journal(
+            "-u", "counter.service"
+        )
+        restarts = m.shown("counter.service", "NRestarts")
+        time.sleep(4)
+        names = ("ActiveState", "ExecMainStatus", "NRestarts")
+        assert [m.shown("counter.service", name) for name in names] == ["failed", "4", restarts]
+        assert said in self.journal("-u", "counter.service")
+        called = self.journal("-t", "counter", "-p", "alert")
+        assert "counter.service has failed and is not started again" in called
+        assert said in called.splitlines()[0]
+
+
+@pytest.fixture(scope="module")
+def machine(machines: MakeMachine, place: Path) -> Iterator[Machine]:
+    """One disk with the subvolume of the store and the snapshots, and one for the copies."""
+    made, devices = machines(), []
+    for name, at in (("books", "/srv/counter"), ("copies", "/srv/copies")):
+        with open(place / name, "w") as file:
+            file.truncate(512 << 20)
+        run("mkfs.btrfs", "-q", place / name).check_returncode()
+        device = run("losetup", "--find", "--show", place / name).stdout.strip()
+        devices.append(device)
+        nth = device.removeprefix("/dev/loop")
+        made.shell(f"mknod -m 660 {device} b 7 {nth}; mkdir -p {at}; mount {device} {at}")
+    made.shell(
+        f"btrfs -q subvolume create /srv/counter/store; mkdir /srv/counter/snapshots /var/lib/counter; mount -o subvol=store {devices[0]} /var/lib/counter"
+    )
+    yield made
+    made.end()
+    for device in devices:
+        run("losetup", "-d", device)
+
+
+@pytest.fixture(scope="module")
+def begun(program: Path, machine: Machine) -> Bank:
+    """The first day by the page, with the rates of samples/."""
+    return Bank(program, machine)
+
+
+@pytest.fixture(scope="module")
+def bank(begun: Bank) -> Bank:
+    """The same with a store of many bonds, which the counter's user made, and the archive of samples/restore."""
+    m = begun.machine
+    m.shell(f"systemctl stop counter.service; rm {STORE} {STORE}-wal")
+    Path(m.path("/tmp/first")).write_bytes(b"".join(beginning(BONDS)))
+    as_counter = "setpriv --reuid counter --regid counter --clear-groups"
+    said = m.shell(f"{as_counter} /opt/counter/ee_cli apply --db {STORE} < /tmp/first")
+    assert said.count("HTTP/1.1 200 OK") == 1 + BONDS // 500
+    m.shell("systemctl start counter.service")
+    m.shell(page("restore", 0))
+    begun.wait_until_served()
+    return begun
+
+
+def test_first_day(begun: Bank) -> None:
+    """The counter serves at the rates of samples/, as its user, without a capability, with its filter of system calls."""
+    m = begun.machine
+    begun.wait_until_served()
+    answer = begun.ask(get("/value/50/2010-11/2012-02"))
+    assert answer is not None and '"value":"25.16"' in answer[1]
+    enabled = m.on("systemctl", "is-enabled", "counter.service", "counter-copy.timer")
+    assert enabled.stdout.split() == ["enabled", "enabled"]
+    process = m.shown("counter.service", "MainPID")
+    state = m.on(
+        "grep", "-E", "^(NoNewPrivs|Seccomp|CapBnd|CapEff):", f"/proc/{process}/status"
+    ).stdout
+    found = dict(line.split(":\t") for line in state.splitlines())
+    assert found == {"CapEff": "0" * 16, "CapBnd": "0" * 16, "NoNewPrivs": "1", "Seccomp": "2"}
+    assert m.shell("stat -c '%U %a' /var/lib/counter").strip() == "counter 700"
+    assert m.shown("counter-copy.timer", "NextElapseUSecRealtime").endswith("02:30:00 UTC")
+
+
+def test_without_a_store(begun: Bank) -> None:
+    """It isn't begun, and no store is made."""
+    m = begun.machine
+    m.shell(f"systemctl stop counter.service; mkdir kept; mv {STORE}* kept/")
+    begun.ends_for_good(f"{STORE} is missing")
+    assert "day.db" not in m.shell("ls /var/lib/counter")
+    m.shell(
+        "mv kept/* /var/lib/counter/; rmdir kept; systemctl reset-failed; systemctl start counter.service"
+    )
+
+
+def test_killed_and_copied(bank: Bank) -> None:
+    """Killed while clients redeem, it answers again; the copy's unit copies; and each request has its reply."""
+    m, times = bank.machine, []
+    bank.load.start()
+    for turn in range(8):
+        time.sleep(0.5)
+        before = m.shown("counter.service", "MainPID")
+        m.on("systemctl", "kill", f"--signal={'KILL' if turn % 2 else 'TERM'}", "counter.service")
+        begun = time.time()
+        while bank.ask(get("/ticket/1"), 1) is None or m.shown("counter.service", "MainPID") in (
+            before,
+            "0",
+        ):
+            assert time.time() < begun + 60
+            time.sleep(0.02)
+        times.append(time.time() - begun)
+    for _ in range(2):
+        m.shell("systemctl start counter-copy.service")
+    bank.load.stop()
+    assert int(m.shell("ls -d /srv/copies/2* | wc -l")) == 2 and len(times) == 8
+    bank.gives_all_replies_again()
+
+
+def test_archived(bank: Bank) -> None:
+    """The guard says what it compared, and the archive grows while clients redeem."""
+    compared = "guard: /srv/archive/counter ends with row"
+    assert compared in bank.journal("-t", "serve_guarded", "-t", "guard", "-u", "counter.service")
+    bank.load.start()
+    time.sleep(12)
+    bank.machine.shell("systemctl start counter-archive-check.service")
+    bank.load.stop()
+    said = bank.journal("-u", "counter-archive-check.service")
+    found = re.findall(r"(\d+) lines are right, up to row (\d+)", said)
+    assert found and int(found[-1][0]) > 100, said
+
+
+def test_taken_back(bank: Bank) -> None:
+    """A store of an earlier moment isn't served; restored from the archive it is, with each reply."""
+    m = bank.machine
+    m.shell("systemctl stop counter.service; sleep 12; systemctl stop counter-archive.service")
+    m.shell(f"mkdir lost; mv {STORE}* lost/; cp /srv/archive/counter/first.db {STORE}")
+    m.shell(f"cp /srv/archive/counter/first.db-wal {STORE}-wal; chown counter:counter {STORE}*")
+    bank.ends_for_good("that were done are missing")
+    m.shell("/opt/counter/restore/counter-restore --yes")
+    m.shell("systemctl start counter.service counter-archive.service")
+    bank.wait_until_served()
+    bank.gives_all_replies_again()
+
+
+@pytest.fixture
+def other(bank: Bank) -> Iterator[Machine]:
+    """The machine with the store kept apart, without its archives."""
+    m, drop_ins = bank.machine, f"{UNITS}/counter.service.d"
+    m.shell("systemctl stop counter.service counter-archive.service; mkdir good")
+    m.shell(f"mv {STORE}* good/; mv {drop_ins}/archives.conf /root/; systemctl daemon-reload")
+    yield m
+    m.shell(
+        f"systemctl stop counter.service; rm -f {STORE}*; mv good/day.db* /var/lib/counter/; rmdir good"
+    )
+    m.shell(f"mv /root/archives.conf {drop_ins}/; systemctl daemon-reload; systemctl reset-failed")
+    m.shell("systemctl start counter-archive.service counter.service")
+    bank.gives_all_replies_again()
+
+
+def put_store(program: Path, folder: Path, machine: Machine, statement: str) -> None:
+    """A store without checksums that SQLite changed."""
+    store = folder / "day.db"
+    sql(store, "PRAGMA page_size = 1024; VACUUM")
+    apply(program, store, beginning(1))
+    sql(copied(store, folder / "changed"), f"PRAGMA wal_checkpoint; {statement}")
+    shutil.copy(folder / "changed/day.db", machine.path(STORE))
+    machine.shell(f"chown counter:counter {STORE}")
+
+
+ENDS = {
+    "store: Unusable": "CREATE INDEX more ON paid (cents)",
+    "store: WrongVersion": "UPDATE desk SET version = 3",
+}
+
+
+@pytest.mark.parametrize("said", ENDS)
+def test_ends_for_good(bank: Bank, other: Machine, program: Path, folder: Path, said: str) -> None:
+    put_store(program, folder, other, ENDS[said])
+    bank.ends_for_good(said)
+
+
+def test_control_without_the_guard(bank: Bank, other: Machine, program: Path, folder: Path) -> None:
+    """The unit starts again and again over such a store."""
+    put_store(program, folder, other, ENDS["store: Unusable"])
+    drop_in = f"{UNITS}/counter.service.d/plain.conf"
+    start = f"ExecStart=/opt/counter/ee_cli serve --db {STORE} --port 8377"
+    other.write(drop_in, f"[Service]\nExecStartPre=\nExecStart=\n{start}\n")
+    other.shell("systemctl daemon-reload; systemctl reset-failed counter.service")
+    other.on("systemctl", "start", "--no-block", "counter.service")
+    time.sleep(10)
+    restarts = int(other.shown("counter.service", "NRestarts"))
+    other.shell(f"systemctl stop counter.service; rm {drop_in}; systemctl daemon-reload")
+    assert restarts >= 4
+
+
+def test_store_in_use(bank: Bank, other: Machine) -> None:
+    """It is tried again after growing pauses, and served without a hand once it can be."""
+    other.shell("cp -p good/day.db* /var/lib/counter/; systemctl reset-failed counter.service")
+    other.shell(
+        f"systemd-run -q --unit other -p User=counter /opt/counter/ee_cli serve --db {STORE} --port 9999"
+    )
+    time.sleep(3)
+    other.on("systemctl", "start", "--no-block", "counter.service")
+    starts: list[float] = []
+    until = time.time() + 60
+    while time.time() < until and len(starts) < 5:
+        at = int(other.shown("counter.service", "ExecMainStartTimestampMonotonic")) / 1e6
+        if at and at not in starts:
+            starts.append(at)
+        time.sleep(0.1)
+    pauses = [later - earlier for earlier, later in zip(starts, starts[1:])]
+    assert len(pauses) == 4 and all(b > 1.3 * a for a, b in zip(pauses, pauses[1:])), pauses
+    assert other.shown("counter.service", "ActiveState") == "activating"
+    other.shell("systemctl stop other")
+    assert bank.is_active(seconds=90)
+    begun = time.time()
+    other.shell("systemctl stop counter.service; systemctl start counter.service")
+    bank.wait_until_served()
+    assert time.time() - begun < 8, "a stop and a start begin without a pause"
+
+
+def test_witness(bank: Bank) -> None:
+    """The second machine has more than this one: the counter is stopped, somebody is called, and a start comes to nothing. A witness that is killed stops nothing."""
+    m, restore = bank.machine, "/root/samples/restore"
+    m.shell(
+        "install -d second; cp /srv/archive/counter/end.json second/; chmod -R a+rX second; chmod a+x /root"
+    )
+    m.shell(f"install -m 755 {restore}/witness /opt/counter/restore/; groupadd -f adm")
+    m.shell(
+        f"install -m 644 {restore}/counter-witness.service {restore}/counter-taken-back.service {UNITS}/"
+    )
+    answer = '[Service]\nEnvironment="WITNESS=cat /root/second/end.json"\nProtectHome=no\n'
+    m.write(f"{UNITS}/counter-witness.service.d/here.conf", answer)
+    m.shell(f"install -D -m 644 {restore}/witness.conf {UNITS}/counter.service.d/witness.conf")
+    m.shell("systemctl daemon-reload; systemctl restart counter-archive.service counter.service")
+    assert bank.is_active(), bank.journal("-u", "counter-witness.service")
+    m.on("systemctl", "kill", "--signal=KILL", "counter-witness.service")
+    time.sleep(3)
+    assert bank.is_active(seconds=1) and bank.is_active("counter-witness.service", 1), "control"
+    m.shell("sed -i 's/\"row\":/&9/' second/end.json")
+    assert m.wait("counter.service", "ActiveState", "inactive", 20)
+    m.wait(
+        "counter-failed@counter-witness.service.service",
+        "ExecMainExitTimestampMonotonic",
+        "[1-9][0-9]*",
+    )
+    called = bank.journal("-t", "counter", "-p", "alert")
+    assert "counter-witness.service: witness: this machine was taken back" in called
+    m.on("systemctl", "start", "--no-block", "counter.service")
+    assert not bank.is_active(seconds=20)
+    m.shell(f"rm {UNITS}/counter.service.d/witness.conf; systemctl daemon-reload")
+    m.shell(
+        "systemctl stop counter-witness.service; systemctl reset-failed; systemctl start counter.service"
+    )
+    bank.wait_until_served()
+
+
+def test_one_apply_for_each_connection(bank: Bank) -> None:
+    """By the units of the page: clients that come together are let in one after another, or are told to come again by an end without an answer."""
+    m, sent_away, answers = bank.machine, 0, list[Answer]()
+    socket = page("systemd", 2).replace("counter-http.sock", "each.sock")
+    m.write(f"{UNITS}/each.socket", socket)
+    m.write(f"{UNITS}/each@.service", page("systemd", 3))
+    m.shell("systemctl stop counter.service; systemctl daemon-reload; systemctl start each.socket")
+
+    def client(turn: int) -> None:
+        nonlocal sent_away
+        value = {"desk": 99, "number": turn + 1, "day": day_text(bank.load.turn - 1), "payee": 7}
+        message = post("/redeem", value | {"serials": [bond(0)["serial"]]})
+        while (answer := bank.ask(message, at="/run/each.sock")) is None:
+            sent_away += 1
+            time.sleep(0.2)
+        answers.append(answer)
+
+    threads = [threading.Thread(target=client, args=(turn,)) for turn in range(20)]
+    for thread in threads:
+        thread.start()
+    for thread in threads:
+        thread.join()
+    m.shell("systemctl stop each.socket; systemctl start counter.service")
+    assert len(answers) == 20 and sent_away > 0, sent_away
+    assert all(status == 409 and '"AlreadyPaid"' in text for status, text in answers), answers
+
+
+def test_without_its_network(bank: Bank) -> None:
+    """The counter isn't started. Control: with it, it serves again."""
+    m = bank.machine
+    m.shell(
+        "systemctl stop counter.service counter-http.socket counter-http.service counter-network.service"
+    )
+    drop_in = f"{UNITS}/counter-network.service.d"
+    m.write(f"{drop_in}/none.conf", "[Service]\nExecStart=\nExecStart=/usr/bin/false\n")
+    m.shell("ip netns del counter 2> /dev/null || true; systemctl daemon-reload")
+    m.on("systemctl", "start", "--no-block", "counter.service")
+    assert not bank.is_active(seconds=5)
+    m.shell(f"rm -r {drop_in}; systemctl daemon-reload; systemctl start counter.service")
+    bank.wait_until_served()

@@ -1,0 +1,460 @@
+"""A store on a volume that three hosts replicate, by samples/replicated: each acknowledged reply stands, through losses of power and of cables, and one host serves at a time.
+
+A host is a network namespace with namespaces of its own for mounts and processes: to kill its first process is to kill all of them at once, as a loss of power does, but for what the kernel holds of its disk. Its cable is its link on a bridge. LOSSES names how many, 6 if it isn't set."""
+
+from __future__ import annotations
+
+import ctypes
+import os
+import random
+import signal
+import socket
+import subprocess
+import threading
+import time
+from pathlib import Path
+from typing import Callable, Iterator
+
+import pytest
+
+from tests.conftest import TOP
+from tests.restore.counter_day import Ran, run
+from tests.shared.counter_calls import (
+    Answer,
+    Load,
+    beginning,
+    bond,
+    day_text,
+    fault_of_books,
+    get,
+    post,
+    read_answer,
+)
+
+pytestmark = [pytest.mark.root, pytest.mark.slow, pytest.mark.needs("glusterd", "ip", "sqlite3")]
+SAMPLES = TOP / "samples/replicated"
+LOSSES = int(os.environ.get("LOSSES", "6"))
+VOLUME, MOUNT, PORT, USER = "books", "/run/books", 8377, "nobody"
+NETWORK, PROGRAM, BONDS = "/run/netns/counter", "/run/ee_cli", 12_000
+MOUNTED = f"mkdir -p {MOUNT} && glusterfs --volfile-server=localhost --volfile-id={VOLUME} {MOUNT}"
+PLAIN = f"umount -l {MOUNT}; {MOUNTED} && exec nsenter --net={NETWORK} {PROGRAM} serve --db {MOUNT}/day.db --port {PORT}"
+BY_SCRIPT = [str(SAMPLES / "serve_replicated"), VOLUME, MOUNT, PROGRAM, str(PORT), USER, NETWORK]
+MARK = os.getpid() % 10_000
+NET = f"10.78.{MARK % 250}"
+#: What a start may say while the store isn't to be had.
+ENDS = (
+    "store: StoreFailed",
+    "serve_replicated: the volume can't be mounted",
+    "serve_replicated: the volume has no day.db",
+    f"serve_replicated: the volume {VOLUME} isn't known here",
+)
+
+
+def until(holds: Callable[[], object], what: str, seconds: float = 120) -> None:
+    end = time.time() + seconds
+    while not holds():
+        assert time.time() < end, what
+        time.sleep(0.2)
+
+
+def done(*words: object) -> None:
+    ran = run(*words)
+    assert ran.returncode == 0, ran
+
+
+class Host:
+    """Its network, its first process, and its folders, which are its disk."""
+
+    def __init__(self, nth: int, folder: Path, bridge: str, program: Path) -> None:
+        self.nth, self.folder, self.address = nth, folder / f"host{nth}", f"{NET}.{nth}"
+        self.space, self.link, self.program = f"counter{MARK}h{nth}", f"c{MARK}h{nth}", program
+        self.first: int | None = None
+        self.server: subprocess.Popen[str] | None = None
+        for name in ("glusterd", "log", "brick"):
+            (self.folder / name).mkdir(parents=True)
+        done("ip", "netns", "add", self.space)
+        pair = ("type", "veth", "peer", "name", "eth0", "netns", self.space)
+        done("ip", "link", "add", self.link, *pair)
+        done("ip", "link", "set", self.link, "master", bridge, "up")
+        for words in (f"addr add {self.address}/24 dev eth0", "link set eth0 up", "link set lo up"):
+            done("ip", "-n", self.space, *words.split())
+
+    def boot(self) -> None:
+        lines = [
+            "mount --make-rprivate /",
+            "mount -t tmpfs run /run",
+            "ip netns add counter",
+            "ip -n counter link set lo up",
+            f"mount --bind {self.folder}/glusterd /var/lib/glusterd",
+            f"mount --bind {self.folder}/log /var/log/glusterfs",
+            f"install -m 755 {self.program} {PROGRAM}",
+            "glusterd -N & exec sleep infinity",
+        ]
+        words = f"ip netns exec {self.space} unshare --mount --pid --fork --mount-proc --kill-child"
+        self.outer = subprocess.Popen(
+            [*words.split(), "sh", "-c", " && ".join(lines)],
+            stdin=subprocess.DEVNULL,
+            stdout=subprocess.DEVNULL,
+            stderr=subprocess.DEVNULL,
+            start_new_session=True,
+        )
+        children = Path(f"/proc/{self.outer.pid}/task/{self.outer.pid}/children")
+
+        def has_begun() -> bool:
+            found = children.read_text().split()
+            if not found or Path(f"/proc/{found[0]}/comm").read_text().strip() != "sleep":
+                return False
+            self.first = int(found[0])
+            return True
+
+        until(has_begun, f"host {self.nth} begins", 20)
+
+    def words(self, *words: object) -> list[str]:
+        return ["nsenter", "-t", str(self.first), "-n", "-m", "-p", *map(str, words)]
+
+    def on(self, *words: object) -> Ran:
+        return run("timeout", "120", *self.words(*words))
+
+    def lose_power(self) -> None:
+        """All its processes are killed at once."""
+        if self.first:
+            os.kill(self.first, signal.SIGKILL)
+            self.outer.wait()
+            self.first = None
+
+    def power_off(self) -> None:
+        self.lose_power()
+        self.forget_server()
+
+    def cable(self, state: str) -> None:
+        done("ip", "link", "set", self.link, state)
+
+    def start(self, *words: str) -> None:
+        """The counter by the sample's script, or by these words."""
+        self.server = subprocess.Popen(
+            self.words(*(words or BY_SCRIPT)),
+            stdin=subprocess.DEVNULL,
+            stdout=subprocess.DEVNULL,
+            stderr=subprocess.PIPE,
+            text=True,
+        )
+
+    def end_of_server(self) -> str | None:
+        """What the counter said as it ended; None while it runs."""
+        assert self.server is not None
+        return None if self.server.poll() is None else self.server.communicate()[1].strip()
+
+    def forget_server(self) -> None:
+        if self.server:
+            self.server.kill()
+            self.server.communicate()
+            self.server = None
+
+    def stop_server(self) -> None:
+        self.on("sh", "-c", "kill $(pidof ee_cli)")
+        self.forget_server()
+        time.sleep(0.5)
+
+    def ask(self, message: bytes, patience: float = 15) -> Answer | None:
+        """The answer of this host's counter, asked in its own network; None if none came."""
+        try:
+            client = self.connected()
+        except OSError:
+            return None
+        with client:
+            try:
+                client.settimeout(patience)
+                client.connect(("127.0.0.1", PORT))
+                client.sendall(message)
+                return read_answer(client)
+            except OSError:
+                return None
+
+    def connected(self) -> socket.socket:
+        """A socket of the counter's network, which this thread enters for a moment."""
+        libc = ctypes.CDLL(None, use_errno=True)
+        with open("/proc/thread-self/ns/net") as here:
+            with open(f"/proc/{self.first}/root{NETWORK}") as network:
+                if libc.setns(network.fileno(), 0x40000000) != 0:
+                    raise OSError("setns")
+            try:
+                return socket.socket()
+            finally:
+                libc.setns(here.fileno(), 0x40000000)
+
+
+class Hosts:
+    """The three hosts, the volume over them, and the clients of the one that serves."""
+
+    def __init__(self) -> None:
+        self.bridge = f"c{MARK}b"
+        self.all: list[Host] = []
+        self.serving: Host | None = None
+        self.load = Load(lambda m: self.serving.ask(m) if self.serving else None, BONDS - 1000, 3)
+
+    def begin(self, program: Path, folder: Path) -> None:
+        done("ip", "link", "add", self.bridge, "type", "bridge")
+        done("ip", "link", "set", self.bridge, "up")
+        self.all = [Host(nth, folder, self.bridge, program) for nth in (1, 2, 3)]
+        for host in self.all:
+            host.boot()
+        first, others = self.all[0], self.all[1:]
+        for host in others:
+            until(
+                lambda: first.on("gluster", "peer", "probe", host.address).returncode == 0, "peers"
+            )
+        until(
+            lambda: first.on("gluster", "peer", "status").stdout.count("(Connected)") == 2, "peers"
+        )
+        bricks = [f"{host.address}:{host.folder}/brick" for host in self.all]
+        ran = first.on(SAMPLES / "make_volume", VOLUME, *bricks)
+        assert ran.returncode == 0, ran
+        self.make_store()
+
+    def make_store(self) -> None:
+        """The bank's first store, on the volume, of the counter's user."""
+        first = self.all[0]
+        (first.folder / "first").write_bytes(b"".join(beginning(BONDS)))
+        apply = f"{MOUNTED} && {PROGRAM} apply --db {MOUNT}/day.db < {first.folder}/first"
+        said = first.on("sh", "-c", apply).stdout
+        assert said.count("HTTP/1.1 200 OK") == 1 + BONDS // 500
+        own = f"chown {USER} {MOUNT} {MOUNT}/day.db {MOUNT}/day.db-wal"
+        assert first.on("sh", "-c", own).returncode == 0
+        self.serve_on(first)
+        self.whole()
+
+    def server(self) -> Host:
+        assert self.serving is not None
+        return self.serving
+
+    def next(self) -> Host:
+        return self.all[self.server().nth % 3]
+
+    def whole(self) -> None:
+        """All bricks are connected to the mount that is served from, and nothing is left to heal."""
+        until(lambda: self.is_healed() and self.is_mirrored(), "the volume is whole again")
+
+    def is_healed(self) -> bool:
+        words = ("gluster", "volume", "heal", VOLUME, "info", "summary")
+        said = (self.serving or self.all[0]).on(*words).stdout
+        return said.count("Status: Connected") == said.count("Total Number of entries: 0") == 3
+
+    def is_mirrored(self) -> bool:
+        """A file written on the serving host's mount stands in each brick."""
+        if self.serving is None:
+            return True
+        word = str(random.random())
+        if self.serving.on("timeout", "10", "sh", "-c", f"echo {word} > {MOUNT}/probe").returncode:
+            return False
+        paths = [host.folder / "brick/probe" for host in self.all]
+        return all(path.exists() and path.read_text().strip() == word for path in paths)
+
+    def restore(self, host: Host) -> None:
+        """The host that was lost is there again, and nothing is left to heal."""
+        host.power_off()
+        host.cable("up")
+        host.boot()
+        self.whole()
+
+    def serve_on(self, host: Host, *words: str) -> None:
+        """A supervisor's work: the host's counter is started until it answers. Each start that ends says that the store isn't to be had."""
+        host.start(*words)
+        end = time.time() + 60
+        while host.ask(get("/ticket/1"), 2) is None:
+            assert time.time() < end, f"host {host.nth} doesn't serve"
+            said = host.end_of_server()
+            if said is not None:
+                assert words or said.partition("\n")[0] in ENDS, said
+                host.start(*words)
+            time.sleep(0.05)
+        self.serving = host
+
+    def lose(self, is_power: bool) -> Host:
+        """The host that serves is lost, and the next one serves."""
+        lost, following = self.server(), self.next()
+        lost.power_off() if is_power else lost.cable("down")
+        self.serving = None
+        self.serve_on(following)
+        return lost
+
+    def give_all_replies_again(self) -> None:
+        names, host = self.load.in_order(), self.server()
+        wanted = [(200, self.load.replies[name]) for name in names]
+        assert [host.ask(self.load.requests[name]) for name in names] == wanted != []
+
+    def remove(self) -> None:
+        for host in self.all:
+            host.power_off()
+            run("ip", "link", "delete", host.link)
+            run("ip", "netns", "delete", host.space)
+        run("ip", "link", "delete", self.bridge)
+
+
+@pytest.fixture(scope="module")
+def made(program: Path, place: Path) -> Iterator[Hosts]:
+    hosts = Hosts()
+    try:
+        hosts.begin(program, place)
+        yield hosts
+    finally:
+        hosts.remove()
+
+
+@pytest.fixture
+def hosts(made: Hosts) -> Hosts:
+    """The three, whole."""
+    made.whole()
+    return made
+
+
+def test_losses(hosts: Hosts) -> None:
+    """Of power and of the cable in turn, under load: the next host serves, and every acknowledged reply is given again."""
+    for nth in range(LOSSES):
+        before = len(hosts.load.replies)
+        hosts.load.start()
+        time.sleep(random.uniform(0.5, 1.5))
+        lost = hosts.lose(is_power=nth % 2 == 0)
+        time.sleep(random.uniform(0.3, 1.0))
+        hosts.load.stop()
+        assert len(hosts.load.replies) > before
+        hosts.restore(lost)
+    hosts.give_all_replies_again()
+
+
+def test_two_lost_at_once(hosts: Hosts) -> None:
+    """Nothing is served until they are back; then all replies are given again, and SQLite finds each bond paid once."""
+    host = hosts.server()
+    others = [each for each in hosts.all if each is not host]
+    hosts.load.start()
+    time.sleep(1)
+    for other in others:
+        other.power_off()
+    time.sleep(1)
+    before, end, answers = len(hosts.load.replies), time.time() + 20, list[Answer | None]()
+    while time.time() < end:
+        answers.append(host.ask(get("/ticket/1"), 5))
+        if host.end_of_server() is not None:
+            host.start()
+        time.sleep(0.5)
+    assert len(hosts.load.replies) == before and not [a for a in answers if a and a[0] == 200]
+    host.stop_server()
+    for other in others:
+        other.boot()
+    hosts.serving = None
+    until(hosts.is_healed, "the volume is whole again")
+    hosts.serve_on(host)
+    hosts.load.stop()
+    hosts.whole()
+    hosts.give_all_replies_again()
+    host.stop_server()
+    for name in ("day.db", "day.db-wal"):
+        assert host.on("cp", f"{MOUNT}/{name}", host.folder / name).returncode == 0
+    assert fault_of_books(host.folder / "day.db", hosts.load.replies) is None
+    hosts.serve_on(host)
+
+
+@pytest.mark.parametrize("nth", range(2))
+def test_cut_off(hosts: Hosts, nth: int) -> None:
+    """The start script ends the counter of a host that is cut off, so no query has an answer of before."""
+    old, following = hosts.server(), hosts.next()
+    old.cable("down")
+    until(lambda: old.ask(get("/ticket/1"), 2) is None, "it goes on answering", 20)
+    hosts.serving = None
+    hosts.serve_on(following)
+    hosts.restore(old)
+
+
+def test_one_serves_at_a_time(hosts: Hosts) -> None:
+    """With a supervisor on each host, which starts the script again after each end, the lock on the store decides."""
+    hosts.server().stop_server()
+    is_over = False
+
+    def supervise(host: Host) -> None:
+        while not is_over:
+            if host.first:
+                host.start()
+                assert host.server is not None
+                host.server.communicate()
+            time.sleep(1)
+
+    def answering() -> list[Host]:
+        return [host for host in hosts.all if host.first and host.ask(get("/ticket/1"), 1)]
+
+    threads = [threading.Thread(target=supervise, args=(host,)) for host in hosts.all]
+    for thread in threads:
+        thread.start()
+    lost: Host | None = None
+    for nth in range(3):
+        until(answering, "one of the hosts serves", 60)
+        for _ in range(10):
+            found = answering()
+            assert len(found) <= 1, [host.nth for host in found]
+            hosts.serving = found[0] if found else hosts.serving
+            time.sleep(0.2)
+        if lost:
+            lost.boot()
+            until(hosts.is_healed, "the volume is whole again")
+        if nth < 2:
+            lost = hosts.server()
+            lost.lose_power()
+            hosts.serving = None
+    is_over = True
+    for host in hosts.all:
+        while host.server and host.server.poll() is None:
+            host.on("sh", "-c", "kill $(pidof ee_cli)")
+            time.sleep(0.2)
+    for thread in threads:
+        thread.join()
+    hosts.serve_on(hosts.server())
+
+
+def redemption(hosts: Hosts, turn: int, desk: int) -> bytes:
+    """Of a bond that the load doesn't come to, on the day that is open."""
+    value = {"desk": desk, "number": 5_000_000 + turn, "day": day_text(hosts.load.turn - 1)}
+    return post("/redeem", value | {"payee": 7, "serials": [bond(turn)["serial"]]})
+
+
+def pays(hosts: Hosts, host: Host, turn: int, desk: int) -> None:
+    answer = host.ask(redemption(hosts, turn, desk))
+    assert answer is not None and answer[0] == 200, answer
+
+
+def isolated(hosts: Hosts, *start: str) -> tuple[Host, list[Answer | None], int]:
+    """The counter is started without the sample's script. Its host's cable is cut, it lives on, the next host serves and pays, the cable is mended, and a client talks to the old counter again. That host, what it answers, and the first bond."""
+    old, following = hosts.server(), hosts.next()
+    old.stop_server()
+    hosts.serve_on(old, "sh", "-c", PLAIN)
+    hosts.load.bonds -= 10
+    turn = hosts.load.bonds
+    pays(hosts, old, turn, 50)
+    old.cable("down")
+    time.sleep(1)
+    hosts.serving = None
+    hosts.serve_on(following, *start)
+    pays(hosts, following, turn + 1, 51)
+    old.cable("up")
+    time.sleep(8)
+    pays(hosts, following, turn + 2, 51)
+    return old, [old.ask(redemption(hosts, turn + 3 + nth, 50)) for nth in range(3)], turn
+
+
+def test_isolated(hosts: Hosts) -> None:
+    """With strict locks the old counter pays nothing, and what both paid before stands."""
+    old, answers, turn = isolated(hosts)
+    assert all(answer is None or answer[0] == 503 for answer in answers) and any(answers), answers
+    for nth in range(3):
+        pays(hosts, hosts.server(), turn + nth, 50 if nth == 0 else 51)
+    hosts.restore(old)
+    hosts.give_all_replies_again()
+
+
+def test_control_without_strict_locks(hosts: Hosts) -> None:
+    """The old counter pays into the store that another host serves: two writers. The sample's script refuses such a volume."""
+    host = hosts.server()
+    words = ("gluster", "--mode=script", "volume", "set", VOLUME, "client.strict-locks", "off")
+    assert host.on(*words).returncode == 0
+    refused = host.on(SAMPLES / "serve_replicated", VOLUME, f"{MOUNT}2", PROGRAM, "8378")
+    assert refused.returncode == 2, refused
+    assert "lacks the setting client.strict-locks on" in refused.stdout + refused.stderr
+    _, answers, _ = isolated(hosts, "sh", "-c", PLAIN)
+    assert [answer for answer in answers if answer and answer[0] == 200], answers

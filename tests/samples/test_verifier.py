@@ -1,0 +1,388 @@
+"""packaging/verify refuses forged releases, if the forger put all sums right and signed them too."""
+
+from __future__ import annotations
+
+import os
+import re
+import shutil
+import sys
+import time
+from pathlib import Path
+from typing import Callable, Iterator
+
+import pytest
+
+from tests.conftest import TOP
+from tests.restore.counter_day import run
+from tests.samples.books import script
+from tests.samples.releases import (
+    ALL_ANEW,
+    KEPT,
+    SOME_KEPT,
+    VERDICT,
+    Packages,
+    Tree,
+    change,
+    done,
+    library_in,
+    sum_of,
+    with_line,
+    without,
+)
+
+pytestmark = pytest.mark.needs("dh", "fakeroot", "git", "cc", "gpg")
+VERIFIER = TOP / "packaging/verify"
+CHECKS = ("signature", "sums", "program", "verdict", "sources")
+GOOD = ["right"] * 5
+MAIN = "crates/ee_cli/src/main.rt"
+
+
+class Keys:
+    """Throwaway keys, each in a keyring of its own; `known` has the public ones of all."""
+
+    def __init__(self, folder: Path) -> None:
+        self.folder, self.known, self.none = folder, folder / "known", folder / "none"
+        for name in ("known", "none", "release", "forger", "expired"):
+            (folder / name).mkdir(mode=0o700)
+        for name in ("release", "forger", "expired"):
+            words = ("--quick-generate-key", f"{name}@bank.example", "ed25519", "sign", "1d")
+            self.gpg(name, "--passphrase", "", *words)
+            (folder / "exported").write_text(self.gpg(name, "--armor", "--export"))
+            self.gpg("known", "--import", folder / "exported")
+        found = re.search(
+            "^fpr:+([0-9A-F]{40}):", self.gpg("release", "--with-colons", "--list-keys"), re.M
+        )
+        assert found is not None
+        self.fingerprint = found[1]
+
+    def gpg(self, name: str, *words: object) -> str:
+        """gpg with the keyring of a name. For the key that has expired it is a week ago."""
+        then = ("--faked-system-time", int(time.time()) - 604_800) if name == "expired" else ()
+        return done("gpg", "--batch", "--quiet", *then, "--homedir", self.folder / name, *words)
+
+    def sign(self, name: str, release: Path) -> None:
+        sums = release / "SHA256SUMS"
+        (release / "SHA256SUMS.asc").unlink(missing_ok=True)
+        self.gpg(name, "--armor", "--output", f"{sums}.asc", "--detach-sign", sums)
+
+    def end(self) -> None:
+        for home in self.folder.iterdir():
+            run("gpgconf", "--homedir", home, "--kill", "all")
+
+
+class Bank:
+    """A release of the tag v1.1.0, signed, its checkout, and the keys."""
+
+    def __init__(self, program: Path, folder: Path, keys: Keys) -> None:
+        self.keys, self.program = keys, program
+        self.tree = Tree(program, library_in(folder / "library"), folder / "tree")
+        self.tree.git("init", "--quiet")
+        self.commit = self.tree.commit("the repository")
+        self.tree.git("tag", "v1.1.0")
+        self.tree.prove()
+        self.tree.build_library()
+        (folder / "gate.log").write_text(self.tree.gate_log())
+        words = ("--ci-log", folder / "gate.log")
+        self.release = Packages(
+            folder / "release", self.tree.build(folder / "release", *words)
+        ).folder
+        keys.sign("release", self.release)
+
+    def verify(self, *words: object, home: Path | None = None) -> tuple[int, list[str], str]:
+        """The verifier's status, the state of each check, and all that it printed."""
+        env = {**os.environ, "GNUPGHOME": str(home or self.keys.known)}
+        ran = run(sys.executable, "-B", VERIFIER, *words, env=env)
+        states = r"^(?:signature|sums|program|verdict|sources): (right|WRONG|not checked): "
+        return ran.returncode, re.findall(states, ran.stdout, re.M), ran.stdout + ran.stderr
+
+    def words(self, release: Path | None = None) -> tuple[object, ...]:
+        key = ("--fingerprint", self.keys.fingerprint)
+        return (release or self.release, *key, "--checkout", self.tree.path)
+
+
+@pytest.fixture(scope="module")
+def bank(program: Path, place: Path) -> Iterator[Bank]:
+    (place / "keys").mkdir()
+    keys = Keys(place / "keys")
+    yield Bank(program, place, keys)
+    keys.end()
+
+
+# ---- what it finds right, and what it can't check
+
+
+def test_control_right_release(bank: Bank) -> None:
+    """It names what it can't check; a fingerprint may be spelled with spaces; what lies uncommitted in the checkout doesn't matter."""
+    status, states, said = bank.verify(*bank.words())
+    assert (status, states) == (0, GOOD) and said.count("beyond this: ") == 2 and "(v1.1.0)" in said
+    assert (bank.release / "ladwenpik-verify").read_bytes() == VERIFIER.read_bytes()
+    spaced = re.sub("(.{4})", r"\1 ", bank.keys.fingerprint.lower())
+    words = (bank.release, "--fingerprint", spaced, "--checkout", bank.tree.path)
+    with bank.tree.changed(MAIN, "//", "// not committed\n//"):
+        assert bank.verify(*words)[:2] == (0, GOOD)
+
+
+def unchecked(nth: int) -> tuple[int, list[str]]:
+    """How it ends if a check isn't done."""
+    return 3, [*GOOD[:nth], "not checked", *GOOD[nth + 1 :]]
+
+
+def test_what_is_not_checked(bank: Bank, folder: Path) -> None:
+    """It is named as not done, with status 3."""
+    release, key = bank.release, ("--fingerprint", bank.keys.fingerprint)
+    assert bank.verify(release, "--checkout", bank.tree.path)[:2] == unchecked(0)
+    assert bank.verify(release, *key)[:2] == unchecked(4)
+    assert bank.verify(release, *key, "--checkout", folder)[:2] == unchecked(4)
+    status, states, said = bank.verify(*bank.words(), home=bank.keys.none)
+    assert (status, states) == unchecked(0) and "isn't in your keyring" in said
+    for command, nth in (("gpg", 0), ("dpkg-deb", 2), ("git", 4)):
+        with without(folder, command):
+            assert bank.verify(*bank.words())[:2] == unchecked(nth), command
+
+
+def test_wrong_words(bank: Bank, folder: Path) -> None:
+    of_none = ((), (folder / "nothing",), (bank.release, "--fingerprint", "1234"))
+    for words in (*of_none, (bank.release, "--nothing")):
+        assert bank.verify(*words)[0] == 2, words
+
+
+# ---- what it refuses
+
+
+class Forged:
+    """A copy of the release, of which something is changed."""
+
+    def __init__(self, bank: Bank, folder: Path) -> None:
+        self.bank, self.folder = bank, folder
+        shutil.copytree(bank.release, folder)
+
+    def file(self, pattern: str) -> Path:
+        (found,) = self.folder.glob(pattern)
+        return found
+
+    def add_byte(self) -> Forged:
+        with open(self.file("ladwenpik_*.deb"), "ab") as file:
+            file.write(b"\n")
+        return self
+
+    def evidence(self, old: str, new: str) -> None:
+        change(self.file("*_evidence.txt"), old, new)
+
+    def log(self, old: str, new: str) -> None:
+        change(self.file("*_gate.log"), old, new)
+
+    def line(self, crate: str) -> None:
+        """The log's line on a crate is one over kept work."""
+        log = self.file("*_gate.log")
+        log.write_text(with_line(log.read_text(), crate, KEPT))
+
+    def with_script(self) -> tuple[str, str]:
+        """A script that answers as the program does takes its place. The sums of both."""
+        deb, tree = self.file("ladwenpik_*.deb"), self.folder.parent / "opened"
+        done("dpkg-deb", "-R", deb, tree)
+        script(tree / "usr/bin/ee_cli", f'#!/bin/sh\nexec {self.bank.program} "$@"\n')
+        done("dpkg-deb", "--root-owner-group", "-Znone", "-b", tree, deb)
+        return sum_of(self.bank.program), sum_of(tree / "usr/bin/ee_cli")
+
+    def sums(self) -> None:
+        """As a forger, or a careless builder, would: the evidence and SHA256SUMS have the sums of the files as they are."""
+        evidence = self.file("*_evidence.txt")
+        text = evidence.read_text()
+        for path in [*self.folder.glob("*.deb"), *self.folder.glob("*.json")]:
+            line = f"^  [0-9a-f]{{64}}  {re.escape(path.name)}$"
+            text = re.sub(line, f"  {sum_of(path)}  {path.name}", text, flags=re.M)
+        for log in self.folder.glob("*_gate.log"):
+            text = re.sub(
+                "sum        [0-9a-f]{64}, of the log", f"sum        {sum_of(log)}, of the log", text
+            )
+        evidence.write_text(text)
+        files = sorted(
+            path for path in self.folder.iterdir() if not path.name.startswith("SHA256SUMS")
+        )
+        named = "".join(f"{sum_of(path)}  {path.name}\n" for path in files)
+        (self.folder / "SHA256SUMS").write_text(named)
+
+    def signed(self, by: str = "release") -> None:
+        self.sums()
+        self.bank.keys.sign(by, self.folder)
+
+    def is_refused(self, wrong: str, said: str) -> None:
+        """The named checks alone are wrong."""
+        status, states, found = self.bank.verify(*self.bank.words(self.folder))
+        assert states == ["WRONG" if check in wrong.split() else "right" for check in CHECKS], found
+        assert status == 1 and said in found, found
+
+
+def script_with_its_sum(forged: Forged) -> None:
+    was, now = forged.with_script()
+    forged.evidence(f"{was}  usr/bin/ee_cli", f"{now}  usr/bin/ee_cli")
+
+
+def kept_everywhere(forged: Forged) -> None:
+    forged.line("ee_cli")
+    forged.evidence(f"checker    {VERDICT}", f"checker    {KEPT}")
+
+
+#: What a forger does, the checks that are wrong then, and what is said. The sums aren't put right, and nothing is signed.
+UNSIGNED: dict[str, tuple[Callable[[Forged], object], str, str]] = {
+    "a byte more": (Forged.add_byte, "sums", "hasn't the sum"),
+    "that with right sums": (
+        lambda forged: forged.add_byte().sums(),
+        "signature",
+        "the file was changed",
+    ),
+    "that signed by another key": (
+        lambda forged: forged.add_byte().signed("forger"),
+        "signature",
+        "not by the one that you named",
+    ),
+    "an expired key": (
+        lambda forged: forged.bank.keys.sign("expired", forged.folder),
+        "signature",
+        "its key has expired",
+    ),
+    "no signature": (
+        lambda forged: forged.file("SHA256SUMS.asc").unlink(),
+        "signature",
+        "isn't signed",
+    ),
+    "another package in the folder": (
+        lambda forged: (forged.folder / "ladwenpik_2.0.0-1_arm64.deb").touch(),
+        "sums program",
+        "doesn't name ladwenpik_2.0.0-1_arm64.deb",
+    ),
+    "a file less": (lambda forged: forged.file("python3-*.deb").unlink(), "sums", "isn't there"),
+}
+#: The same with all sums put right, signed by the right key.
+SIGNED: dict[str, tuple[Callable[[Forged], object], str, str]] = {
+    "a script in the program's place": (
+        Forged.with_script,
+        "program",
+        "isn't the file that the evidence names",
+    ),
+    "its sum in the evidence too": (script_with_its_sum, "verdict", "of another program"),
+    "kept proofs in log and evidence": (
+        kept_everywhere,
+        "verdict",
+        "no verdict from nothing on ee_cli",
+    ),
+    "kept proofs of the library": (
+        lambda forged: forged.line("ee_value_c"),
+        "verdict",
+        "no verdict from nothing on ee_value_c",
+    ),
+    "a line that the log doesn't have": (
+        lambda forged: forged.evidence(
+            f"checker    {VERDICT}", f"checker    {VERDICT.replace('63', '60')}"
+        ),
+        "verdict",
+        "another line of the checker",
+    ),
+    "a gate over kept proofs": (
+        lambda forged: forged.log(ALL_ANEW, SOME_KEPT),
+        "verdict",
+        "everything proved in that run",
+    ),
+    "files that differ from the commit": (
+        lambda forged: forged.evidence(
+            "nothing since the commit",
+            "these files differ from the commit:\n             samples/rates.csv",
+        ),
+        "verdict",
+        "files that differ from the commit",
+    ),
+    "no log": (
+        lambda forged: forged.file("*_gate.log").unlink(),
+        "verdict sources",
+        "0 files ladwenpik_*_gate.log",
+    ),
+    "a log of one line": (
+        lambda forged: forged.file("*_gate.log").write_text("316 passed, 0 failed\n"),
+        "verdict sources",
+        "no verdict from nothing on ee_cli",
+    ),
+    "a library that was named by hand": (
+        lambda forged: forged.evidence(
+            "built from these sources by clients/value/build, which checks them over kept work",
+            "NAMED BY --library: not known to be proved or built from these sources",
+        ),
+        "verdict",
+        "named by hand",
+    ),
+    "a log of other sources of the library": (
+        lambda forged: forged.file("*_gate.log").write_text(
+            re.sub(
+                "(sources of ee_value_c) [0-9a-f]{8}",
+                r"\1 00000000",
+                forged.file("*_gate.log").read_text(),
+            )
+        ),
+        "sources",
+        "other checksums than the gate's log names",
+    ),
+}
+
+
+@pytest.mark.parametrize("kind", UNSIGNED)
+def test_changed_release(bank: Bank, folder: Path, kind: str) -> None:
+    alter, wrong, said = UNSIGNED[kind]
+    forged = Forged(bank, folder / "release")
+    alter(forged)
+    forged.is_refused(wrong, said)
+
+
+@pytest.mark.parametrize("kind", SIGNED)
+def test_signed_forgery(bank: Bank, folder: Path, kind: str) -> None:
+    alter, wrong, said = SIGNED[kind]
+    forged = Forged(bank, folder / "release")
+    alter(forged)
+    forged.signed()
+    forged.is_refused(wrong, said)
+
+
+#: A file of a later commit and what is changed there, and what is said of evidence that claims that commit.
+LATER: dict[str, tuple[str, str, str, str]] = {
+    "a stale proof": (MAIN, "//", "// changed since\n//", "have another checksum"),
+    "other axioms": (
+        "docs/ASSUMPTIONS.md",
+        "contracts of 63 functions",
+        "contracts of 62 functions",
+        "lists other axioms",
+    ),
+    "another toolchain": (
+        "README.md",
+        "rattle-kit-13f",
+        "rattle-kit-12a",
+        "names another toolchain",
+    ),
+    "a wrong body less": ("", "", "", "the gate's log counts others"),
+}
+
+
+@pytest.mark.parametrize("kind", LATER)
+def test_later_commit(bank: Bank, folder: Path, kind: str) -> None:
+    """The checkout is at another commit than the release's. Evidence that claims that one is stale."""
+    name, old, new, said = LATER[kind]
+    if name:
+        change(bank.tree.path / name, old, new)
+    else:
+        next(bank.tree.path.glob("crates/ee_units/must-fail/*.edit")).unlink()
+    now = bank.tree.commit(kind)
+    try:
+        forged = Forged(bank, folder / "release")
+        forged.is_refused("sources", "the checkout is at")
+        forged.evidence(bank.commit, now)
+        forged.signed()
+        forged.is_refused("sources", said)
+    finally:
+        bank.tree.git("reset", "--quiet", "--hard", bank.commit)
+
+
+def test_trial(bank: Bank, folder: Path) -> None:
+    """What packaging/build makes of the program of ./ee_cli is no release."""
+    bank.tree.prove()
+    ran = bank.tree.build(folder / "trial", "--library", bank.tree.library)
+    forged = Forged.__new__(Forged)
+    forged.bank, forged.folder = bank, Packages(folder / "trial", ran).folder
+    forged.signed()
+    forged.is_refused("verdict sources", KEPT)
