@@ -2,7 +2,7 @@
 //
 //   import { load } from "ee-value";
 //   const value = await load();
-//   value.cents(50, "2010-05", "2015-05", "3.50");                 // 2974
+//   value.cents(50, "2010-05", "2026-11", "1.40");                 // 3148
 //   value.row(50, "2010-05", "2030-11", "3.40", "4.00").note;      // ""
 //   value.rows([[50, "2010-05", "2015-05", "3.50"]]);              // one call for a list
 //

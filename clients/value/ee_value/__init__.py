@@ -1,11 +1,11 @@
 """What paper Series EE savings bonds pay, to the cent: the proved library libee_value, by ctypes.
 
     >>> import ee_value
-    >>> ee_value.cents(50, "2010-05", "2015-05", "3.50")
-    2974
-    >>> row = ee_value.row(50, "2010-05", "2030-11", "3.40", "4.00")
+    >>> ee_value.cents(50, "2010-05", "2026-11", "1.40")
+    3148
+    >>> row = ee_value.row(50, "2005-11", "2026-11", "3.20", "4.00")  # an invented extension
     >>> row.note, row.interest_cents, row.next_accrual, row.final_maturity
-    ('', 2600, '2030-12', '2040-05')
+    ('', 2702, '2026-12', '2035-11')
 
 A bond is told by its denomination in dollars, its month of issue and its rates: the fixed rate of its issue period and the
 rate of extended maturity, which is the fixed rate again where none is given. A month is a text YYYY-MM or MM/YYYY, a date, or
