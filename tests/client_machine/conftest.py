@@ -2,6 +2,7 @@
 
 from __future__ import annotations
 
+import logging
 import os
 import shutil
 import subprocess
@@ -19,6 +20,14 @@ CRATE = TOP / "crates" / "ee_client"
 WASM = "wasm64-unknown-unknown"
 WHOLE = ("-Wl,--whole-archive", str(CRATE / "out" / "libee_client.a"), "-Wl,--no-whole-archive")
 LOWERED = ("--enable-memory64", "--enable-bulk-memory", "--memory64-lowering")
+
+
+@pytest.fixture(autouse=True)
+def quiet() -> Iterator[None]:
+    """Clients whose messages are lost by the thousand log nothing."""
+    logging.disable(logging.WARNING)
+    yield
+    logging.disable(logging.NOTSET)
 
 
 def run(words: Sequence[str], folder: Path) -> None:

@@ -3,7 +3,6 @@ from __future__ import annotations
 
 import importlib
 import json
-import logging
 import os
 import shutil
 import sys
@@ -38,9 +37,6 @@ SOURCES = Path(__file__).resolve().parent.parent.parent / "clients" / "python" /
 MEMORY = "/dev/shm"
 #: The greatest number that a journal of Python holds as its next.
 MOST = 2**63
-
-
-logging.disable(logging.WARNING)
 
 
 class Killed(BaseException):
@@ -110,10 +106,14 @@ class PythonClient:
         self.beside = Beside(machine, MOST, Record(first))
         self.shown: dict[int, int] = {}
         self.followers: dict[int, int] = {}
+        self.trials = importlib.import_module(f"{package.__name__}.lookups").Trials
+        self.true_pause = self.trials.pause
+        self.trials.pause = lambda trials: bool(self.fates)
         self.client = self.started()
 
     def close(self) -> None:
         """Ends it."""
+        self.trials.pause = self.true_pause
         self.dropped()
         shutil.rmtree(self.folder)
 
@@ -160,9 +160,6 @@ class PythonClient:
 
         client._journal.write = write
         client._exchanged = exchanged
-        importlib.import_module(
-            f"{self.package.__name__}.lookups"
-        ).Trials.pause = lambda trials: bool(self.fates)
         self.beside.holds(record_of(client._journal.record))
         return client
 
@@ -183,8 +180,12 @@ class PythonClient:
             self.told(REFUSED)
         except (errors.Fault, errors.Forbidden):
             self.told(NOT_DONE)
-        except errors.FileFailed:
-            self.beside.happens(KILLED)
+        except errors.FileFailed as failure:
+            last = [(event.kind, event.detail) for event in self.beside.events[-2:]]
+            assert self.is_ended or last != [(ANSWERED, FAULT), (UNWRITTEN, 0)], "a fault ended it"
+            assert not (self.is_ended and failure.may_be_done)
+            if not self.is_ended:
+                self.beside.happens(KILLED)
         except errors.NoReply:
             pass
         else:
@@ -192,7 +193,8 @@ class PythonClient:
                 act = int(result.lines[0].serial[1:-2])
                 self.beside.shows(act, DONE)
                 self.told(DONE)
-        self.beside.holds(record_of(self.client._journal.record))
+        if not self.is_ended:
+            self.beside.holds(record_of(self.client._journal.record))
 
     def told(self, outcome: int) -> None:
         """What the caller was told of the act that the machine showed last."""
@@ -205,8 +207,17 @@ class PythonClient:
         """Whether a request is open."""
         return self.client._journal.record["open"] is not None
 
+    @property
+    def is_ended(self) -> bool:
+        """Whether a fault ended a request, and the journal's file doesn't have that yet."""
+        return self.beside.turn.journal.act != 0 and not self.is_open
+
     def submit(self, act: int, follower: int = 0) -> None:
-        """Submits a redemption."""
+        """Submits a redemption. What ended is written before."""
+        if self.is_ended:
+            self.go_on()
+        if self.is_ended:
+            return
         self.beside.happens(SUBMIT, act=act)
         if self.is_open:
             assert self.beside.turn.action == REFUSE
@@ -218,7 +229,7 @@ class PythonClient:
         self.called(lambda: self.client.redeem(DAY, PAYEE, [f"L{act}EE"]))
 
     def go_on(self) -> None:
-        """Sends the open request."""
+        """Sends the open request, or writes that it ended."""
         self.called(lambda: self.client.finish())
 
     def give_up(self) -> None:

@@ -189,6 +189,9 @@ WRONG_PYTHON: dict[str, Edits] = {
     "not done after a second sending": [
         ("counter.py", """["sent"] == 1:""", """["sent"] >= 1:"""),
     ],
+    "open after a fault on a full disk": [
+        ("counter.py", "self._journal.drop()", "self._journal.change(open=None)"),
+    ],
     "sent before it is written": [
         (
             "counter.py",

@@ -451,7 +451,7 @@ class Counter(Lookups):
                 continue
             if is_of_one_sending(answer) and self._journal.record["open"]["sent"] == 1:
                 path = self._journal.record["open"]["path"]
-                self._journal.change(open=None)
+                self._journal.drop()
                 raise error_of(answer, path)
             if answer.setup is not None and self._ends(answer.setup):
                 raise self._as_open(answer.setup)
@@ -541,7 +541,11 @@ def bookmark_of(value: Any) -> Any:
 def abandoned_of(journal: Journal, kept: Json) -> Abandoned:
     """The request that was given up, of the journal's record of it."""
     may_be_done = kept["sent"] > 0
-    outcome = OUTCOMES[kept["path"]] if may_be_done else "the request was never sent"
+    outcome = (
+        OUTCOMES[kept["path"]]
+        if may_be_done
+        else f"nothing was done: the request was never sent under number {kept['number']}"
+    )
     return Abandoned(
         journal.request_of(kept),
         kept["reason"],

@@ -137,6 +137,15 @@ class Journal:
                 ) from failure
             raise
 
+    def drop(self) -> None:
+        """Writes that the open request ended, and that nothing was done. It ended also if that can't be written: `mend`, or `close`, writes it then."""
+        dropped = {**self.record, "open": None}
+        try:
+            self.change(open=None)
+        except BaseException:
+            self.record, self.is_written = dropped, False
+            raise
+
     def restore(self) -> None:
         """After a change that was interrupted: writes the record, if the file has another one. The file may have got the changed one before the interruption."""
         if not self.is_written:

@@ -161,7 +161,7 @@ class Finished:
 
 @dataclass(frozen=True)
 class Abandoned:
-    """A request that its caller gave up, as the journal keeps it. `time` is UTC; `may_be_done` is false only if it was never sent; `outcome` says what may have happened."""
+    """A request that its caller gave up, as the journal keeps it. `time` is UTC; `may_be_done` is false only if it was never sent under its number; `outcome` says what may have happened."""
 
     request: Request
     reason: str
