@@ -1,4 +1,4 @@
-"""A bank, and its page for tellers in a browser."""
+"""A bank and its page for tellers in a browser; a desk of the Python client, and the counter itself."""
 
 from __future__ import annotations
 
@@ -8,7 +8,9 @@ from typing import TYPE_CHECKING, Iterator, Protocol
 
 import pytest
 
+from ee_counter_client.testing import FakeCounter, Gate
 from tests.browser.bank import DAY, Bank
+from tests.clients.desk import Desk, TrueCounter
 
 if TYPE_CHECKING:
     from tests.browser.page import Page
@@ -71,3 +73,16 @@ def page(bank: Bank, new_page: NewPage) -> Page:
 def pictures() -> Path | None:
     """The folder in which a test leaves pictures for people, if $PICTURES names one."""
     return Path(os.environ["PICTURES"]) if "PICTURES" in os.environ else None
+
+
+@pytest.fixture
+def desk(folder: Path) -> Iterator[Desk]:
+    with FakeCounter() as fake, Gate(fake) as gate:
+        yield Desk(folder, fake, gate)
+
+
+@pytest.fixture
+def true(program: Path, folder: Path) -> Iterator[TrueCounter]:
+    made = TrueCounter(program, folder)
+    yield made
+    made.end()

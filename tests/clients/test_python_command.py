@@ -1,0 +1,328 @@
+"""The Python client's command and its fake counter: help, statuses, a day through nginx with a certificate, the documented commands, and the program's bytes."""
+
+from __future__ import annotations
+
+import http.client
+import json
+import re
+import socket
+import subprocess
+import time
+from pathlib import Path
+from typing import Any, ContextManager, Iterator
+from unittest import mock
+
+import pytest
+
+import ee_counter_client as client
+import ee_counter_client.errors as errors
+from ee_counter_client.command import ACTS, LOOK_UPS
+from ee_counter_client.testing import FakeCounter, Gate, fake as fake_module
+from tests.clients.desk import DAY, Desk, TrueCounter, bonds_csv, command, controls, holds_not
+from tests.conftest import TOP
+from tests.fence.site import Site
+
+Part = ContextManager[object] | None
+
+
+COMMANDS = [one[:3] for one in (*ACTS, *LOOK_UPS)]
+
+
+# ---- help, and statuses
+
+
+def is_help(out: str, does: str, named: list[str]) -> bool:
+    """Whether a text of help says what the command does, what each argument is, with examples, and what the statuses mean."""
+    are_told = all(re.search(rf"^  {name} +\w.{{9,}}; for example \S", out, re.M) for name in named)
+    statuses = re.search(r"^statuses:\n  0  .*\n  1  .*\n  2  .*\n  3  ", out, re.M)
+    is_whole = does in " ".join(out.split()) and "\nexample:\n" in out
+    return are_told and is_whole and statuses is not None
+
+
+@pytest.mark.parametrize("name, does, arguments", COMMANDS, ids=[one[0] for one in COMMANDS])
+def test_help(name: str, does: str, arguments: list[str]) -> None:
+    status, out, _ = command(name, "--help")
+    assert status == 0 and is_help(out, does, [argument.split()[-1] for argument in arguments])
+
+
+def test_help_without_a_part() -> None:
+    """Control: without one of its parts it isn't a help."""
+    _, out, _ = command("open", "--help")
+    for part in ("the business day, YYYY-MM-DD", "; for example 2012-02-06", "example:", "  1  "):
+        assert part in out and not is_help(out.replace(part, ""), "opens a day", ["day"])
+
+
+def test_statuses(desk: Desk) -> None:
+    at = ("--at", desk.gate.address)
+    assert command(*at, "value", "50", "2010-11", "2012-02")[0] == 0
+    assert command(*at, "sheet", "7", "2012-02")[0] == 0
+    assert command(*at, "ticket", "1") == (1, "", "there is no such ticket\n")
+    status, _, told = command(*at, "redeem", DAY, "7", "L1EE")
+    assert status == 2 and "redeem needs --journal" in told
+    status, _, told = command("--desk", "3", "ticket", "1")
+    assert status == 2 and "need --journal" in told and desk.fake.tickets == []
+    own = ("--journal", desk.journal, "--desk", "3", *at)
+    refused = '{"code":43,"refused":"DayIsOther"}\n'
+    found = command(*own, "redeem", "2012-02-07", "7", "L1EE")
+    assert found == (1, refused, "refused: DayIsOther (code 43)\n")
+    desk.gate.faults = ["forbidden"]
+    told = "this user may not do this (/day/close); nothing was done\n"
+    assert command(*own, "close", DAY) == (1, "", told)
+    status, out, told = command(*own, "redeem", DAY, "7", "L1EE")
+    assert status == 0 and json.loads(out)["ticket"] == 1, told
+    assert desk.journal.stat().st_mode & 0o777 == 0o600
+    with desk.counter():
+        status, _, told = command(*own, "ticket", "1")
+        assert status == 3 and "another process has the journal" in told
+
+
+def test_refused_rows(desk: Desk) -> None:
+    """A row that the counter refuses stops a registration; with that row mended it goes on from there."""
+    words = ("--journal", desk.journal, "--desk", "3", "--at", desk.gate.address, "register")
+    file, rows = desk.place / "bonds.csv", [f"L{n}EE,50,2010-11,7," for n in range(1001, 2801)]
+    file.write_text(bonds_csv(*rows[:1200], "L1EE,50,2010-10,7,", *rows[1201:]))
+    status, out, told = command(*words, file)
+    assert (status, out) == (1, '{"code":31,"refused":"SerialConflict","serial":"L1EE"}\n')
+    assert "rows 1002 to 1501 of the file" in told
+    file.write_text(bonds_csv(*rows))
+    assert command(*words, file)[:2] == (0, '{"new":800,"same":0,"before":1000}\n')
+    assert command(*words, file)[:2] == (0, '{"new":0,"same":0,"before":1800}\n')
+    replies = [reply for (number, (_, reply)) in sorted(desk.fake.kept.items()) if number[0] == 3]
+    assert [reply.get("new", "refused") for reply in replies] == [500, 500, "refused", 500, 300]
+
+
+# ---- through nginx
+
+
+@pytest.mark.nginx
+def test_through_nginx(true: TrueCounter, folder: Path) -> None:
+    """A day with a certificate of the staff. One that is revoked ends a command at once, and leaves its request open; with a new one the same command gets its reply."""
+    with Gate(true.port) as gate:
+        site = Site(folder / "site", gate.address, {"nora": "teller supervisor office registrar"})
+        try:
+            through(site, gate, folder)
+        finally:
+            site.end()
+
+
+def through(site: Site, gate: Gate, folder: Path) -> None:
+    at = (
+        "--journal",
+        folder / "a.journal",
+        "--desk",
+        "3",
+        "--at",
+        f"https://127.0.0.1:{site.port}",
+    )
+    certificate = ("--certificate", site.staff.certificate("nora"))
+
+    def run(*words: object) -> tuple[int, str, str]:
+        return command(*at, *certificate, "--ca", site.folder / "certificate.pem", *words)
+
+    paid = '{"day":"2012-02-06","lines":[{"paid":"25.16","serial":"L1EE"}],"payee":7,"ticket":1,"total":"25.16"}\n'
+    batch = '{"bonds":1,"day":"2012-02-06","tickets":1,"total":"25.16"}\n'
+    for words, wanted in (
+        (("rates", TOP / "samples/rates.csv"), '{"new":14,"same":0}\n'),
+        (("register", TOP / "samples/inventory.csv"), '{"new":3,"same":0,"before":0}\n'),
+        (("open", "--even-so", DAY), '{"opened":"2012-02-06"}\n'),
+        (("redeem", DAY, "7", "L1EE"), paid),
+        (("ticket", "1"), paid),
+        (("close", DAY), batch),
+        (("batch", DAY), batch),
+        (("open", "--even-so", "2012-02-07"), '{"opened":"2012-02-07"}\n'),
+    ):
+        status, out, told = run(*words)
+        assert (status, out) == (0, wanted), told
+    gate.faults = ["lost answer"] * 9
+    payment = ("redeem", "--key", "a", "2012-02-07", "7", "K2EE")
+    assert run("--patience", "2", *payment)[:2] == (3, "")
+    gate.faults = []
+    site.staff.dismiss("nora")
+    site.reload()
+    for words in (payment, ("ticket", "1")):
+        status, out, told = run(*words)
+        assert (status, out) == (3, "") and told.startswith("the proxy got no certificate of the")
+    site.staff.hire("nora")
+    status, out, told = run(*payment)
+    assert status == 0 and json.loads(out)["ticket"] == 2, told
+    assert run("ticket", "3")[0] == 1, "it was paid once"
+
+
+# ---- the document
+
+
+def commands_of(text: str) -> list[tuple[str, list[str]]]:
+    """Each command of a document's blocks, with what it prints."""
+    found: list[tuple[str, list[str]]] = []
+    for block in re.findall(r"^```\n(\$ .*?)^```$", text, re.M | re.S):
+        for line in block.splitlines():
+            if line.startswith("$ "):
+                found.append((line[2:], []))
+            else:
+                found[-1][1].append(line)
+    return found
+
+
+def test_document(program: Path, folder: Path) -> None:
+    """The commands of docs/COUNTER_CLIENT.md, run as written in one shell, in a folder that has the repository's files by links."""
+    for name in ("clients", "samples"):
+        (folder / name).symlink_to(TOP / name)
+    (folder / "ee_cli").symlink_to(program)
+    text = (TOP / "docs/COUNTER_CLIENT.md").read_text()
+    port = int(re.findall(r"serve .*--port (\d+)", text)[0])
+    with socket.socket() as trial:
+        assert trial.connect_ex(("127.0.0.1", port)) != 0, f"port {port} is in use"
+    lines = commands_of(text)
+    assert len(lines) > 15
+    shell = subprocess.Popen(
+        ["bash"],
+        stdin=subprocess.PIPE,
+        stdout=subprocess.PIPE,
+        stderr=subprocess.STDOUT,
+        text=True,
+        cwd=folder,
+    )
+    assert shell.stdin and shell.stdout
+    try:
+        for line, wanted in lines:
+            shell.stdin.write(f"{line}\necho END OF IT\n")
+            shell.stdin.flush()
+            found = [one.rstrip("\n") for one in iter(shell.stdout.readline, "END OF IT\n")]
+            texts = [re.sub("^request [0-9]+ ", "request N ", one) for one in found]
+            assert texts == [re.sub("^request [0-9]+ ", "request N ", one) for one in wanted], line
+            if line.endswith("&"):
+                listens(port)
+    finally:
+        shell.stdin.write("kill $(jobs -p)\n")
+        shell.stdin.close()
+        shell.wait(timeout=60)
+
+
+def listens(port: int) -> None:
+    for _ in range(300):
+        with socket.socket() as trial:
+            if trial.connect_ex(("127.0.0.1", port)) == 0:
+                return
+        time.sleep(0.1)
+    raise AssertionError(f"nothing listens on port {port}")
+
+
+# ---- the fake counter beside the program
+
+#: Rates of 0.00 % for each May and November, since the fake's values are those of such rates.
+RATES = [
+    {"from": f"{year}-{month}", "rate": "0.00"}
+    for year in range(2005, 2013)
+    for month in ("05", "11")
+]
+#: The method, the path and the body of a message.
+Message = tuple[str, str, str | None]
+
+
+def bond(serial: str, issued: str, denom: int = 50, owner: int = 7, **more: Any) -> dict[str, Any]:
+    return {"serial": serial, "denom": denom, "issued": issued, "owner": owner, **more}
+
+
+BONDS = [
+    *(bond("L1EE", "2010-11"), bond("K-002-EE", "10/2010", 75, coowner=8)),
+    *(bond("M3EE", "2005-06", 10000), bond("N4EE", "2011-09"), bond("O5EE", "2012-05")),
+    bond("L10EE", "2007-02", 200),
+]
+ACTS_SENT: list[tuple[str, dict[str, Any]]] = [
+    *(("/rates", {"rates": rates}) for rates in (RATES, RATES[1:])),
+    ("/rates", {"rates": RATES[:2] + [{"from": "2013-05", "rate": "0", "extension": "0.00%"}]}),
+    *(("/rates", {"rates": [{"from": month, "rate": "1.00"}]}) for month in ("2010-06", "2010-05")),
+    *(("/bonds", {"bonds": bonds}) for bonds in (BONDS, BONDS[:2], [BONDS[0], BONDS[0]], [])),
+    ("/bonds", {"bonds": [bond("P6EE", "2010-11", coowner=7)]}),
+    ("/bonds", {"bonds": [bond("L1EE", "2010-11", owner=9)]}),
+    ("/redeem", {"day": DAY, "payee": 7, "serials": ["L1EE"]}),
+    *((path, {"day": day}) for path, day in (("/day/close", DAY), ("/day/open", DAY))),
+    *((path, {"day": "2012-02-07"}) for path in ("/day/open", "/day/close")),
+    *(
+        ("/redeem", {"day": DAY, "payee": payee, "serials": serials})
+        for payee, serials in (
+            *((7, ["L1EE", "L-1-EE"]), (7, ["Z9EE"]), (8, ["L1EE"]), (7, ["O5EE"]), (7, ["N4EE"])),
+            *((7, []), (7, [f"A{n}EE" for n in range(1, 102)]), (7, ["M3EE", "L1EE"])),
+            *((8, ["K2EE"]), (7, ["L1EE"])),
+        )
+    ),
+]
+BODIES = ["", "{", "[]", '{"number":0}', '{"desk":1000,"number":1}']
+MISFITS: list[dict[str, Any]] = [{"day": "2012-02-30"}, {"day": DAY, "payee": "7"}]
+MISFITS += [{"day": DAY, "payee": 7, "serials": ["L1"]}]
+MISFITS += [{"day": DAY, "payee": 7, "serials": ["L1EE"], "teller": 3}]
+BODIES += [json.dumps({"number": 90, **fields}) for fields in MISFITS]
+MONTHS = ["2012-02", "2005-01", "2012-05", "2026-12", "2035-07", "2041-01"]
+PATHS = [f"/{what}/{month}" for what in ("inventory/7", "value/500/2006-03") for month in MONTHS]
+PATHS += [f"/ticket/{number}" for number in ("1", "2", "3", "0", "x")]
+PATHS += ["/batch/2012-02-06", "/batch/2012-2-6", "/inventory/0/2012-02", "/inventory/7/2012"]
+PATHS += ["/value/51/2010-11/2012-02", "/value/50/2005-04/2012-02", "/else", "/redeem"]
+
+
+def messages() -> Iterator[Message]:
+    """What is sent to both, in an order in which each refusal of the fake comes about."""
+
+    def post(number: int, path: str, fields: dict[str, Any]) -> Message:
+        return "POST", path, json.dumps({"desk": 3, "number": number, **fields})
+
+    yield post(1, *ACTS_SENT[0])
+    for number, act in enumerate(ACTS_SENT, 1):
+        yield post(number, *act)
+    yield post(len(ACTS_SENT), "/redeem", {"day": DAY, "payee": 7, "serials": ["M3EE", "L1EE"]})
+    yield from (("GET", path, None) for path in PATHS)
+    yield "POST", "/ticket/1", "{}"
+    yield from (("POST", "/redeem", body) for body in BODIES)
+    for number, path in enumerate(("/day/close", "/day/open"), 100):
+        yield post(number, path, {"day": DAY})
+    for path in (f"/batch/{DAY}", "/inventory/7/2012-02"):
+        yield "GET", path, None
+
+
+def answer(port: int, message: Message) -> tuple[int, str | None, str]:
+    """The status, the type and the text."""
+    connection = http.client.HTTPConnection("127.0.0.1", port, timeout=60)
+    connection.request(*message, {"Connection": "close"})
+    response = connection.getresponse()
+    found = response.status, response.getheader("Content-Type"), response.read().decode()
+    connection.close()
+    return found
+
+
+@controls(
+    a_cent_more=mock.patch.object(
+        fake_module, "printed", lambda cents: f"{(cents + 1) // 100}.{(cents + 1) % 100:02}"
+    ),
+    another_order_of_refusals=mock.patch.object(fake_module, "first_twice", lambda serials: None),
+)
+def test_fake_counter(true: TrueCounter, part: Part) -> None:
+    """The fake counter and the program give the same bytes; each refusal has its class, with what it names."""
+    codes = set()
+    with FakeCounter() as fake, holds_not(part):
+        for message in messages():
+            found = answer(true.port, message)
+            assert answer(fake.port, message) == found, message
+            if found[0] != 200:
+                value = json.loads(found[2])
+                codes.add(value["code"])
+                if found[0] == 409 and value["code"] != 10:
+                    refusal = errors.refusal_of(value)
+                    assert (refusal.code, type(refusal).__name__) == (
+                        value["code"],
+                        value["refused"],
+                    )
+                    named = {key: value[key] for key in value if key not in ("code", "refused")}
+                    assert refusal.details == named
+        assert len(codes) >= 20, codes
+
+
+def test_values_and_refusals_of_a_test(desk: Desk) -> None:
+    """A bank's test gives values and refusals."""
+    desk.fake.refusals.append({"code": 30, "refused": "NoRate", "serial": "L1EE"})
+    with desk.counter() as counter:
+        with pytest.raises(client.NoRate) as raised:
+            counter.redeem(DAY, 7, ["L1EE"])
+        assert raised.value.serial == "L1EE"
+    with FakeCounter(values={"L1EE": "25.16"}) as fake:
+        assert fake.values["L1EE"] == 2516
+    with pytest.raises(client.BadValue):
+        FakeCounter(values={"L1EE": "25"})

@@ -1,0 +1,328 @@
+"""The Python client over the program, with real kills: of a pool, of the documented program at its calls, of a registration, and of client and counter at random."""
+
+from __future__ import annotations
+
+import collections
+import contextlib
+import datetime
+import errno
+import json
+import random
+import re
+import sqlite3
+import subprocess
+import sys
+import time
+from pathlib import Path
+from typing import Any, Iterator
+
+import pytest
+
+import ee_counter_client as client
+from ee_counter_client.archive import Archive
+from ee_counter_client.testing import AFTER, BEFORE, Gate
+from tests.clients.desk import DAY, OWN, TrueCounter, bonds_csv, command, ran
+from tests.clients.interruptions import Failing, Interrupt
+from tests.clients.worker import BONDS, act_at, is_expected, kept_act
+from tests.conftest import TOP
+
+STOPPED = (errno.EIO, errno.ENOSPC)
+
+
+@pytest.fixture
+def gate(true: TrueCounter) -> Iterator[Gate]:
+    with Gate(true.port, true.kill) as made:
+        yield made
+
+
+def begin(address: str, place: Path, bonds: int = 0) -> None:
+    """By desk 1: the rates, bonds A1EE, A2EE .. of customer 7, and an open day if there are any."""
+    with client.Counter(place / "other.journal", address, desk=1) as counter:
+        counter.add_rates(client.rates_in(TOP / "crates/published_values/data/rates.csv"))
+        rows = [client.Bond(f"A{n}EE", 50, "2010-11", 7) for n in range(1, bonds + 1)]
+        if rows:
+            counter.add_bonds(rows, even_so=True)
+            counter.open_day(DAY, even_so=True)
+
+
+def after_messages(gate: Gate, wanted: int, running: subprocess.Popen[Any]) -> None:
+    """Waits for so many messages at most."""
+    wanted, end = len(gate.bodies) + wanted, time.monotonic() + 20
+    while len(gate.bodies) < wanted and time.monotonic() < end and running.poll() is None:
+        time.sleep(0.002)
+
+
+def rows_of(true: TrueCounter, query: str) -> list[tuple[Any, ...]]:
+    """What the store has, while the program doesn't serve. It is opened once more, which writes its log back."""
+    with true.stopped():
+        words = (true.program, "export", "1", "--db", true.store)
+        subprocess.run(words, stdout=subprocess.DEVNULL, check=True)
+        with contextlib.closing(sqlite3.connect(f"file:{true.store}?mode=ro", uri=True)) as books:
+            return books.execute(query).fetchall()
+
+
+# ---- interruptions of a process that lives on, over the program
+
+
+def test_restored_from_the_archive(true: TrueCounter, folder: Path, dice: random.Random) -> None:
+    """A day of payments, each interrupted three times by Ctrl-C or a failed call: one ticket each, and counter-restore makes the store anew from the desk's archive alone."""
+    archive = folder / "a.archive"
+
+    def paid(serial: str) -> client.Ticket:
+        for _ in range(3):
+            at = dice.randint(1, 1000)
+            if dice.random() < 0.5:
+                with Interrupt(nth=at):
+                    counter.redeem(DAY, 7, [serial], key=serial)
+            else:
+                failing = Failing(at % 25, dice.choice(STOPPED), dice.random() < 0.5)
+                with contextlib.suppress(client.FileFailed), failing:
+                    counter.redeem(DAY, 7, [serial], key=serial)
+        return counter.redeem(DAY, 7, [serial], key=serial)
+
+    with client.Counter(folder / "a.journal", true.address, desk=3, archive=archive) as counter:
+        counter.add_rates(client.rates_in(TOP / "samples/rates.csv"))
+        counter.add_bonds([client.Bond(f"L{n}EE", 50, "2010-11", 7) for n in range(1, 17)])
+        counter.open_day(DAY, even_so=True)
+        assert [paid(f"L{n}EE").number for n in range(1, 17)] == list(range(1, 17))
+        assert counter.close_day(DAY).tickets == 16
+    new = folder / "new.db"
+    restore = (TOP / "samples/restore/counter-restore", new, "--from", archive)
+    status, out, told = ran(*restore, "--program", true.program, "--yes")
+    assert status == 0, out + told
+    assert ran(true.program, "export", "1", "--db", new)[0] == 0
+
+
+# ---- the documented program
+
+ON_FILES = "openat,read,write,pwrite64,ftruncate,fsync,rename,close,flock"
+WITH_COUNTER = "connect,sendto,recvfrom"
+FILES = ("", "desk3.journal", "desk3.journal.new", "desk3.journal.lock", "desk3.journal.keys")
+HARM = ["signal=SIGKILL", "signal=SIGINT", "error=EIO", "error=ENOSPC"]
+#: Runs a program again in the same process after Ctrl-C or a failed call, as a notebook does.
+LIVES_ON = """
+import signal, sys
+from ee_counter_client import CounterError
+signal.signal(signal.SIGINT, signal.default_int_handler)  # a shell's background job ignores it
+code = compile(open(sys.argv[1]).read(), sys.argv[1], "exec")
+for turn in range(4):
+    try:
+        exec(code, {"__name__": "__main__"})
+        break
+    except (KeyboardInterrupt, CounterError, OSError) as error:
+        print(f"interrupted: {type(error).__name__}: {error}", file=sys.stderr, flush=True)
+else:
+    sys.exit(1)
+"""
+
+
+class Documented:
+    """The first program of docs/PYTHON_CLIENT.md, as written but for its day, its bonds, its port and an archive. Each trial is a day with two bonds of its own."""
+
+    def __init__(self, true: TrueCounter, folder: Path) -> None:
+        self.true, self.folder, self.count = true, folder, 0
+        text = (TOP / "docs/PYTHON_CLIENT.md").read_text()
+        self.text = re.findall(r"^```python\n(.*?)^```$", text, re.M | re.S)[0]
+        assert len(self.text.splitlines()) > 15
+        (folder / "lives_on.py").write_text(LIVES_ON)
+        begin(true.address, folder)
+
+    def new_day(self, other: client.Counter) -> None:
+        self.count += 1
+        self.place = self.folder / f"trial{self.count}"
+        self.place.mkdir()
+        self.day = (datetime.date(2012, 2, 5) + datetime.timedelta(days=self.count)).isoformat()
+        self.serials = [f"L{self.count}EE", f"K{self.count}EE"]
+        other.add_bonds([client.Bond(self.serials[0], 50, "2010-11", 7)])
+        other.add_bonds([client.Bond(self.serials[1], 75, "2010-10", 7)])
+        changes = {"2012-02-06": self.day, "L1EE": self.serials[0], "K2EE": self.serials[1]}
+        changes["http://127.0.0.1:8377"] = self.true.address
+        changes["patience=60"] = 'patience=60, archive="desk3.archive"'
+        program = self.text
+        for old, new in changes.items():
+            assert old in program
+            program = program.replace(old, new)
+        (self.place / "program.py").write_text(program)
+
+    def run(self, calls: str = "", log: str = "/dev/null", harm: str = "") -> tuple[int, str, str]:
+        """Runs it, perhaps under strace, which harms one of the calls."""
+        words: list[object] = [sys.executable, "-B"]
+        if calls:
+            trace = ["strace", "-f", "-qq", "-o", log, f"--trace={calls}"]
+            names = (*FILES, "desk3.archive") if calls == ON_FILES else ()
+            paths = [word for name in names for word in ("-P", (self.place / name).resolve())]
+            words = [*trace, *paths, *([f"--inject={harm}"] if harm else []), *words]
+        if harm and "KILL" not in harm:
+            words.append(self.folder / "lives_on.py")
+        return ran(*words, "program.py", cwd=self.place)
+
+    def points(self, other: client.Counter) -> list[tuple[str, str, int]]:
+        """Each call that an unharmed run makes on its files, and with the counter."""
+        found = []
+        for calls in (ON_FILES, WITH_COUNTER):
+            self.new_day(other)
+            log = self.place / "calls"
+            assert self.run(calls, str(log))[0] == 0
+            counts = collections.Counter(re.findall(r"^\d+ +(\w+)\(", log.read_text(), re.M))
+            found += [(calls, name, at) for name, n in counts.items() for at in range(1, n + 1)]
+        return found
+
+    def tried(self, other: client.Counter, point: tuple[str, str, int], harm: str) -> str:
+        """Harms a run, and runs it again: the bonds are paid once. Returns how the first one ended."""
+        self.new_day(other)
+        calls, name, at = point
+        status, out, told = self.run(calls, harm=f"{name}:{harm}:when={at}")
+        again = self.run()
+        batch = other.batch(self.day)
+        assert batch and (batch.tickets, batch.bonds) == (1, 2), (told, again)
+        ticket = other.ticket(self.count)
+        assert ticket and [line.serial for line in ticket.lines] == self.serials
+        assert ticket.total == batch.total and other.ticket(self.count + 1) is None
+        wanted = f"pay out {ticket.total} for ticket {ticket.number}\n1 tickets, 2 bonds, {batch.total} dollars\n"
+        assert again[:2] == (0, wanted), (told, again)
+        archive = self.place / "desk3.archive"
+        Archive(str(archive)).close()
+        assert f'"reply":{ticket.text}' in archive.read_text()
+        if "KILL" not in harm:
+            assert status == 0 and out.endswith(wanted), "the process lived on"
+        return "killed" if status in (-9, 137) else "interrupted" * ("interrupted" in told)
+
+
+@pytest.mark.needs("strace")
+@pytest.mark.parametrize("trials", [12, pytest.param(200, marks=pytest.mark.slow)])
+def test_documented_program(
+    true: TrueCounter, folder: Path, dice: random.Random, trials: int
+) -> None:
+    """It is killed, interrupted, or fails at one of its calls on its files or with the counter. Run again it goes on, and pays once."""
+    documented = Documented(true, folder)
+    with client.Counter(folder / "other.journal", true.address) as other:
+        points = dice.choices(documented.points(other), k=trials)
+        ends = [documented.tried(other, one, HARM[n % 4]) for n, one in enumerate(points)]
+    assert ends.count("killed") >= trials / 5 and ends.count("interrupted") >= trials / 8, ends
+
+
+# ---- kills at random
+
+POOL = """
+import sys
+from concurrent.futures import ThreadPoolExecutor
+from ee_counter_client import Pool
+folder, address, count = sys.argv[1], sys.argv[2], int(sys.argv[3])
+with Pool(folder, address, desks=range(10, 14)) as pool, ThreadPoolExecutor(6) as workers:
+    for ticket in workers.map(lambda job: pool.redeem("2012-02-06", 7, [f"A{job}EE"], key=f"job-{job}"), range(1, count + 1)):
+        print(ticket.number, ticket.lines[0].serial, flush=True)
+"""
+
+
+def test_killed_pool(true: TrueCounter, gate: Gate, folder: Path, dice: random.Random) -> None:
+    """The process of a pool is killed, and started again with the same jobs: one ticket for each job."""
+    count, kills = 100, 0
+    begin(true.address, folder, count)
+    line = [sys.executable, "-c", POOL, str(folder), gate.address, str(count)]
+    for _ in range(8):
+        running = subprocess.Popen(line, env=OWN, stdout=subprocess.DEVNULL)
+        after_messages(gate, dice.randint(4, 12), running)
+        gate.faults = [dice.choice(("lost answer", "failed after", "lost request"))]
+        time.sleep(dice.uniform(0, 0.05))
+        running.kill()
+        kills += running.wait() == -9
+    gate.faults = []
+    status, out, told = ran(*line)
+    lines = [text.split() for text in out.splitlines()]
+    assert status == 0 and [serial for _, serial in lines] == [
+        f"A{n}EE" for n in range(1, count + 1)
+    ]
+    assert sorted(int(number) for number, _ in lines) == list(range(1, count + 1)), told
+    assert kills >= 6, "kills that came while it worked"
+    with client.Counter(folder / "other.journal", true.address) as counter:
+        batch = counter.close_day(DAY)
+    assert (batch.tickets, batch.bonds) == (count, count)
+
+
+@pytest.mark.parametrize("kills", [12, pytest.param(1000, marks=pytest.mark.slow)])
+def test_random_kills(
+    true: TrueCounter, gate: Gate, folder: Path, dice: random.Random, kills: int
+) -> None:
+    """A client goes through days; it and the counter are killed at random, and messages harmed. Every act was done once, in its order, with the reply that the client was given
+    and that the rules give."""
+    begin(true.address, folder)
+    line = [sys.executable, "-m", "tests.clients.worker", str(folder), gate.address]
+    faults = [fault for fault in AFTER + BEFORE if fault not in ("silent", "dripping")]
+    worker = subprocess.Popen(line, env=OWN)
+    client_kills = 0
+    while client_kills + true.kills < kills:
+        after_messages(gate, dice.randint(1, 6), worker)
+        time.sleep(dice.uniform(0, 0.03))
+        if dice.random() < 0.3:
+            gate.faults = [dice.choice(faults)]
+        assert worker.poll() is None, "the client ended by itself"
+        if dice.random() < 0.5:
+            client_kills += 1
+            worker.kill()
+            worker.wait()
+            worker = subprocess.Popen(line, env=OWN)
+        else:
+            true.kill()
+    gate.faults = []
+    (folder / "stop").touch()
+    assert worker.wait(timeout=300) == 0
+    assert min(client_kills, true.kills) >= kills / 5
+    given: dict[int, dict[str, Any]] = {}
+    for place, reply in map(json.loads, (folder / "replies").read_text().splitlines()):
+        assert given.setdefault(place, reply) == reply
+    assert sorted(given) == list(range(len(given))) and len(given) > kills
+    kept = rows_of(true, "SELECT act, reply FROM answers WHERE desk = 3 ORDER BY number")
+    assert [act for act, _ in kept] == [kept_act(place) for place in range(len(given))]
+    assert [json.loads(reply) for _, reply in kept] == [given[place] for place in sorted(given)]
+    assert [place for place, reply in given.items() if not is_expected(place, reply)] == []
+    for bonds, distinct in rows_of(
+        true, "SELECT count(*), count(DISTINCT letter || number) FROM paid"
+    ):
+        assert bonds == distinct
+    days = sum(act_at(place)[0] == "/bonds" for place in given)
+    assert rows_of(true, "SELECT count(*) FROM bonds") == [(BONDS * days,)]
+
+
+@pytest.mark.parametrize(
+    "count, stops", [(3_000, 3), pytest.param(100_000, 20, marks=pytest.mark.slow)]
+)
+def test_many_bonds(
+    true: TrueCounter, gate: Gate, folder: Path, dice: random.Random, count: int, stops: int
+) -> None:
+    """Bonds are registered in requests of 500, while the client is killed, the counter is killed, or an answer is lost: none is registered or refused twice."""
+    begin(true.address, folder)
+    file = folder / "bonds.csv"
+    denoms, months = (50, 100, 500, 10000), range(1, 13)
+    file.write_text(
+        bonds_csv(
+            *(
+                f"{'ABCDEFGH'[n % 8]}{n}EE,{denoms[n % 4]},20{10 + n % 9}-{months[n % 12]:02},{1 + n % 5000},"
+                + ("" if n % 3 else str(5001 + n % 77))
+                for n in range(1, count + 1)
+            )
+        )
+    )
+    own = ("--journal", folder / "a.journal", "--desk", "3", "--at", gate.address)
+    words = (*own, "register", "--even-so", file)
+    line = [sys.executable, "-B", str(TOP / "clients/counter.py"), *map(str, words)]
+    killed = 0
+    for stop in range(stops):
+        running = subprocess.Popen(line, stdout=subprocess.DEVNULL, stderr=subprocess.DEVNULL)
+        most = max(1, count // 500 // stops)
+        after_messages(gate, dice.randint(1, most), running)
+        if stop % 3 == 1:
+            true.kill()
+            after_messages(gate, 1, running)
+        elif stop % 3 == 2:
+            gate.faults = ["killed after"]
+            after_messages(gate, 1, running)
+        running.kill()
+        killed += running.wait() == -9
+        gate.faults = []
+    assert killed == stops and true.kills >= stops // 3
+    status, out, told = command(*words)
+    assert status == 0 and json.loads(out)["same"] == 0, told
+    assert command(*words)[:2] == (0, f'{{"new":0,"same":0,"before":{count}}}\n')
+    assert rows_of(true, "SELECT count(*) FROM bonds") == [(count,)]
+    replies = rows_of(true, "SELECT reply, count(*) FROM answers WHERE desk = 3 GROUP BY 1")
+    assert replies == [('{"new":500,"same":0}', count // 500)]

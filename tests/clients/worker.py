@@ -1,0 +1,115 @@
+"""A client that works for days without an end, and may be killed at any moment and started again. Each act is known by its place: bonds are registered, a day is opened,
+bonds are paid, the first of each two is asked for again, and the day is closed."""
+
+from __future__ import annotations
+
+import datetime
+import json
+import logging
+import sys
+from pathlib import Path
+from typing import Any
+
+from ee_counter_client import Counter, ForeignAnswer, NotReady, Refused
+from ee_counter_client.results import Result
+
+FIRST_DAY = datetime.date(2012, 2, 6)
+BONDS = 24
+PAYMENTS = BONDS // 2
+ACTS = 2 + 2 * PAYMENTS + 1
+TERMS = {"L": (50, "2010-11"), "K": (75, "2010-10")}
+
+
+def act_at(place: int) -> tuple[str, dict[str, Any]]:
+    """The path and the fields of an act."""
+    turn, step = divmod(place, ACTS)
+    day: dict[str, Any] = {"day": (FIRST_DAY + datetime.timedelta(days=turn)).isoformat()}
+    serials = [f"{'LK'[at % 2]}{turn * BONDS + at + 1}EE" for at in range(BONDS)]
+    if step == 0:
+        people: dict[str, Any] = {"owner": turn + 1, "coowner": 900_000}
+        kinds = [TERMS[serial[0]] for serial in serials]
+        bonds = [
+            {"serial": serial, "denom": denom, "issued": issued, **people}
+            for serial, (denom, issued) in zip(serials, kinds)
+        ]
+        return "/bonds", {"bonds": bonds}
+    if step in (1, ACTS - 1):
+        return "/day/open" if step == 1 else "/day/close", day
+    payment, is_again = divmod(step - 2, 2)
+    pair = serials[2 * payment : 2 * payment + 2]
+    payee = 900_000 if payment % 3 == 0 else turn + 1
+    return "/redeem", {**day, "payee": payee, "serials": pair[:1] if is_again else pair}
+
+
+def kept_act(place: int) -> str:
+    """The text of an act as the store keeps it (docs/FORMATS.md)."""
+    path, fields = act_at(place)
+    name = path.split("/")[-1]
+    return json.dumps({"act": name, **fields}, separators=(",", ":"), sort_keys=True)
+
+
+def is_expected(place: int, reply: dict[str, Any]) -> bool:
+    """Whether the reply is what the rules give, the values apart."""
+    path, fields = act_at(place)
+    turn, step = divmod(place, ACTS)
+    payment, is_again = divmod(step - 2, 2)
+    ticket = turn * PAYMENTS + payment + 1
+    wanted: dict[str, Any]
+    if path == "/bonds":
+        wanted = {"new": BONDS, "same": 0}
+    elif path == "/day/open":
+        wanted = {"opened": fields["day"]}
+    elif path == "/day/close":
+        wanted = {"bonds": BONDS, "day": fields["day"], "tickets": PAYMENTS}
+    elif is_again:
+        wanted = {"code": 52, "refused": "AlreadyPaid", "serial": fields["serials"][0]}
+        wanted["ticket"] = ticket
+    else:
+        wanted = {"day": fields["day"], "payee": fields["payee"], "ticket": ticket}
+        if [line["serial"] for line in reply["lines"]] != fields["serials"]:
+            return False
+    more = {"total", "lines"} if "ticket" in wanted and not is_again else set()
+    more |= {"total"} if path == "/day/close" else set()
+    return {key: reply[key] for key in reply if key not in more} == wanted
+
+
+def done(counter: Counter, place: int) -> Result:
+    path, fields = act_at(place)
+    if path == "/bonds":
+        return counter.add_bonds(fields["bonds"], bookmark=place + 1)
+    if path == "/day/open":
+        return counter.open_day(fields["day"], bookmark=place + 1, even_so=True)
+    if path == "/day/close":
+        return counter.close_day(fields["day"], bookmark=place + 1)
+    return counter.redeem(fields["day"], fields["payee"], fields["serials"], bookmark=place + 1)
+
+
+def work(folder: Path, address: str) -> None:
+    """Does the acts from where the journal is, until the file `stop` is there and a day is done."""
+    with open(folder / "replies", "a", encoding="utf-8", buffering=1) as replies:
+        with Counter(folder / "worker.journal", address, desk=3) as counter:
+            last = counter.last
+            place = 0 if last is None else last.request.bookmark
+            if last is not None:
+                replies.write(json.dumps([place - 1, dict(last.reply)]) + "\n")
+            while counter.open_request or not (folder / "stop").exists() or place % ACTS:
+                try:
+                    reply = json.loads(done(counter, place).text)
+                except Refused as refusal:
+                    reply = refusal.reply
+                replies.write(json.dumps([place, reply]) + "\n")
+                place += 1
+
+
+def main(folder: Path, address: str) -> None:
+    """A page in the counter's place that comes before the first good exchange ends the client. It is then started again, as by a supervisor."""
+    logging.basicConfig(filename=folder / "told", format="%(message)s", level=logging.WARNING)
+    while True:
+        try:
+            return work(folder, address)
+        except (ForeignAnswer, NotReady) as error:
+            logging.warning("started again: %s", error)
+
+
+if __name__ == "__main__":
+    main(Path(sys.argv[1]), sys.argv[2])
