@@ -8,7 +8,7 @@ import { asking, clearNotices, earlierSendings, endSteps, giveFocusBack, keepFoc
 import { askUser } from "./queries.js";
 import { startQuestions } from "./question.js";
 import { receiptOf, Receipts } from "./receipts.js";
-import { Sender } from "./sender.js";
+import { isNotDone, Sender } from "./sender.js";
 import { laterOf, readDesk } from "./spelling.js";
 import { dayReplied, deskSums, enterDay, offerActs, showDay, startDayView } from "./view_day.js";
 import { clearPay, enterPay, followDay, hasGoneOn, markPaid, startPayView } from "./view_pay.js";
@@ -138,8 +138,9 @@ class Page {
     try {
       const answer = await sent();
       const receipt = answer.kind === "ticket" ? receiptOf(answer, this.record.desk, this.#payerOf(answer)) : null;
+      if (isNotDone(answer)) await this.#sender.forget({});
       const changes = this.#shown(answer, receipt);
-      await this.#sender.forget(changes, async () => receipt !== null && this.#receipts.keep(receipt));
+      if (!isNotDone(answer)) await this.#sender.forget(changes, async () => receipt !== null && this.#receipts.keep(receipt));
     } catch (error) {
       tellFailed(error);
     }

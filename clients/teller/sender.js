@@ -34,6 +34,17 @@ function isFinal(answer, sent) {
   return (isReply(answer) && !isReused(answer)) || (isOfOneSending(answer) && sent === 1);
 }
 
+// That a request wasn't done at all, which is shown once it is dropped: a page that is killed before sends it again.
+export function isNotDone(answer) {
+  return !isReply(answer);
+}
+
+// The least number after one; the rules know no greater than JavaScript counts to.
+function after(number) {
+  if (!Number.isSafeInteger(number + 1)) throw new Error("this desk has no numbers left");
+  return number + 1;
+}
+
 function isReused(answer) {
   return answer.kind === "refused" && answer.code === NUMBER_REUSED;
 }
@@ -65,7 +76,7 @@ export class Sender {
     return this.#alone(async () => {
       if (this.isOpen) throw new Error("a request is open");
       const number = this.#journal.record.next;
-      await this.#journal.change({ next: number + 1, open: { number, step: 1, sent: 0, path, fields, ...more } });
+      await this.#journal.change({ next: after(number), open: { number, step: 1, sent: 0, path, fields, ...more } });
       return this.#finished();
     });
   }
@@ -107,14 +118,14 @@ export class Sender {
     const { open, next } = this.#journal.record;
     const registered = { new: added.new, same: added.same, sent: open.sent };
     for (let failures = 0; ; failures += 1) {
-      const missed = await this.#written({ next: next + 1, open: { number: next, step: 1, sent: 0, teller: open.teller, ...open.then, registered } });
+      const missed = await this.#written({ next: after(next), open: { number: next, step: 1, sent: 0, teller: open.teller, ...open.then, registered } });
       if (missed === null) return;
       await this.#pause({ ...missed, is_replied: true }, pauseAfter(failures));
     }
   }
 
-  // Drops the request from the journal, once its reply was shown, and `keep` has kept what there is to keep of it.
-  async forget(changes, keep) {
+  // Drops the request from the journal, once its reply was shown, and `keep` has kept what there is to keep of it. One that wasn't done is dropped before that is shown.
+  async forget(changes, keep = async () => {}) {
     for (let failures = 0; ; failures += 1) {
       const missed = await this.#written({ ...changes, open: null }, keep);
       if (missed === null) return;
@@ -151,8 +162,7 @@ export class Sender {
   async #renumbered() {
     const { open } = this.#journal.record;
     const number = open.number + open.step;
-    if (!Number.isSafeInteger(number + 1)) throw new Error("this desk has no numbers left");
-    const missed = await this.#written({ next: number + 1, open: { ...open, number, step: open.step * 2, sent: 0 } });
+    const missed = await this.#written({ next: after(number), open: { ...open, number, step: open.step * 2, sent: 0 } });
     if (missed === null) this.#tell({ step: "renumbered", request: this.#journal.record.open });
     return missed;
   }

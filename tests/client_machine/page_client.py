@@ -42,6 +42,7 @@ PAGE = HERE.parent.parent / "clients" / "teller"
 #: The greatest whole number that JavaScript has.
 MOST = 2**53 - 1
 REPLIES = ("ticket", "added", "opened", "batch")
+NONE_LEFT = "this desk has no numbers left"
 
 
 def record_of(record: Json) -> Record:
@@ -176,8 +177,10 @@ class PageClient:
 
         That it wasn't done is shown once it was dropped."""
         said = self.called()
-        if said is None or "failed" in said:
-            assert said is None or said["failed"] == "unstored", said
+        if said is None:
+            return
+        if "failed" in said:
+            self.failed(said["failed"])
             return
         kind = said["ended"]["kind"]
         if kind in REPLIES or kind == "refused":
@@ -185,6 +188,16 @@ class PageClient:
         self.node.does("forget")
         if self.called() is not None and kind not in REPLIES and kind != "refused":
             self.told(NOT_DONE)
+
+    def failed(self, why: str) -> None:
+        """A call failed: nothing could be written, or no number is left, in which the page stays as it is until it is loaded again."""
+        if why == NONE_LEFT:
+            if self.beside.turn.action != REFUSE:
+                self.beside.happens(GO_ON)
+            assert self.beside.turn.action == REFUSE, self.beside.turn
+            self.kill()
+        else:
+            assert why == "unstored", why
 
     def told(self, outcome: int) -> None:
         """What the teller was told of the act that the machine showed last."""

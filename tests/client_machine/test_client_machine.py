@@ -27,7 +27,7 @@ from hypothesis.stateful import (
 
 from tests.client_machine.counter import Fate
 from tests.client_machine.machine import DONE, NOT_DONE, REFUSED, Library
-from tests.client_machine.page_client import Node, PageClient
+from tests.client_machine.page_client import MOST, Node, PageClient
 from tests.client_machine.python_client import PythonClient, package
 
 TOP = Path(__file__).resolve().parents[2]
@@ -49,7 +49,7 @@ def rules(started: Callable[[int], Client], steps: list[int]) -> type[RuleBasedS
 
         client: Client
 
-        @initialize(first=st.integers(1, 1000))
+        @initialize(first=st.integers(1, 1000) | st.integers(MOST - 4, MOST))
         def start(self, first: int) -> None:
             self.client = started(first)
             self.acts = itertools.count(1)
@@ -221,6 +221,9 @@ WRONG_PAGE: dict[str, Edits] = {
             "const missed = isReused(answer) ?",
             'const missed = isReused(answer) || answer.kind === "none" ?',
         )
+    ],
+    "a number that JavaScript can't count on from": [
+        ("sender.js", "if (!Number.isSafeInteger(number + 1)) throw", "if (number < 0) throw")
     ],
 }
 
