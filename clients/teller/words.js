@@ -1,5 +1,5 @@
 // Every word of the page, and how it spells days, months, money and amounts, in the tables that the bank's own words (bank.js) are laid over. No bank edits this file.
-// What is shown before this file is loaded, or if it can't be, stands in index.html. `tests/clients/teller_page` tests that no word of the page stands elsewhere, and that no code lacks a sentence.
+// What is shown before this file is loaded, or if it can't be, stands in index.html. `tests/clients` tests that no word of the page stands elsewhere, and that no code lacks a sentence.
 
 import * as bank from "./bank.js";
 import { daysFrom, monthOf, noonOf, printMoney } from "./spelling.js";

@@ -92,7 +92,17 @@ class Browser:
         )
 
     def picture(self, path: Path) -> None:
+        path.parent.mkdir(parents=True, exist_ok=True)
         self.driver.save_screenshot(str(path))
+
+    def pictured(self, folder: Path | None, name: str) -> None:
+        """Pictures for people, 1440 and 360 pixels wide, if there is a folder for them."""
+        if folder is not None:
+            for width, height in ((1440, 900), (360, 740), (1100, 820)):
+                self.resize(width, height)
+                if width != 1100:
+                    time.sleep(0.3)
+                    self.picture(folder / f"{name}_{width}-{self.name}.png")
 
     def saved(self, name: str, press: str) -> str:
         """The text of a file that the page saves as that button is pressed."""

@@ -12,6 +12,7 @@ from typing import Any, Iterator, Sequence
 
 from selenium import webdriver
 from selenium.webdriver.chrome.service import Service
+from selenium.webdriver.remote.file_detector import UselessFileDetector
 
 from tests.browser.marionette import Firefox as FirefoxProcess
 
@@ -229,7 +230,9 @@ class Firefox:
         options = webdriver.FirefoxOptions()
         options.accept_insecure_certs = trusting
         options.page_load_strategy = strategy
-        self.driver = webdriver.Remote(self.process.address, options=options)
+        self.driver = webdriver.Remote(self.process, options=options)
+        # A file that is typed into a field isn't sent anywhere: Firefox is on this machine.
+        self.driver.file_detector = UselessFileDetector()
         self.resize(*size)
 
     def resize(self, width: int, height: int) -> None:
@@ -275,7 +278,7 @@ class Firefox:
         self.process.process.wait()
 
     def quit(self) -> None:
-        self.process.end()
+        self.process.close()
 
 
 Engine = Chromium | Firefox

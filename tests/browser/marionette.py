@@ -1,10 +1,8 @@
-"""Firefox for selenium, without geckodriver, which Debian lacks: a server of the WebDriver protocol, which hands each command to Firefox's own Marionette. Both protocols name the same commands."""
+"""Firefox for selenium, without geckodriver, which Debian lacks: selenium's commands are handed to Firefox's own Marionette, which has the same ones under other names."""
 
 from __future__ import annotations
 
-import http.server
 import json
-import re
 import socket
 import subprocess
 import threading
@@ -14,51 +12,26 @@ from typing import Any, Mapping, Sequence
 
 Json = dict[str, Any]
 
-#: Method, path after /session/ID, Marionette's command. A group of the path is a parameter.
-COMMANDS = [
-    tuple(line.split())
-    for line in r"""
-POST url Navigate
-GET url GetCurrentURL
-POST refresh Refresh
-POST back Back
-GET title GetTitle
-GET window GetWindowHandle
-POST window SwitchToWindow
-DELETE window CloseWindow
-GET window/handles GetWindowHandles
-POST window/new NewWindow
-GET window/rect GetWindowRect
-POST window/rect SetWindowRect
-POST element FindElement
-POST elements FindElements
-POST element/(?P<element>[^/]+)/element FindElement
-POST element/(?P<element>[^/]+)/elements FindElements
-GET element/(?P<id>[^/]+)/text GetElementText
-GET element/(?P<id>[^/]+)/name GetElementTagName
-GET element/(?P<id>[^/]+)/rect GetElementRect
-GET element/(?P<id>[^/]+)/enabled IsElementEnabled
-GET element/(?P<id>[^/]+)/selected IsElementSelected
-GET element/(?P<id>[^/]+)/computedrole GetComputedRole
-GET element/(?P<id>[^/]+)/computedlabel GetComputedLabel
-POST element/(?P<id>[^/]+)/click ElementClick
-POST element/(?P<id>[^/]+)/clear ElementClear
-POST element/(?P<id>[^/]+)/value ElementSendKeys
-POST execute/sync ExecuteScript
-POST execute/async ExecuteAsyncScript
-POST actions PerformActions
-DELETE actions ReleaseActions
-GET alert/text GetAlertText
-POST alert/dismiss DismissAlert
-POST alert/accept AcceptAlert
-GET screenshot TakeScreenshot
-POST print Print
-POST timeouts SetTimeouts
-""".split(
-        "\n"
-    )
-    if line
-]
+#: Selenium's command, and Marionette's.
+COMMANDS = dict(
+    pair.split(":")
+    for pair in """
+    get:Navigate getCurrentUrl:GetCurrentURL refresh:Refresh goBack:Back getTitle:GetTitle
+    w3cGetCurrentWindowHandle:GetWindowHandle w3cGetWindowHandles:GetWindowHandles
+    switchToWindow:SwitchToWindow close:CloseWindow newWindow:NewWindow
+    getWindowRect:GetWindowRect setWindowRect:SetWindowRect setTimeouts:SetTimeouts
+    findElement:FindElement findElements:FindElements
+    findChildElement:FindElement findChildElements:FindElements
+    getElementText:GetElementText getElementTagName:GetElementTagName
+    getElementRect:GetElementRect isElementEnabled:IsElementEnabled
+    isElementSelected:IsElementSelected getElementAriaRole:GetComputedRole
+    getElementAriaLabel:GetComputedLabel clickElement:ElementClick clearElement:ElementClear
+    sendKeysToElement:ElementSendKeys w3cExecuteScript:ExecuteScript
+    w3cExecuteScriptAsync:ExecuteAsyncScript actions:PerformActions
+    clearActionState:ReleaseActions w3cGetAlertText:GetAlertText w3cDismissAlert:DismissAlert
+    w3cAcceptAlert:AcceptAlert screenshot:TakeScreenshot printPage:Print
+""".split()
+)
 #: No page of Mozilla's is asked for, and a page's data is kept without a question.
 PREFERENCES = {
     "marionette.port": 0,
@@ -107,13 +80,8 @@ class Marionette:
             return error, result
 
 
-class Server(http.server.ThreadingHTTPServer):
-    def handle_error(self, request: object, client_address: object) -> None:
-        """Selenium that has given up a command is sent nothing."""
-
-
 class Firefox:
-    """Debian's firefox-esr with a profile, and the server that selenium speaks to at `address`."""
+    """Debian's firefox-esr with a profile. It executes selenium's commands."""
 
     def __init__(
         self,
@@ -136,9 +104,6 @@ class Firefox:
             start_new_session=True,
         )
         self.marionette = Marionette(self.port_of(active))
-        self.server = Server(("127.0.0.1", 0), self.handler())
-        self.address = f"http://127.0.0.1:{self.server.server_address[1]}"
-        threading.Thread(target=self.server.serve_forever, daemon=True).start()
 
     @staticmethod
     def port_of(active: Path) -> int:
@@ -161,58 +126,29 @@ class Firefox:
         finally:
             self.ask("Marionette:SetContext", {"value": "content"})
 
-    def answer(self, method: str, path: str, body: Json) -> tuple[int, Json]:
-        """Status and JSON of the answer to one request of selenium's."""
-        inside = "/".join(path.split("/")[3:])
-        if path == "/session":
-            wanted = body["capabilities"]["alwaysMatch"]
+    def execute(self, command: str, parameters: Json) -> Json:
+        """What selenium is answered."""
+        words = {name: value for name, value in parameters.items() if name != "sessionId"}
+        if command == "quit":
+            self.close()
+            return {"value": None}
+        if command == "newSession":
+            wanted = words["capabilities"]["alwaysMatch"]
             known = ("acceptInsecureCerts", "pageLoadStrategy", "unhandledPromptBehavior")
-            wanted = {name: wanted[name] for name in known if name in wanted}
-            error, result = self.marionette.ask("WebDriver:NewSession", wanted)
-            return (500, {"value": error}) if error else (200, {"value": result})
-        if method == "DELETE" and inside == "":
-            self.end()
-            return 200, {"value": None}
-        for wanted, pattern, command in COMMANDS:
-            found = re.fullmatch(pattern, inside)
-            if wanted == method and found:
-                words = {**body, **found.groupdict()}
-                error, result = self.marionette.ask(f"WebDriver:{command}", words)
-                if error:
-                    return 404 if error["error"].startswith("no such") else 500, {"value": error}
-                is_whole = isinstance(result, dict) and "value" in result
-                return 200, result if is_whole else {"value": result}
-        return 404, failure("unknown command", f"{method} {inside}")
+            words = {name: wanted[name] for name in known if name in wanted}
+        elif command.startswith("findChild"):
+            words["element"] = words.pop("id")
+        name = COMMANDS.get(command, command[0].upper() + command[1:])
+        try:
+            error, result = self.marionette.ask(f"WebDriver:{name}", words)
+        except OSError as failure:
+            error, result = {"error": "invalid session id", "message": str(failure)}, None
+        if error:
+            return {"status": 500, "value": json.dumps({"value": {"stacktrace": "", **error}})}
+        is_whole = isinstance(result, dict) and set(result) == {"value"}
+        return dict(result) if is_whole else {"value": result}
 
-    def handler(self) -> type[http.server.BaseHTTPRequestHandler]:
-        firefox = self
-
-        class Handler(http.server.BaseHTTPRequestHandler):
-            protocol_version = "HTTP/1.1"
-
-            def asked(self) -> None:
-                body = self.rfile.read(int(self.headers.get("Content-Length") or 0))
-                try:
-                    status, value = firefox.answer(
-                        self.command, self.path, json.loads(body or b"{}")
-                    )
-                except OSError as error:
-                    status, value = 500, failure("invalid session id", str(error))
-                text = json.dumps(value).encode()
-                self.send_response(status)
-                self.send_header("Content-Type", "application/json")
-                self.send_header("Content-Length", str(len(text)))
-                self.end_headers()
-                self.wfile.write(text)
-
-            do_GET = do_POST = do_DELETE = asked
-
-            def log_message(self, *_: object) -> None:
-                pass
-
-        return Handler
-
-    def end(self) -> None:
+    def close(self) -> None:
         if self.process.poll() is None:
             try:
                 self.marionette.ask("Marionette:Quit", {"flags": ["eForceQuit"]})
@@ -220,8 +156,3 @@ class Firefox:
             except (OSError, subprocess.TimeoutExpired):
                 self.process.kill()
                 self.process.wait()
-        self.server.shutdown()
-
-
-def failure(error: str, message: str) -> Json:
-    return {"value": {"error": error, "message": message, "stacktrace": ""}}

@@ -36,6 +36,12 @@ WRITE_JOURNAL = """
     await new Promise((resolve) => { change.oncomplete = resolve; });
     database.close();
 """
+#: When the button that confirms began to rest, and when it ended.
+RESTS = """
+    window.rests = [];
+    const button = document.getElementById("confirm-yes");
+    new MutationObserver(() => window.rests.push([button.hasAttribute("aria-disabled"), performance.now()])).observe(button, { attributeFilter: ["aria-disabled"] });
+"""
 
 
 def dollars(cents: int) -> str:
@@ -258,6 +264,17 @@ class Page(Browser):
             self.until(lambda: self.is_shown("#confirm"), "the page asks once more", patience)
         else:
             self.answered(lambda: self.is_shown("#confirm"), "the page asks", again, patience)
+
+    def watch_rests(self) -> None:
+        """From here on, for `has_rested`."""
+        self.run(RESTS)
+
+    def has_rested(self) -> None:
+        """The button that confirms rested for a second, and the keyboard is on Back."""
+        self.until(lambda: len(self.run("return window.rests")) == 2, "the button has rested")
+        (begins, first), (ends, last) = self.run("return window.rests")
+        assert (begins, ends) == (True, False) and last - first > 900
+        assert self.focused() == "confirm-no"
 
     def question(self) -> str:
         return f"{self.text('#confirm-title')}\n{self.text('#confirm-text')}"

@@ -1,4 +1,4 @@
-"""What the page does over days: it opens, joins, pays, looks up and closes; and keeps nothing that isn't its own to keep."""
+"""Days: what the page does over one, which days it opens after how many questions, what it asks the counter for, and who may."""
 
 from __future__ import annotations
 
@@ -7,7 +7,7 @@ import re
 
 import pytest
 
-from tests.browser.bank import DAY, Bank
+from tests.browser.bank import DAY, USER, Bank
 from tests.clients.conftest import NewPage
 
 pytest.importorskip("selenium")
@@ -71,3 +71,268 @@ def test_a_day(bank: Bank, new_page: NewPage) -> None:
     assert page.complaints() == []
     wanted = [(7, 2, VALUES["L"] + VALUES["M"]), (8, 1, VALUES["K"])]
     assert bank.books().tickets() == wanted
+
+
+# ---- which days
+
+#: What the page reads as the server's time, from the next response on.
+SERVER_DATE = """
+    const [date, real] = [arguments[0], window.realGet ?? Headers.prototype.get];
+    window.realGet = real;
+    Headers.prototype.get = function (name) { return name === "Date" ? date : real.call(this, name); };
+"""
+ONCE, TWICE = "Open the day", "Continue"
+
+
+def asks(page: Page, day: str, words: str, times: str) -> None:
+    """The page asks so about a day, once or twice; Back ends it."""
+    assert words in page.ask_to_open(day), page.question()
+    assert page.text("#confirm-yes") == times
+    page.press("#confirm-no")
+
+
+def test_usual_day(bank: Bank, new_page: NewPage) -> None:
+    """A day soon after the last closed one, and near today: its weekday, its distance, and one question."""
+    bank.begin([7], day=None)
+    bank.opens("2012-02-03")
+    bank.closes("2012-02-03")
+    page = new_page()
+    page.run(SERVER_DATE, "Mon, 06 Feb 2012 14:00:00 GMT")
+    distance = "3 days after the last closed day, Friday, February 3, 2012."
+    asks(page, DAY, f"Open February 6, 2012?\nMonday, February 6, 2012: {distance}", ONCE)
+    assert bank.gate.bodies == [] and page.journal()["open"] is None, "Back sends nothing"
+    page.open_day(DAY)
+    page.waits_for("February 6, 2012 is open.")
+    page.closes()
+    assert page.journal()["closed"] == DAY
+    asks(page, "2012-02-07", "Tuesday, February 7, 2012: 1 day after the last closed day", ONCE)
+    asks(page, "2012-02-13", "Monday, February 13, 2012: 7 days after", ONCE)
+    asks(page, "2012-02-14", "Tuesday, February 14, 2012: 8 days after", TWICE)
+    asks(page, DAY, "not later than the last closed day", ONCE)
+    bank.opens("2012-02-10")
+    bank.closes("2012-02-10")
+    last = "the last closed day, Friday, February 10, 2012."
+    asks(page, "2012-02-13", f"Monday, February 13, 2012: 3 days after {last}", ONCE)
+    assert page.journal()["closed"] == "2012-02-10", "what another desk closed is remembered"
+    page.write_journal("({ closed, ...earlier }) => earlier")
+    page.reload()
+    asks(page, "2012-02-13", f"3 days after {last}", TWICE)
+    sent = len(bank.gate.bodies)
+    with bank.gate.changes("/batch/", lambda text: b""):
+        page.type("#open-date", "2012-02-14")
+        page.press("#open-day button")
+        page.waits_for("The counter didn't answer: something else did (status 502).", "#notices")
+    assert len(bank.gate.bodies) == sent and not page.is_shown(
+        "#confirm"
+    ), "no day is opened blindly"
+
+
+def test_far_from_today(bank: Bank, new_page: NewPage) -> None:
+    """A day soon after the last closed one, and more than seven days from today by the server's clock, which isn't the machine's."""
+    bank.begin([7], day=None)
+    bank.opens("2012-02-03")
+    bank.closes("2012-02-03")
+    page = new_page()
+    for today, distance in (
+        ("Tue, 14 Feb 2012", "8 days before today, Tuesday, February 14, 2012."),
+        ("Sun, 29 Jan 2012", "8 days after today, Sunday, January 29, 2012."),
+        ("Sun, 06 Feb 2011", "365 days after today, Sunday, February 6, 2011."),
+    ):
+        page.run(SERVER_DATE, f"{today} 14:00:00 GMT")
+        assert distance in page.ask_to_open(DAY) and page.text("#confirm-yes") == TWICE
+        page.press("#confirm-yes")
+        page.until(lambda: "Is the year 2012 right?" in page.question(), "it asks again")
+        assert distance in page.question()
+        page.press("#confirm-no")
+    for today in ("Mon, 13 Feb 2012", "Mon, 30 Jan 2012"):
+        page.run(SERVER_DATE, f"{today} 14:00:00 GMT")
+        assert "today" not in page.ask_to_open(DAY) and page.text("#confirm-yes") == ONCE
+        page.press("#confirm-no")
+    assert bank.gate.bodies == []
+
+
+def test_wrong_year(bank: Bank, new_page: NewPage) -> None:
+    """A year mistyped: the page asks again, and Back leaves the books as they are. Confirmed twice, it does open."""
+    bank.begin([7], day=None)
+    bank.opens("2012-02-03")
+    bank.closes("2012-02-03")
+    page = new_page()
+    far = "Thursday, February 6, 2121: no closed day was found in the 7 days before it."
+    assert far in page.ask_to_open("2121-02-06")
+    page.rested("#confirm-yes")
+    page.watch_rests()
+    page.press("#confirm-yes")
+    page.until(lambda: "Is the year 2121 right?" in page.question(), "it asks again")
+    for words in ("values in February 2121", "no earlier day can ever be opened again"):
+        assert words in page.question()
+    assert "mistyped, choose Back" in page.question()
+    page.has_rested()
+    page.press("#confirm-no")
+    page.sleep(1.5)
+    assert bank.gate.bodies == [] and page.journal()["open"] is None
+    page.open_day(DAY)
+    page.waits_for("February 6, 2012 is open.")
+    page.closes()
+    distance = "39,812 days after the last closed day, Monday, February 6, 2012."
+    asks(page, "2121-02-06", distance, TWICE)
+    page.open_day("2121-02-06")
+    page.waits_for("February 6, 2121 is open.")
+    query = "SELECT act FROM answers WHERE desk = 5 AND act LIKE '%\"open\"%' ORDER BY number"
+    days = [json.loads(act)["day"] for (act,) in bank.books().rows(query)]
+    assert days == [DAY, "2121-02-06"]
+
+
+# ---- what is asked, and who may
+
+HEARD = """
+    window.heard = [];
+    const real = window.fetch;
+    window.fetch = (url, options) => {
+        const headers = new Headers(options.headers);
+        const names = ["X-Counter-Client", "Content-Type", "X-Counter-Sending"].map((name) => headers.get(name));
+        window.heard.push([options.method, new URL(url).pathname, ...names]);
+        return real(url, options);
+    };
+"""
+
+
+def test_headers_sent(bank: Bank, new_page: NewPage) -> None:
+    """Each request of the page names its client, and each POST its type and a name of its own."""
+    bank.begin([7], day=None)
+    page = new_page()
+    page.run(HEARD)
+    page.open_day(DAY)
+    page.waits_for("February 6, 2012 is open.")
+    page.pays(1, 7, "L7EE")
+    page.closes()
+    heard = page.run("return window.heard")
+    paths = {"/day/open", "/redeem", "/day/close", "/inventory/7/2012-02", "/batch/2012-02-05"}
+    assert paths <= {path for _, path, *_ in heard}
+    assert {client for _, _, client, *_ in heard} == {"teller-page"}
+    for method, _, _, kind, _ in heard:
+        assert (kind == "application/json") == (method == "POST")
+    names = {name for method, *_, name in heard if method == "POST"}
+    assert len(names) == 3 and None not in names
+
+
+#: The buttons in the order of the page, each with whether it is a main one.
+DAY_BUTTONS = "return [...document.querySelectorAll('#day button')].filter((one) => one.checkVisibility()).map((one) => [one.textContent, !one.classList.contains('plain')])"
+
+
+def test_supervisors_acts(bank: Bank, new_page: NewPage) -> None:
+    """What a teller may not do isn't the main button; the page learns the groups from nginx, and nginx still decides."""
+    bank.begin([7], day=None)
+    page = new_page()
+    page.go("day")
+    opens = [["Open the day", True], ["Join the day", False]]
+    page.until(lambda: page.run(DAY_BUTTONS) == opens, "to open the day is a supervisor's main act")
+    assert not page.is_shown("#open-barred")
+    bank.nginx.regroup(USER, "teller")
+    page.reload()
+    joins = [["Join the day", True], ["Open the day", False]]
+    page.until(lambda: page.run(DAY_BUTTONS) == joins, "to join it is a teller's")
+    assert "This user may not open a day: ask a supervisor." in page.text("#open-day")
+    page.open_day(DAY)
+    page.refuses("This user may not open a day. Nothing was done.")
+    assert bank.gate.posts() == [], "nginx refuses it all the same"
+    bank.opens(DAY)
+    page.joins()
+    assert "This user may not close the day: ask a supervisor." in page.text("#close-day")
+    plain = [["Close the day", False], ["Choose another day", False]]
+    assert page.run(DAY_BUTTONS)[-2:] == plain
+
+
+def test_two_tabs(bank: Bank, new_page: NewPage) -> None:
+    """A second tab waits, and shows no view; it goes on at the same desk when the first is closed."""
+    page = new_page()
+    first = page.new_tab()
+    page.open(bank.url)
+    page.waits_for("The counter is open in another tab")
+    assert not page.is_shown("nav")
+    page.close_tab(first)
+    page.waits_for("Desk 5,", "#state")
+
+
+# ---- which sums
+
+
+def test_sums_of_day(bank: Bank, page: Page) -> None:
+    """The day's sums of this desk and of all desks; a ticket that another desk pays while the question is open."""
+    bank.registers_many(60, 12)
+    for number in range(1, 6):
+        bank.pays(60, f"S{number}EE")
+    for ticket, serial in ((6, "L7EE"), (7, "K7EE")):
+        page.pays(ticket, 7, serial)
+    own, all_of_them = VALUES["L"] + VALUES["K"], 6 * VALUES["L"] + VALUES["K"]
+    assert f"This desk today: 2 tickets, 2 bonds, {dollars(own)}." in page.text("#notices")
+    page.reload()
+    page.go("day")
+    page.waits_for(f"7 tickets, 7 bonds, {dollars(all_of_them)}", "#all-sum")
+    assert page.text("#desk-sum") == f"2 tickets, 2 bonds, {dollars(own)}"
+    rows = [row.text.split()[:2] for row in page.all("#desk-tickets tbody tr")]
+    assert rows == [["Ticket", "7"], ["Ticket", "6"]], "the last one first"
+    asked = len(bank.gate.heads)
+    page.press("#count-day")
+    page.sleep(1)
+    assert len(bank.gate.heads) - asked <= 4, "a count goes on from where it was"
+    assert f"with {dollars(all_of_them)}?" in page.ask_to_close()
+    bank.pays(60, "S12EE")
+    page.press("#confirm-yes")
+    more = f"The batch has {dollars(all_of_them + VALUES['L'])}: another desk paid meanwhile."
+    page.waits_for(more, "#notices")
+
+
+def test_latest_first(bank: Bank, page: Page) -> None:
+    """Tickets and batches begin with the latest, found by look-ups alone."""
+    bank.registers_many(60, 23)
+    for number in range(1, 24):
+        bank.pays(60, f"S{number}EE")
+    page.go("tickets")
+    rows = "#ticket-list tbody tr"
+    page.until(lambda: len(page.all(rows)) == 10, "ten tickets are listed")
+    first = page.text(rows)
+    assert "Ticket 23" in first and "customer 60" in first and dollars(VALUES["L"]) in first
+    page.press("#ticket-list > button")
+    page.until(lambda: len(page.all(rows)) == 20, "twenty tickets are listed")
+    page.press(f"{rows}:nth-child(2) button")
+    page.is_paid(22, VALUES["L"])
+    bank.closes(DAY)
+    for day, serial in (("2012-02-07", "L7EE"), ("2012-02-08", "K7EE")):
+        bank.opens(day)
+        bank.pays(7, serial, day=day)
+        if serial == "L7EE":
+            bank.closes(day)
+    page.go("batches")
+    batches = "#batch-list tbody tr"
+    page.until(lambda: len(page.all(batches)) == 2, "two batches, and not that of the open day")
+    texts = [row.text.replace("\n", " ") for row in page.all(batches)]
+    assert texts[0].startswith("February 7, 2012") and texts[1].startswith("February 6, 2012")
+    assert texts[1].endswith(f"23 23 {dollars(23 * VALUES['L'])}")
+    page.press(f"{batches}:nth-child(2) button")
+    page.waits_for("Tickets of February 6, 2012", "#batch")
+    assert len(page.all("#batch .paper tbody tr")) == 23
+
+
+def test_empty_states(bank: Bank, new_page: NewPage) -> None:
+    """No day, no bonds, no tickets: the page says so, and nothing stands there to press."""
+    bank.begin([7], day=None)
+    page = new_page()
+    assert "No business day is open" in page.text("#day")
+    page.show_sheet(7, "2012-02")
+    shown = [page.is_shown(part) for part in ("#no-day", "#pay-bonds", "#add-bond")]
+    assert shown == [True, False, False]
+    page.press("#no-day a")
+    page.until(lambda: page.is_shown("#open-day"), "the way to open a day")
+    page.go("tickets")
+    page.waits_for("No ticket has been paid yet.", "#ticket-list")
+    page.go("batches")
+    page.waits_for("No closed day with tickets was found.", "#batch-list")
+    page.open_day(DAY)
+    page.waits_for("February 6, 2012 is open.")
+    page.show_sheet(99)
+    assert "Customer 99 owns no unpaid bonds." in page.text("#sheet")
+    assert not page.is_shown("#pay-bonds")
+    page.add(7, "K7EE")
+    assert page.is_shown("#pay-bonds"), "a bond of another owner can be paid"
+    page.show_sheet(7)
+    assert page.is_shown("#pay-bonds") and not page.is_shown("#no-day")

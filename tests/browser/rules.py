@@ -1,9 +1,10 @@
-"""Rules of accessibility, each asked of what is shown, and for each a change of the page that breaks it: the control that the rule can fail. No package of Debian's has a checker for pages."""
+"""Rules of accessibility, each asked of what is shown, and for each a change of the page that breaks it. No package of Debian's has a checker for pages."""
+
 from __future__ import annotations
 
 from typing import Any
 
-from browser import Page
+from tests.browser.browser import Browser
 
 #: What the rules share: what is shown, its names and colors.
 HELPERS = """
@@ -77,32 +78,13 @@ BREAKS = {
 }
 
 
-def broken(page: Page) -> dict[str, Any]:
+def broken(page: Browser) -> dict[str, Any]:
     """What breaks a rule, by rule."""
-    script = HELPERS + "return {" + ", ".join(f"{name!r}: {rule}" for name, rule in RULES.items()) + "};"
-    return {name: found for name, found in page.run(script).items() if found}
+    rules = ", ".join(f"{name!r}: {rule}" for name, rule in RULES.items())
+    found: dict[str, Any] = page.run(HELPERS + "return {" + rules + "};")
+    return {name: one for name, one in found.items() if one}
 
 
-def checked(page: Page, where: str) -> None:
-    found = broken(page)
-    if found:
-        raise SystemExit(f"WRONG: {where}: {found}")
-
-
-def controls(page: Page) -> list[str]:
-    """Each rule, broken on purpose; the rules that don't notice."""
-    blind = []
-    for name, script in BREAKS.items():
-        page.reload()
-        page.until(lambda: page.find("nav").is_displayed(), "the page has started")
-        page.run(HELPERS + script)
-        if name not in broken(page):
-            blind.append(name)
-    page.reload()
-    page.until(lambda: page.find("nav").is_displayed(), "the page has started")
-    return blind
-
-
-def least_contrast(page: Page) -> float:
-    contrast: float = page.run(HELPERS + "return Math.min(...all('body *').filter(shown).filter(has_text).map(contrast));")
-    return contrast
+def least_contrast(page: Browser) -> float:
+    least = "Math.min(...all('body *').filter(shown).filter(has_text).map(contrast))"
+    return float(page.run(f"{HELPERS} return {least};"))

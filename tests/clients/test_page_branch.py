@@ -1,0 +1,121 @@
+"""Four desks behind one address, as in a branch whose router translates addresses: each counts a day of many tickets and pays, over the limits of samples/nginx."""
+
+from __future__ import annotations
+
+import threading
+import time
+from typing import Mapping
+
+import pytest
+
+from tests.browser.bank import DAY, PAGE, Bank, Front, bond
+from tests.clients.conftest import NewPage
+
+pytest.importorskip("selenium")
+from tests.browser.page import VALUES, dollars
+
+pytestmark = [pytest.mark.browser, pytest.mark.nginx, pytest.mark.slow]
+TICKETS = 900
+#: The pace of clients/teller/latest.js: the number of look-ups at once, and then the seconds between two. After a 429 a look-up waits.
+AT_ONCE, SPACE, BUSY = 100, 0.125, 2
+OTHERS = {name: "teller" for name in ("anna", "dora", "emil")}
+
+
+class Desk(threading.Thread):
+    """Behaves as the page does: it loads the page's files, counts the tickets, and pays bonds meanwhile. `busy` counts its answers 429."""
+
+    def __init__(self, nginx: Front, user: str, desk: int, seconds: float) -> None:
+        super().__init__(daemon=True)
+        self.nginx, self.user, self.desk = nginx, user, desk
+        self.until, self.counted, self.busy = time.monotonic() + seconds, 0, 0
+
+    def ask(self, method: str, path: str, value: object = None) -> int | None:
+        """Its status, again after each 429."""
+        while time.monotonic() < self.until:
+            status = self.nginx.ask(self.user, method, path, value).status
+            if status != 429:
+                return status
+            self.busy += 1
+            time.sleep(0.5 if method == "POST" else BUSY)
+        return None
+
+    def run(self) -> None:
+        for file in sorted(PAGE.iterdir()):
+            self.ask("GET", f"/teller/{file.name}")
+        asked_from = time.monotonic() - AT_ONCE * SPACE
+        for number in range(1, TICKETS + 1):
+            asked_from = max(asked_from, time.monotonic() - AT_ONCE * SPACE) + SPACE
+            time.sleep(max(0, asked_from - time.monotonic()))
+            if self.ask("GET", f"/ticket/{number}") != 200:
+                return
+            self.counted = number
+            if number % 200 == 0:
+                serials = [f"S{self.desk * 1000 + number}EE"]
+                asked: dict[str, object] = {
+                    "desk": self.desk,
+                    "number": number,
+                    "day": DAY,
+                    "payee": 60,
+                }
+                self.ask("POST", "/redeem", asked | {"serials": serials})
+
+
+def busy(nginx: Front) -> int:
+    """How many requests nginx answered 429."""
+    lines = (nginx.folder / "log/access.log").read_text().splitlines()
+    return sum('" 429 ' in line for line in lines)
+
+
+def branch(bank: Bank, seconds: float, changed: Mapping[str, str] = {}) -> tuple[Front, list[Desk]]:
+    """Tickets of one bond each, nginx with four users, and three of the four desks at work."""
+    serials = [f"S{place}EE" for place in range(1, TICKETS + 1)]
+    bank.begin([7])
+    bank.registers(*(bond(serial, 50, "2010-11", 60) for serial in serials))
+    for place in (11, 12, 13):
+        own = [f"S{place * 1000 + number}EE" for number in range(200, TICKETS + 1, 200)]
+        bank.registers(*(bond(serial, 50, "2010-11", 60) for serial in own))
+    for serial in serials:
+        bank.pays(60, serial)
+    nginx = bank.front("branch", changed, OTHERS)
+    desks = [Desk(nginx, user, 11 + place, seconds) for place, user in enumerate(OTHERS)]
+    for desk in desks:
+        desk.start()
+    return nginx, desks
+
+
+def test_four_desks(bank: Bank, new_page: NewPage) -> None:
+    """One page in a browser and three clients that behave as it does, from one address: each counts 900 tickets and pays, and none is told to wait."""
+    nginx, desks = branch(bank, 1200)
+    page = new_page(day=DAY)
+    page.waits_for("Counting the tickets:", "#all-sum")
+    page.show_sheet(7)
+    page.choose("L7EE")
+    page.pay()
+    page.refuses("is paid.")
+    page.go("day")
+    page.until(
+        lambda: dollars(VALUES["L"]) in page.text("#desk-sum")
+        and "tickets, " in page.text("#all-sum"),
+        "the day is counted",
+        900,
+    )
+    for desk in desks:
+        desk.join()
+    assert [(desk.counted, desk.busy) for desk in desks] == [(TICKETS, 0)] * 3
+    paid = [entry["status"] for entry in nginx.log() if entry["route"] == "/redeem"]
+    assert busy(nginx) == 0 and paid == ["200"] * (1 + 3 * 4)
+    assert page.journal()["tally"]["through"] >= TICKETS
+    asked = len(bank.gate.heads)
+    page.reload()
+    page.go("day")
+    page.until(lambda: "tickets, " in page.text("#all-sum"), "the day is counted")
+    assert len(bank.gate.heads) - asked < 40, "what was counted isn't asked for again"
+
+
+def test_a_limit_by_address_is_found(bank: Bank) -> None:
+    """Control: with a limit by address alone, three of the desks are answered 429."""
+    by_address = {"limit_req_zone $staff": "limit_req_zone $binary_remote_addr"}
+    nginx, desks = branch(bank, 45, by_address)
+    for desk in desks:
+        desk.join()
+    assert busy(nginx) > 0

@@ -1,0 +1,419 @@
+"""What goes wrong around a request: answers that don't come, or come from others, kills of the counter and of the browser, numbers that were used. Each request is done once, and its one reply is shown."""
+
+from __future__ import annotations
+
+import json
+import subprocess
+import threading
+import time
+from typing import Callable
+
+import pytest
+
+from tests.browser.bank import DAY, RATE, USER, Bank, Front
+from tests.browser.gate import AFTER, BEFORE, Relay
+from tests.clients.conftest import NewPage
+
+pytest.importorskip("selenium")
+from tests.browser.page import EARLIER, VALUES, Page, dollars
+
+pytestmark = [pytest.mark.browser, pytest.mark.nginx]
+SUM = sum(VALUES.values())
+FAULTS = [fault for fault in AFTER + BEFORE if fault != "silent"]
+ONE_TICKET = "SELECT count(*) FROM tickets"
+
+
+# ---- days of faults
+
+
+def interrupted(
+    bank: Bank, page: Page, fault: str, reloads: bool, act: Callable[[], object], shown: str
+) -> None:
+    """One step of a day that meets a fault: the page tells that there is no reply, sends the same bytes again, and shows the one reply."""
+    sent = len(bank.gate.bodies)
+    bank.server.pause = 1.5 if reloads else 0.3
+    bank.gate.faults = [fault, *(["lost request"] if reloads else [])]
+    act()
+    page.waits_for("no reply yet. ", "#progress")
+    if reloads:
+        page.reload()
+    page.waits_for(shown)
+    page.waits_for(EARLIER, "#notices")
+    page.settled()
+    bodies = bank.gate.bodies[sent:]
+    assert len(bodies) >= 2 and len(set(bodies)) == 1, bodies
+
+
+@pytest.mark.slow
+@pytest.mark.parametrize("reloads", [False, True], ids=["stays", "reloads"])
+def test_interrupted_days(bank: Bank, new_page: NewPage, reloads: bool) -> None:
+    """For each fault a day on which each of three steps meets it, and between each two of them the counter is killed too."""
+    bank.begin(range(1000, 1000 + len(FAULTS)), day=None)
+    page = new_page()
+    for place, fault in enumerate(FAULTS):
+        day, owner, words = f"2012-02-{1 + place:02}", 1000 + place, f"February {1 + place}, 2012"
+        interrupted(bank, page, fault, reloads, lambda: page.open_day(day), f"{words} is open.")
+        bank.server.kill()
+        page.show_sheet(owner)
+        page.choose(f"K{owner}EE", f"L{owner}EE", f"M{owner}EE")
+        interrupted(bank, page, fault, reloads, page.pay, f"Ticket {place + 1}")
+        page.is_paid(place + 1, SUM)
+        bank.server.kill()
+        interrupted(bank, page, fault, reloads, page.close_day, f"Batch of {words}")
+        assert dollars(SUM) in page.text("#batch")
+        bank.server.kill()
+    assert bank.server.kills >= 3 * len(FAULTS)
+    books = bank.books()
+    assert books.tickets("bonds, total") == [(3, SUM)] * len(FAULTS)
+    assert books.one("SELECT count(*) FROM answers WHERE desk = 5") == 3 * len(FAULTS)
+
+
+def test_browser_killed(bank: Bank, page: Page, new_page: NewPage) -> None:
+    """The browser's process is killed with a request open, as by a loss of power, and started again: it sends its request by itself."""
+    page.show_sheet(7)
+    page.choose("L7EE")
+    bank.gate.faults = ["lost answer", *["lost request"] * 20]
+    page.pay()
+    page.waits_for("no reply yet", "#progress")
+    page.engine.kill()
+    bank.gate.faults = []
+    again = new_page(None, profile=page.profile)
+    again.is_paid(1, VALUES["L"])
+    again.waits_for(EARLIER)
+    assert len(set(bank.gate.bodies)) == 1
+    assert bank.books().one(ONE_TICKET) == 1
+
+
+def test_two_desks(bank: Bank, page: Page, new_page: NewPage) -> None:
+    """Two pages on two desks, paying the same bond at once; then one of them while the other's answer is lost."""
+    pages = [page, new_page(6, day=DAY)]
+    for one in pages:
+        one.show_sheet(7)
+        one.choose("L7EE")
+    paying = [threading.Thread(target=one.pay) for one in pages]
+    for thread in paying:
+        thread.start()
+    for thread in paying:
+        thread.join()
+    already = "was paid already, on ticket 1"
+    for one in pages:
+        one.until(
+            lambda: "Ticket 1 is paid." in one.text() or already in one.text(), "an answer comes"
+        )
+    assert sorted(already in one.text() for one in pages) == [False, True]
+    other = next(one for one in pages if already in one.text())
+    other.press("#notices button")
+    other.is_paid(1, VALUES["L"])
+    for one in pages:
+        one.show_sheet(9)
+        one.choose("K9EE")
+    first, second = pages
+    bank.gate.faults = ["lost answer", "lost request"]
+    first.pay()
+    first.waits_for("sent again in 1 second", "#progress")
+    second.pay()
+    second.waits_for("was paid already, on ticket 2")
+    first.is_paid(2, VALUES["K"])
+    first.waits_for(EARLIER)
+    assert bank.books().tickets("ticket, total") == [(1, VALUES["L"]), (2, VALUES["K"])]
+
+
+def test_numbers_used(bank: Bank, page: Page) -> None:
+    """Numbers that this desk has used: the request goes on under a higher one, by doubling steps, with a lost answer and a new load on the way."""
+    number = page.journal()["next"]
+    for used in range(number, number + 10):
+        words = {"desk": 5, "number": used, "day": DAY, "payee": 7, "serials": ["A1EE"]}
+        bank.expect(409, "/redeem", words)
+    page.show_sheet(7)
+    page.choose("L7EE")
+    bank.gate.faults = ["lost answer", "lost request"]
+    page.pay()
+    page.waits_for("no reply yet", "#progress")
+    page.reload()
+    page.is_paid(1, VALUES["L"])
+    sent = [json.loads(body)["number"] - number for body in bank.gate.bodies if b"L7EE" in body]
+    assert sent == [0, 0, 0, 1, 3, 7, 15]
+    assert page.journal()["next"] == number + 16
+    query = "SELECT number FROM answers WHERE desk = 5 AND act LIKE '%L7EE%'"
+    assert bank.books().rows(query) == [(number + 15,)]
+
+
+def test_half_a_page(bank: Bank, new_page: NewPage) -> None:
+    """A module of the page that doesn't come: the page is loaded again by itself, and sends what is open."""
+    bank.begin([7], day=None)
+    page = new_page()
+    bank.gate.faults = ["lost answer", *["lost request"] * 20]
+    page.open_day(DAY)
+    page.waits_for("no reply yet", "#progress")
+    module, away = bank.teller / "sheet.js", bank.teller / "sheet.away"
+    module.rename(away)
+    page.reload()
+    page.waits_for("The page didn't load completely.")
+    away.rename(module)
+    bank.gate.faults = []
+    page.waits_for("February 6, 2012 is open.")
+    assert EARLIER in page.text()
+
+
+def test_silent_counter(bank: Bank, new_page: NewPage) -> None:
+    """An answer that doesn't come: no other request can be made, and after the time limit the page sends again."""
+    bank.begin([7], day=None)
+    page = new_page()
+    bank.gate.faults = ["silent"]
+    page.open_day(DAY)
+    begun = time.monotonic()
+    page.waits_for("sent, waiting for the reply", "#progress")
+    acts = [button for button in page.all("fieldset.acts button") if button.is_displayed()]
+    assert acts and not any(button.is_enabled() for button in acts)
+    page.waits_for("no response within 40 seconds", "#progress")
+    # At once: the pause lasts half a second.
+    page.run("document.getElementById('send-now').click()")
+    page.waits_for("February 6, 2012 is open.")
+    assert time.monotonic() - begun < 50 and EARLIER in page.text()
+
+
+@pytest.mark.needs("strace")
+def test_device_fails(bank: Bank, page: Page) -> None:
+    """A real 503: the store's device fails under the request, `serve` ends, and is started again."""
+    page.show_sheet(7)
+    page.choose("L7EE")
+    words = "strace -f -qq -e trace=fdatasync -e inject=fdatasync:error=EIO:when=1+ -o /dev/null -p"
+    process = str(bank.server.process.pid)
+    tracer = subprocess.Popen([*words.split(), process], stderr=subprocess.DEVNULL)
+    time.sleep(1)
+    bank.server.pause = 2
+    page.pay()
+    failed = "The counter's store failed, so the request may or may not have been done."
+    page.waits_for(failed, "#progress")
+    page.is_paid(1, VALUES["L"])
+    tracer.wait()
+    assert EARLIER in page.text() and bank.server.ends == 1
+    assert bank.books().one(ONE_TICKET) == 1
+
+
+# ---- an answer to one sending
+
+NOTHING = "This says nothing about the earlier attempts."
+RESENT = {
+    "not json": f"The counter can't read the request: it isn't JSON. {NOTHING}",
+    "forbidden": f"This user may not pay bonds. Ask a teller. {NOTHING}",
+    "no gateway": "The counter didn't answer: it is starting, or has too much to do.",
+    "proxy page": "The counter didn't answer: something else did (status 403).",
+    "redirect": "The counter didn't answer: the request was redirected.",
+    "too many": "The counter didn't answer: too many requests.",
+}
+
+
+def test_faults_on_resend(bank: Bank, page: Page) -> None:
+    """Payments whose answers are lost after the commit; each resend meets a fault; then the true reply comes."""
+    bank.registers_many(60, len(RESENT))
+    for ticket, (fault, words) in enumerate(RESENT.items(), 1):
+        sent = len(bank.gate.bodies)
+        page.show_sheet(60)
+        page.choose(f"S{ticket}EE")
+        bank.gate.faults = ["lost answer", fault, fault]
+        page.pay()
+        page.waits_for(words, "#progress")
+        may = "no reply yet. Nothing may be paid out yet. The payment may have been made already."
+        assert may in page.text("#progress") and "Nothing was done" not in page.text()
+        still = page.journal()["open"]
+        assert still["fields"]["serials"] == [f"S{ticket}EE"] and still["shown"] == "2516"
+        page.is_paid(ticket, VALUES["L"])
+        page.waits_for(f"Ticket {ticket} is paid.")
+        assert f"{EARLIER} This was paid once." in page.text()
+        assert len(set(bank.gate.bodies[sent:])) == 1
+    assert bank.books().one(ONE_TICKET) == len(RESENT)
+
+
+def test_first_sendings(bank: Bank, page: Page) -> None:
+    """On the first sending a fault, and the proxy's word on the user, are final: nothing was done, and the page goes on."""
+    for fault, words, code in (
+        ("not json", "The counter can't read the request: it isn't JSON.", "BadJson, code 64."),
+        ("forbidden", "This user may not pay bonds. Nothing was done.", ""),
+    ):
+        page.show_sheet(7)
+        page.choose("L7EE")
+        sent = len(bank.gate.bodies)
+        bank.gate.faults = [fault]
+        page.pay()
+        notice = page.refuses(words, f"{code} Log entry ".strip(), "othing was done.")
+        assert len(bank.gate.bodies) == sent + 1, notice
+        page.takes_keyboard(".notice.refused")
+    bank.gate.faults = ["forbidden"]
+    page.close_day()
+    page.refuses("This user may not close a day. Nothing was done.", "Ask a supervisor.")
+    assert page.journal()["day"] == DAY
+    page.press("#leave-day button")
+    bank.gate.faults = ["forbidden"]
+    page.open_day("2012-02-07")
+    page.refuses("This user may not open a day. Nothing was done.")
+    assert page.journal()["day"] is None
+    assert bank.books().one(ONE_TICKET) == 0
+
+
+# ---- a connection that breaks
+
+#: Connections are kept, and repeats of a POST passed on.
+KEPT = {**RATE, "keepalive_timeout 0": "keepalive_timeout 60s"}
+REPEATED = {**KEPT, "limit_req zone=sendings;": ""}
+
+
+def reset_while_paying(
+    bank: Bank, nginx: Front, page_at: NewPage, desk: int, serial: str, then: list[str]
+) -> Page:
+    """The connection breaks after the commit of a payment, and other answers come next."""
+    relay = Relay(nginx.port)
+    bank.port, bank.gate.cut = relay.port, relay.cut
+    page = page_at(desk, day=DAY)
+    page.show_sheet(7)
+    page.choose(serial)
+    bank.gate.bodies.clear()
+    bank.gate.faults = ["reset", *then]
+    page.pay()
+    return page
+
+
+def still_open(bank: Bank, nginx: Front, new_page: NewPage, serial: str, ticket: int) -> None:
+    """Each answer is that to a sending of the page's own, and the request stays open until its ticket is there."""
+    page = reset_while_paying(bank, nginx, new_page, ticket, serial, ["not json"])
+    page.waits_for(NOTHING, "#progress")
+    assert page.journal()["open"]["sent"] == 2
+    page.is_paid(ticket, VALUES[serial[0]])
+    assert bank.ask("GET", f"/ticket/{ticket + 1}")[0] == 404
+    page.quit()
+
+
+def test_connection_reset(bank: Bank, new_page: NewPage) -> None:
+    bank.begin()
+    still_open(bank, bank.nginx, new_page, "L7EE", 1)
+    nginx = bank.front("kept", KEPT)
+    still_open(bank, nginx, new_page, "K7EE", 2)
+    repeats = [entry for entry in nginx.log() if entry["status"] == "429"]
+    assert len(repeats) >= 1 and all(entry["counter"] == "" for entry in repeats)
+
+
+def test_repeats_passed_on_are_found(bank: Bank, new_page: NewPage) -> None:
+    """Control: a browser repeats a payment by itself. If nginx passes that on, the page takes the fault of the repeat for nothing done."""
+    bank.begin()
+    nginx = bank.front("repeated", REPEATED)
+    page = reset_while_paying(bank, nginx, new_page, 5, "L7EE", ["not json"] * 3)
+    page.refuses("The counter can't read the request: it isn't JSON.")
+    assert len(bank.gate.bodies) > 1 and bank.ask("GET", "/ticket/1")[0] == 200
+
+
+# ---- certificates
+
+NO_CERTIFICATE = "This browser sent no certificate of the staff, or it was revoked or has run out."
+#: What the page says of a first attempt without a certificate.
+FIRST = """
+    const { STEPS } = await import(new URL("/teller/words.js", location.origin));
+    const request = { path: "/redeem", fields: { serials: ["L7EE"], payee: 7 }, sent: 1 };
+    return STEPS.pausing({ request, answer: { kind: "forbidden", why: "certificate" }, milliseconds: 500 });
+"""
+
+
+def test_revoked_while_paying(bank: Bank, page: Page, new_page: NewPage) -> None:
+    """The user's certificate is revoked while a teller works: the page says so, and keeps the request and what was typed. With another certificate it is paid, once."""
+    page.waits_for(f"Teller {USER}", "#user")
+    page.show_sheet(7)
+    page.choose("L7EE")
+    page.type("#serial", "K-9")
+    bank.nginx.staff.dismiss(USER)
+    bank.nginx.reload()
+    page.pay()
+    page.waits_for(NO_CERTIFICATE, "#progress")
+    page.waits_for("sent again in 4 seconds", "#progress")
+    assert "Put in your card" in page.text("#progress")
+    says, why = page.run_module(FIRST)[:2]
+    assert "This attempt did nothing." in says and NO_CERTIFICATE in why and "earlier" not in why
+    assert bank.gate.bodies == [] and page.value("#serial") == "K-9"
+    assert page.box("L7EE").is_selected()
+    still = page.journal()["open"]
+    assert still["fields"]["serials"] == ["L7EE"] and still["sent"] > 1
+    page.press("#ask-sheet button")
+    page.waits_for(NO_CERTIFICATE, "#notices")
+    assert "Nothing was done." in page.text("#notices")
+    page.quit()
+    bank.renew()
+    again = new_page(None, profile=page.profile)
+    again.is_paid(1, VALUES["L"])
+    assert len(bank.gate.bodies) == 1
+    assert bank.books().one(ONE_TICKET) == 1
+
+
+def test_no_certificate_met(bank: Bank, page: Page) -> None:
+    """nginx's word on the certificate, to a first sending and to a later one: each leaves the request open, until the true reply comes."""
+    for ticket, serial, faults in (
+        (1, "L7EE", ["no certificate"] * 4),
+        (2, "K7EE", ["lost answer", *["no certificate"] * 3]),
+    ):
+        page.show_sheet(7)
+        page.choose(serial)
+        bank.gate.faults = list(faults)
+        page.pay()
+        page.waits_for(NO_CERTIFICATE, "#progress")
+        page.is_paid(ticket, VALUES[serial[0]])
+        assert f"{EARLIER} This was paid once." in page.text("#notices")
+
+
+# ---- look-ups
+
+
+def held(event: threading.Event, text: bytes) -> bytes:
+    """An answer that waits for an event, which has to come."""
+    assert event.wait(60)
+    return text
+
+
+def test_silent_look_up(bank: Bank, page: Page) -> None:
+    """A look-up without an answer can be ended, and leaves the sheet that is shown, with what is chosen on it. One that was overtaken wipes nothing."""
+    page.show_sheet(7)
+    page.choose("L7EE", "K7EE")
+    event = threading.Event()
+    with bank.gate.changes("/inventory/9/", lambda text: held(event, text)):
+        page.show_sheet_begun(9)
+        page.until(lambda: page.is_shown("#asking"), "the page says that it asks")
+        assert "Unpaid bonds of customer 7" in page.text("#sheet")
+        page.press("#stop-asking")
+        page.until(lambda: not page.is_shown("#asking"), "the look-up is ended")
+        page.shows_sum(2, VALUES["L"] + VALUES["K"])
+        assert "Unpaid bonds of customer 7" in page.text("#sheet") and page.value("#payee") == "7"
+        page.show_sheet_begun(9)
+        page.until(lambda: page.is_shown("#asking"), "the page asks again")
+        page.show_sheet(11)
+        page.choose("L11EE")
+        event.set()
+        page.sleep(2)
+        page.shows_sum(1, VALUES["L"])
+        assert "Unpaid bonds of customer 11" in page.text("#sheet")
+    page.show_sheet(9)
+
+
+def test_chosen_twice(bank: Bank, page: Page) -> None:
+    """A bond is chosen once, however it is chosen: on the sheet, added, added again while the first look-up is under way, and on the sheet that comes later."""
+    page.show_sheet(7)
+    page.choose("L7EE")
+    page.ask_to_add(7, "l-7-ee")
+    page.waits_for("Bond L7EE is already chosen.", "#notices")
+    page.add(9, "K9EE")
+    event = threading.Event()
+    with bank.gate.changes("/", lambda text: held(event, text)):
+        page.ask_to_add(9, "L9EE")
+        page.press("#add-bond button")
+        page.ask_to_add(7, "K7EE")
+        page.choose("K7EE")
+        event.set()
+    page.until(lambda: page.value("#serial") == "", "the bond is added")
+    page.sleep(1)
+    page.shows_sum(3, VALUES["L"] + 2 * VALUES["K"])
+    page.ask_to_pay(8)
+    assert sorted(serial for serial, *_ in page.bonds_asked()) == ["K7EE", "K9EE", "L7EE"]
+    page.press("#confirm-no")
+    others = page.text("#others")
+    assert "K7EE" not in others and others.count("K9EE:") + others.count("K9EE, owner") == 1
+    page.show_sheet(9)
+    page.choose("K9EE")
+    page.shows_sum(1, VALUES["K"])
+    page.pay(8)
+    page.is_paid(1, VALUES["K"])
+    assert [json.loads(body)["serials"] for body in bank.gate.bodies] == [["K9EE"]]

@@ -1,0 +1,584 @@
+"""How the page is seen and worked: rules of accessibility in each of its states, narrow windows, what is in sight and what is covered, words that are whole, and what a screen reader is given."""
+
+from __future__ import annotations
+
+import subprocess
+from pathlib import Path
+from typing import Sequence
+
+import pytest
+
+from tests.browser.bank import TOO_YOUNG, Bank, bond
+from tests.clients.conftest import NewPage
+
+pytest.importorskip("selenium")
+from tests.browser.browser import Keys
+from tests.browser.page import VALUES, Page, dollars
+from tests.browser.rules import BREAKS, HELPERS, RULES, broken, least_contrast
+
+pytestmark = [pytest.mark.browser, pytest.mark.nginx]
+L, K, M = VALUES["L"], VALUES["K"], VALUES["M"]
+VIEWS = ("day", "pay", "walkin", "tickets", "batches", "interest")
+NAMED = "button, a[href], input, dialog[open], [role=region], table, nav, progress"
+
+
+def unnamed(page: Page) -> list[str]:
+    """What a screen reader is given without a name, by the browser's own computing."""
+    elements = [element for element in page.all(NAMED) if element.is_displayed()]
+    return [one.get_attribute("outerHTML")[:120] for one in elements if one.accessible_name == ""]
+
+
+# ---- the rules
+
+
+def test_rules(bank: Bank, new_page: NewPage) -> None:
+    """The rules, in each state of the page."""
+    bank.begin([7, 9])
+    page = new_page(None)
+    page.waits_for("Choose a desk")
+    assert broken(page) == {}
+    page.choose_desk(5)
+    for view in ("day", "pay"):
+        page.go(view)
+        assert broken(page) == {}, "without a day"
+    page.joins()
+    page.show_sheet(7)
+    page.choose("L7EE")
+    page.add(9, "K9EE")
+    for view in VIEWS:
+        page.go(view)
+        assert broken(page) == {} and unnamed(page) == [], view
+        assert least_contrast(page) >= 4.5
+    page.show_sheet(7, "2012-08")
+    page.waits_for("Nothing can be chosen here", "#sheet")
+    assert broken(page) == {}, "another month"
+    page.press("#sheet button")
+    page.waits_for("Unpaid bonds of customer 7 in February 2012", "#sheet")
+    page.ask_to_add("x", "y")
+    page.until(lambda: len(page.all(".error")) == 2, "both fields are marked")
+    assert broken(page) == {}, "fields that are marked"
+    page.choose("L7EE")
+    page.ask_to_pay()
+    assert broken(page) == {}, "the question"
+    dialog = page.find("#confirm")
+    assert dialog.accessible_name == page.text("#confirm-title")
+    assert dialog.get_attribute("aria-describedby") == "confirm-text"
+    page.press("#confirm-no")
+    bank.gate.faults = ["lost request"] * 3
+    page.pay(8)
+    page.waits_for("sent again in 2 seconds", "#progress")
+    page.hears("no reply yet. Nothing may be paid out yet.")
+    assert broken(page) == {}, "while a request is retried"
+    not_payee = "The payee is neither the owner nor the coowner of bond L7EE."
+    page.waits_for(not_payee, "#notices")
+    page.hears(not_payee)
+    assert broken(page) == {}, "with a refusal"
+    page.show_sheet(7)
+    for width in (1100, 320):
+        page.resize(width, 820)
+        roles = page.run(
+            "return ['table', 'rowgroup', 'row', 'columnheader', 'rowheader', 'cell'].map((role) => document.querySelectorAll(`#sheet [role=${role}]`).length)"
+        )
+        assert roles == [1, 3, 5, 11, 4, 40], "a table with headings for a screen reader"
+    for width, least in ((320, 2), (1100, 3)):
+        page.resize(width, 820)
+        page.tab_to("#month")
+        page.tab_to("#customer", back=True)
+        (style, thick), (other, _) = page.run(OUTLINES)
+        assert (style, other) == ("solid", "none") and thick >= least, "what has the keyboard"
+
+
+OUTLINES = """
+    const outline = (e) => [getComputedStyle(e).outlineStyle, parseFloat(getComputedStyle(e).outlineWidth)];
+    return [outline(document.activeElement), outline(document.querySelector("#month"))];
+"""
+
+
+def test_each_broken_rule_is_found(new_page: NewPage) -> None:
+    """Control: the page is changed so that it breaks one rule after another."""
+    page = new_page()
+    assert set(BREAKS) == set(RULES)
+    for name, script in BREAKS.items():
+        page.reload()
+        page.until(lambda: page.is_shown("nav"), "the page has started")
+        page.run(HELPERS + script)
+        assert name in broken(page)
+
+
+# ---- windows
+
+FIRST = """
+    const cells = [...document.querySelectorAll("#sheet tbody tr:first-child > *")].map((e) => [e.className.replace("money ", ""), e.getBoundingClientRect()]);
+    const order = cells.filter(([, box]) => box.width > 0).sort(([, x], [, y]) => Math.round(x.top - y.top) || x.left - y.left).map(([name]) => name);
+    return order.slice(0, 3);
+"""
+TAP = "const cell = document.querySelector(`input[data-serial='${arguments[0]}']`).closest('tr').querySelector('.of-issued'); cell.scrollIntoView({ block: 'center' }); return cell;"
+
+
+def test_narrow_window(bank: Bank, page: Page) -> None:
+    """320 pixels, and a window zoomed to 200 %: nothing is cut or goes over the edge, what can be pressed is 44 pixels, a bond is a card, and a payment is made."""
+    bank.registers(TOO_YOUNG)
+    for size in ((320, 800), (640, 450), (820, 1100)):
+        page.resize(*size)
+        page.show_sheet(7)
+        page.choose("L7EE")
+        for view in VIEWS:
+            page.go(view)
+            assert broken(page) == {}, (size, view)
+    page.resize(320, 640)
+    page.go("pay")
+    assert set(page.run(FIRST)) == {"of-box", "of-serial", "of-value"}, "a card begins with these"
+    for serial, is_chosen in (("K7EE", True), ("N7EE", False)):
+        page.run(TAP, serial).click()
+        assert page.box(serial).is_selected() == is_chosen, "a card is tapped as a whole"
+    page.shows_sum(2, L + K)
+    page.choose("K7EE")
+    page.shows_sum(1, L)
+    page.pay()
+    page.is_paid(1, L)
+    assert broken(page) == {}, "the ticket"
+
+
+BOX = """
+    const box = document.querySelector(arguments[0]).getBoundingClientRect();
+    return [box.top, box.bottom, box.left, box.right, innerHeight, innerWidth];
+"""
+
+
+def in_window(page: Page, selector: str) -> bool:
+    top, bottom, left, right, height, width = page.run(BOX, selector)
+    return bool(0 <= top < bottom <= height + 1 and 0 <= left < right <= width + 1)
+
+
+@pytest.mark.parametrize("count", [3, 60])
+def test_notices_in_sight(bank: Bank, page: Page, count: int) -> None:
+    """At 1366 x 768, with the teller at the button Pay, on a short sheet and on a long one."""
+    page.resize(1366, 768)
+    bank.registers_many(60, 60)
+    owner, serial = (7, "L7EE") if count == 3 else (60, "S60EE")
+    page.show_sheet(owner)
+    page.choose(serial)
+    bank.gate.faults = ["lost request"] * 3
+    page.pay(99)
+    page.waits_for("sent again in 2 seconds", "#progress")
+    assert in_window(page, "#progress") and page.focused() == "progress-text"
+    top, bottom, *_ = page.run(BOX, "#pay-bonds button")
+    assert top < 768 and bottom > 0, "nothing was scrolled away"
+    page.refuses("neither the owner nor the coowner")
+    page.takes_keyboard(".notice.refused")
+    assert in_window(page, ".notice")
+    page.run("scrollTo(0, document.documentElement.scrollHeight)")
+    assert in_window(page, ".notice")
+    page.run("document.querySelector('#told').style.position = 'static'")
+    assert not in_window(page, ".notice"), "control: if it didn't stick"
+    page.run("document.querySelector('#told').style.position = ''")
+    page.press(".notice .close")
+    assert page.all(".notice") == [] and page.has_keyboard("#pay-bonds button")
+
+
+COVERED = """
+    const at = document.activeElement;
+    const box = at.getBoundingClientRect();
+    const covers = ([selector, edge]) => {
+        const over = document.querySelector(selector);
+        const { top, bottom, height } = over.getBoundingClientRect();
+        return height > 0 && !over.contains(at) && (edge === "top" ? box.top < bottom - 1 && box.bottom > top + 1 : box.bottom > top + 1 && box.top < bottom - 1);
+    };
+    const room = innerHeight - document.querySelector("#told").offsetHeight - document.querySelector("#pay-bonds").offsetHeight;
+    return at !== document.body && box.height < room && [["#told", "top"], ["#pay-bonds", "bottom"]].some(covers) ? at.outerHTML.slice(0, 200) : null;
+"""
+
+
+def covered(page: Page) -> list[str]:
+    """What is covered of what has the keyboard, on a way by Tab through the whole view and back."""
+    found = []
+    for back in (False, True):
+        for _ in range(20):
+            page.tab(back)
+            found.append(page.run(COVERED))
+    return [one for one in found if one is not None]
+
+
+def test_notices_in_a_narrow_window(page: Page) -> None:
+    """320 pixels: a notice takes half of the window at most, hides nothing that has the keyboard, and can be closed."""
+    page.resize(320, 640)
+    page.show_sheet(7)
+    page.choose("L7EE")
+    page.pay(99)
+    page.refuses("neither the owner nor the coowner")
+    page.takes_keyboard(".notice.refused")
+    assert in_window(page, "#told")
+    top, bottom, *_ = page.run(BOX, "#told")
+    assert bottom - top <= 0.5 * 640 + 1
+    assert page.run("return document.documentElement.scrollWidth") <= 320
+    assert covered(page) == []
+    page.run("document.documentElement.style.scrollPadding = 0")
+    assert covered(page) != [], "control: if no room were kept"
+    page.run("document.documentElement.style.scrollPadding = ''")
+    page.tab_to(".notice .close", back=True)
+    page.keys(Keys.ENTER)
+    assert page.all(".notice") == []
+
+
+# ---- the sum
+
+SIZES = "const size = (id) => parseFloat(getComputedStyle(document.querySelector(id)).fontSize); return [size('#sum'), size('#sheet td'), size('#chosen')]"
+SCROLL = "scrollTo(0, arguments[0] * document.documentElement.scrollHeight)"
+COLORS = "return ['#day-open .buttons a', '#close-day button'].map((one) => getComputedStyle(document.querySelector(one)).backgroundColor)"
+
+
+def test_sum_beside_pay(bank: Bank, page: Page) -> None:
+    """The sum stands large beside Pay, and both in view, however long the sheet is and wherever it is scrolled. The question and its button name sum and payee, and list the bonds."""
+    bank.registers_many(60, 60)
+    for size in ((1280, 800), (820, 1100), (360, 740)):
+        page.resize(*size)
+        page.show_sheet(60)
+        page.choose("S1EE", "S60EE")
+        for part in (0, 0.3, 0.6, 1):
+            page.run(SCROLL, part)
+            assert in_window(page, "#sum") and in_window(page, "#pay-button"), (size, part)
+    page.run("scrollTo(0, 0); document.querySelector('#pay-bonds').style.position = 'static'")
+    assert not in_window(page, "#pay-button"), "control: if the bar didn't stick"
+    page.run("document.querySelector('#pay-bonds').style.position = ''")
+    of_sum, *others = page.run(SIZES)
+    assert of_sum >= 1.5 * max(others)
+    page.resize(1280, 800)
+    two = dollars(2 * L)
+    assert page.text("#pay-button") == f"Pay {two} to customer 60"
+    page.type("#payee", "61")
+    assert page.text("#pay-button") == f"Pay {two} to customer 61"
+    page.type("#payee", "60")
+    assert page.ask_to_pay().startswith(f"Pay {two} to customer 60?\n")
+    assert page.text("#confirm-yes") == f"Pay {two} to customer 60"
+    line = ["$50", "issued 11/2010", dollars(L)]
+    assert page.bonds_asked() == [["S1EE", *line], ["S60EE", *line]]
+    page.press("#confirm-yes")
+    page.is_paid(1, 2 * L)
+    page.go("day")
+    main, plain = "rgb(23, 66, 107)", "rgb(255, 255, 255)"
+    assert page.run(COLORS) == [main, plain], "to pay is the main act of an open day"
+    asked = page.ask_to_close()
+    assert asked.startswith(f"Close Monday, February 6, 2012 with {two}?")
+    assert "1 ticket, 2 bonds" in asked
+    assert page.text("#confirm-yes") == f"Close the day with {two}"
+
+
+# ---- texts that are whole
+
+#: The widest texts of a bond: those of 10,000 dollars at 20 % with a serial number of ten digits.
+WIDEST = {
+    **{"serial": "Z9999999999EE", "value": "$21,345.60", "denom": "$10,000", "issued": "10/2010"},
+    **{"price": "$5,000.00", "interest": "$16,345.60", "rate": "20.00%", "next": "03/2012"},
+    "final": "10/2040",
+}
+BROKEN_CELLS = """
+    const cell = (name) => document.querySelector(`#sheet tbody .of-${name}`);
+    const lines = (name) => {
+      const range = document.createRange();
+      range.selectNodeContents(cell(name));
+      return new Set([...range.getClientRects()].map((place) => Math.round(place.bottom))).size;
+    };
+    for (const [name, text] of Object.entries(arguments[0])) cell(name).textContent = text;
+    const broken = Object.keys(arguments[0]).filter((name) => lines(name) > 1);
+    return document.documentElement.scrollWidth > innerWidth ? [...broken, "window"] : broken;
+"""
+#: The cells of the first bond of a sheet whose texts lie over one another, or less than three pixels apart in a line.
+OVER = """
+    const cells = [...document.querySelector(".sheet tbody tr").cells].filter((cell) => cell.checkVisibility() && cell.textContent !== "");
+    const boxes = cells.map((cell) => {
+        const range = document.createRange();
+        range.selectNodeContents(cell);
+        return [...range.getClientRects()];
+    });
+    const meet = (one, other) => one.left < other.right + 3 && other.left < one.right + 3 && one.top < other.bottom && other.top < one.bottom;
+    const pairs = cells.flatMap((cell, at) => cells.slice(at + 1).map((other, after) => [cell, other, boxes[at].some((one) => boxes[at + 1 + after].some((two) => meet(one, two)))]));
+    return pairs.filter(([, , do_meet]) => do_meet).map(([one, other]) => `${one.textContent} ${other.textContent}`);
+"""
+#: 683 by 384 is a window of 1366 by 768 at 200 %, and 641 the narrowest whose cards have five columns.
+CARDS = (
+    *((1440, 900), (1088, 768), (1024, 768), (768, 1024), (683, 384), (641, 900), (640, 900)),
+    (360, 740),
+)
+#: The lines of the first bond in a question.
+LINES = "return new Set([...document.querySelectorAll('#confirm .bonds li:first-child span')].flatMap((one) => { const range = document.createRange(); range.selectNodeContents(one); return [...range.getClientRects()].map((box) => Math.round(box.top)); })).size"
+OWNER = 900_000_001
+LARGE = [bond(f"Z{9_999_999_900 + place}EE", 10000, "2005-05", OWNER) for place in range(1, 61)]
+
+
+def test_widest_texts(bank: Bank, page: Page) -> None:
+    """No text of the widest bond is broken, as a table and as a card, and nothing is beside the window; none lies over another; and a question has a line for every bond."""
+    page.show_sheet(7)
+    for width in (1280, 1100, 1080, 948, 820, 360):
+        page.resize(width, 800)
+        assert page.run(BROKEN_CELLS, WIDEST) == [], width
+    page.resize(1100, 800)
+    loose = "{ overflowWrap: 'anywhere', width: '50rem' }"
+    page.run(f"Object.assign(document.querySelector('table.sheet').style, {loose})")
+    assert page.run(BROKEN_CELLS, WIDEST) != [], "control: if words could be broken anywhere"
+    bank.registers(*LARGE)
+    page.show_sheet(OWNER)
+    for width, height in CARDS:
+        page.resize(width, height)
+        page.sleep(0.3)
+        assert page.run(OVER) == [], width
+    page.resize(683, 384)
+    equal = "auto repeat(4, 1fr)"
+    page.run(
+        f"document.querySelectorAll('.sheet tbody tr').forEach((row) => {{ row.style.gridTemplateColumns = '{equal}'; }})"
+    )
+    assert page.run(OVER) != [], "control: with five equal columns"
+    page.resize(1440, 900)
+    page.press("#choose-all")
+    page.ask_to_pay()
+    assert page.run(LINES) == 1
+    page.run(
+        "document.querySelector('#confirm .bonds li:first-child').style.gridTemplateColumns = '8.5rem 4.5rem 3rem auto'"
+    )
+    assert page.run(LINES) > 1, "control: if the month has less room"
+
+
+# ---- questions and notices
+
+WIDTHS = ((1440, 900), (1024, 768), (768, 1024), (360, 740))
+#: The words within an element that stand on more than one line. A hyphen may end a line, and so may any letter of the proxy's log entry.
+BROKEN = r"""
+    const broken = [];
+    for (const root of document.querySelectorAll(arguments[0])) {
+        const walk = document.createTreeWalker(root, NodeFilter.SHOW_TEXT);
+        while (walk.nextNode()) {
+            const at = walk.currentNode;
+            if (!at.parentElement.checkVisibility() || at.parentElement.closest(".unseen, .printed, .code") !== null) continue;
+            for (const word of at.data.matchAll(/[^\s-]{2,}/g)) {
+                const range = document.createRange();
+                range.setStart(at, word.index);
+                range.setEnd(at, word.index + word[0].length);
+                if (new Set([...range.getClientRects()].filter((box) => box.width > 0).map((box) => Math.round(box.top))).size > 1) broken.push(word[0]);
+            }
+        }
+    }
+    return broken;
+"""
+#: The buttons and links within an element that aren't in sight, and how many are there.
+UNSEEN = """
+    const acts = [...document.querySelectorAll(arguments[0])].flatMap((root) => [...root.querySelectorAll("button, a")]).filter((one) => one.checkVisibility());
+    const is_seen = (one) => {
+        const { left, right, top, bottom } = one.getBoundingClientRect();
+        const at = document.elementFromPoint((left + right) / 2, (top + bottom) / 2);
+        return top >= 0 && left >= 0 && bottom <= innerHeight && right <= innerWidth && (at === one || one.contains(at));
+    };
+    return [acts.filter((one) => !is_seen(one)).map((one) => one.textContent), acts.length];
+"""
+#: A pause of eight seconds ends by its button alone, so each width can be looked at, however slow the test is.
+HELD = "const real = window.setTimeout; window.setTimeout = (act, wait, ...more) => (wait === 8000 ? 0 : real(act, wait, ...more));"
+
+
+def seen(page: Page, root: str, least: int | None, pictures: Path | None, name: str) -> None:
+    """At each width no word is broken, and at least `least` buttons are in sight; None is for a paper, which scrolls."""
+    for width, height in WIDTHS:
+        page.resize(width, height)
+        page.sleep(0.3)
+        assert page.run(BROKEN, root) == [], (name, width)
+        hidden, count = page.run(UNSEEN, root)
+        assert least is None or (hidden == [] and count >= least), (name, width)
+        if pictures is not None:
+            page.picture(pictures / f"{name}_{width}-{page.name}.png")
+    page.resize(1100, 820)
+
+
+def given(page: Page, name: str, said: Sequence[str], buttons: list[str], items: int = 0) -> None:
+    """What a screen reader is given of the question that is open: its title names it, its text describes it, and nothing beside it is there. `said` are parts of its description."""
+    found = page.engine.dialog()
+    if found is None:
+        assert page.name == "firefox"
+        return
+    within = [("heading", name), *[("listitem", "")] * items]
+    within += [("list", name)] * bool(items) + [("button", button) for button in buttons]
+    assert found[0] == name and found[2] and sorted(found[3]) == sorted(within)
+    assert all(part in found[1] for part in said) and found[4] == buttons
+
+
+def test_questions(bank: Bank, page: Page, pictures: Path | None) -> None:
+    """Each question: before a payment, before a day is opened and closed, and about the year."""
+    bank.registers(*LARGE)
+    page.show_sheet(OWNER)
+    page.press("#choose-all")
+    page.ask_to_pay()
+    seen(page, "#confirm", 2, pictures, "large_payment")
+    page.resize(360, 740)
+    style = "document.querySelector(arguments[0]).style.cssText = arguments[1]"
+    page.run(style, "#confirm h2", "width: 4rem; word-break: break-all")
+    assert page.run(BROKEN, "#confirm") != [], "control: words that are broken are found"
+    page.run(style, "#confirm h2", "")
+    page.run(style, "#confirm .buttons", "position: fixed; top: 200vh")
+    assert page.run(UNSEEN, "#confirm")[0] != [], "control: and so are buttons out of sight"
+    page.run(style, "#confirm .buttons", "")
+    page.press("#confirm-no")
+    page.resize(1100, 820)
+    page.show_sheet(7)
+    page.choose("L7EE", "K7EE")
+    page.ask_to_pay()
+    both = dollars(L + K)
+    said = f"2 bonds, on Monday, February 6, 2012: L7EE $50 issued 11/2010 {dollars(L)} K7EE $75 issued 10/2010 {dollars(K)}"
+    buttons = ["Back", f"Pay {both} to customer 7"]
+    given(page, f"Pay {both} to customer 7?", [said], buttons, 2)
+    page.press("#confirm-yes")
+    page.is_paid(1, L, K)
+    seen(page, "#ticket", None, pictures, "ticket")
+    page.ask_to_close()
+    seen(page, "#confirm", 2, pictures, "close")
+    said = f"Paid so far, at all desks: 1 ticket, 2 bonds, {both}. No desk can pay on it any more, and it can't be opened again."
+    buttons = ["Back", f"Close the day with {both}"]
+    given(page, f"Close Monday, February 6, 2012 with {both}?", [said], buttons)
+    page.press("#confirm-yes")
+    page.waits_for("Tickets of February 6, 2012", "#batch")
+    page.settled()
+    seen(page, "#batch", None, pictures, "batch")
+    page.ask_to_open("2121-02-06")
+    seen(page, "#confirm", 2, pictures, "open")
+    distance = "Thursday, February 6, 2121: 39,812 days after the last closed day, Monday, February 6, 2012."
+    given(page, "Open February 6, 2121?", [distance], ["Back", "Continue"])
+    page.press("#confirm-yes")
+    again = "Open the day in 2121"
+    page.until(lambda: page.text("#confirm-yes") == again, "it asks again")
+    page.rested("#confirm-yes")
+    seen(page, "#confirm", 2, pictures, "year")
+    said = "Bonds are then paid at their values in February 2121, and no earlier day can ever be opened again. If the year or the day is mistyped, choose Back."
+    given(page, "Is the year 2121 right?", [distance, said], ["Back", again])
+
+
+def test_notices_whole(bank: Bank, page: Page, pictures: Path | None) -> None:
+    """A retry, refusals with and without a ticket's button, and a look-up without an answer."""
+    page.show_sheet(7)
+    page.choose("L7EE")
+    bank.gate.faults = ["lost answer", *["no gateway"] * 4]
+    page.run(HELD)
+    page.pay()
+    page.waits_for("sent again in 8 seconds", "#progress")
+    seen(page, "#progress", 1, pictures, "retry")
+    page.press("#send-now")
+    page.is_paid(1, L)
+    page.show_sheet(7)
+    page.choose("K7EE", "M7EE")
+    bank.pays(7, "M7EE")
+    page.pay()
+    page.refuses("Bond M7EE was paid already, on ticket 2.")
+    seen(page, "#notices", 2, pictures, "refusal_with_ticket")
+    page.pay(99)
+    page.refuses("neither the owner nor the coowner")
+    seen(page, "#notices", 1, pictures, "refusal")
+    page.press("#notices .close")
+    with bank.gate.changes("/inventory/", lambda text: b""):
+        page.press("#ask-sheet button")
+        page.waits_for("The counter didn't answer", "#notices")
+    seen(page, "#notices", 1, pictures, "no_answer")
+
+
+# ---- fields and dates
+
+
+def test_fields(bank: Bank, new_page: NewPage) -> None:
+    """Native days and months; errors that stay until the field is right, and are tied to it."""
+    bank.begin([7], day=None)
+    page = new_page()
+    kinds = page.run(
+        "return ['open-date', 'join-date', 'batch-day', 'month'].map((id) => document.getElementById(id)).map((e) => [e.type, e.getAttribute('type')])"
+    )
+    assert [kind for kind, _ in kinds[:3]] == ["date"] * 3 and kinds[3][1] == "month"
+    label = str(page.find("label[for=month]").get_attribute("textContent"))
+    assert kinds[3][0] == "month" or "YYYY-MM" in label, "without a native field"
+    page.run("document.getElementById('open-date').value = ''")
+    page.press("#open-day button")
+    assert page.text("#open-date-error").endswith("Enter a day from May 1, 2005 on")
+    page.go("pay")
+    page.type("#customer", "x")
+    page.press("#ask-sheet button")
+    field = page.find("#customer")
+    assert field.get_attribute("aria-invalid") == "true" and page.focused() == "customer"
+    assert field.get_attribute("aria-describedby") == "customer-error"
+    page.type("#customer", "7x")
+    page.sleep(6)
+    assert page.is_shown("#customer-error"), "it stays while the field is wrong"
+    page.type("#customer", "7")
+    assert page.all("#customer-error") == [] and field.get_attribute("aria-invalid") is None
+    assert not field.get_attribute("aria-describedby")
+    assert bank.gate.bodies == []
+
+
+# ---- pictures for docs/pictures
+
+FRIDAY, MONDAY = "2026-11-27", "2026-11-30"
+#: As paper has them.
+OF_SEVEN = [
+    bond("L1EE", 50, "2010-11", 7),
+    bond("K2EE", 75, "2010-10", 7, coowner=8),
+    bond("X3EE", 10000, "2006-04", 7),
+    bond("D4EE", 500, "2009-05", 7),
+    bond("M5EE", 1000, "2006-03", 7),
+]
+
+
+def test_pictures(bank: Bank, new_page: NewPage, pictures: Path | None) -> None:
+    """The main views and questions, on a desktop, a tablet and a phone, and a ticket of 100 bonds on paper: for docs/pictures."""
+    if pictures is None:
+        pytest.skip("PICTURES names no folder")
+    folder = pictures
+    bank.begin([], day=FRIDAY)
+    bank.registers(*OF_SEVEN, *(bond(f"L{n}EE", 50, "2010-11", 60) for n in range(101, 201)))
+    page = new_page()
+
+    def kept(name: str, width: int, height: int, scrolled: bool = False) -> None:
+        page.resize(width, height)
+        if not scrolled:
+            page.run("scrollTo(0, 0)")
+        page.sleep(0.3)
+        page.picture(folder / f"{name}{'' if page.name == 'chromium' else '-firefox'}.png")
+
+    page.go("pay")
+    kept("no_day", 960, 400)
+    page.joins(FRIDAY)
+    page.show_sheet(60)
+    page.press("#choose-all")
+    page.pay()
+    page.is_paid(1, 100 * 2756)
+    printed = folder / "paper.pdf"
+    printed.write_bytes(page.engine.pdf())
+    for number in ("1", "4"):
+        words = ["pdftoppm", "-r", "70", "-f", number, "-l", number, "-singlefile", "-gray", "-png"]
+        subprocess.run([*words, str(printed), str(folder / f"paper_{number}")], check=True)
+    page.closes("Batch of November 27, 2026")
+    bank.opens(MONDAY)
+    page.joins(MONDAY)
+    page.show_sheet(7)
+    for text in ("K9EE", "L1E", "K2EE L1EE X3EE"):
+        page.find("#in-hand").send_keys(text, Keys.ENTER)
+    cents = 2756 + 4695 + 1018800
+    page.shows_sum(3, cents, "November 2026")
+    kept("hand", 1180, 860)
+    page.press("#missed > button")
+    page.run("document.activeElement.blur()")
+    kept("pay", 1180, 960)
+    kept("tablet", 820, 1100)
+    page.run("document.querySelector('#sheet').scrollIntoView()")
+    kept("phone", 360, 740, scrolled=True)
+    page.ask_to_pay()
+    page.resize(960, 560)
+    page.rested("#confirm-yes")
+    kept("confirm", 960, 560)
+    bank.gate.faults = ["lost answer", *["lost request"] * 3]
+    page.press("#confirm-yes")
+    page.waits_for("sent again in 4 seconds", "#progress")
+    kept("retry", 960, 560)
+    page.is_paid(2, cents)
+    page.until(lambda: page.all("#ticket-list tr") != [], "the latest tickets are listed")
+    kept("ticket", 960, 900)
+    page.go("day")
+    page.waits_for("1 ticket, 3 bonds", "#all-sum")
+    kept("day", 960, 860)
+    page.closes("Batch of November 30, 2026")
+    page.until(lambda: page.all("#batch-list tr") != [], "the latest batches are listed")
+    kept("batch", 960, 860)
+    page.ask_to_open("2121-12-01")
+    page.press("#confirm-yes")
+    page.until(lambda: page.text("#confirm-yes") == "Open the day in 2121", "it asks again")
+    page.rested("#confirm-yes")
+    kept("again", 960, 560)

@@ -1,0 +1,295 @@
+"""What the page's modules make of texts, in Node: the words of each code and reason, sheets, answers, what a teller types, and amounts in words."""
+
+from __future__ import annotations
+
+import json
+import re
+import subprocess
+from typing import Any
+
+import pytest
+
+from tests.browser.bank import OLDEST, PAGE, TOO_YOUNG, UNISSUED, Bank
+from tests.browser.gate import ENTRY
+from tests.conftest import TOP
+
+pytestmark = pytest.mark.needs("node")
+#: Loads modules of the page, for which anything that they ask of a document is there; and prints what a function of them returns.
+AROUND = """
+    const anything = new Proxy(function () {}, { get: (_, name) => (name === Symbol.toPrimitive ? () => "" : anything), apply: () => anything });
+    globalThis.document = anything;
+    globalThis.location = { origin: "https://counter.test", hash: "" };
+    globalThis.addEventListener = () => {};
+    // Node 20 lacks it.
+    Map.groupBy ??= (rows, key) => rows.reduce((found, row) => found.set(key(row), [...(found.get(key(row)) ?? []), row]), new Map());
+    const page = Object.assign({}, ...(await Promise.all(%s.map((name) => import(`%s/${name}.js`)))));
+    const given = JSON.parse(process.argv[1]);
+    console.log(JSON.stringify((() => {%s})()));
+"""
+MODULES = ["words", "answers", "sheet", "typed", "spelling", "doubts", "papers"]
+
+
+def in_node(script: str, *given: object) -> Any:
+    """What a script returns, which has all that the modules export as `page`, and `given`."""
+    text = AROUND % (json.dumps(MODULES), PAGE, script)
+    words = [
+        "node",
+        "--experimental-default-type=module",
+        "--no-warnings",
+        "-e",
+        text,
+        json.dumps(given),
+    ]
+    ran = subprocess.run(words, capture_output=True, text=True, timeout=60)
+    assert ran.returncode == 0, ran.stderr
+    return json.loads(ran.stdout)
+
+
+# ---- words
+
+NAMES = {
+    "refused": {
+        **{10: "NumberReused", 11: "Empty", 12: "TooMany", 13: "Repeated", 14: "SameCoowner"},
+        **{20: "NotAnnouncementMonth", 21: "RateConflict", 22: "RateUnsettled", 30: "NoRate"},
+        **{31: "SerialConflict", 40: "DayOpen", 41: "DayNotLater", 42: "NoOpenDay"},
+        **{43: "DayIsOther", 44: "DayFull", 50: "UnknownSerial", 51: "NotPayee"},
+        **{52: "AlreadyPaid", 53: "NotIssued", 54: "NotEligible"},
+    },
+    "fault": {
+        **{60: "BadHead", 61: "HeadTooLong", 62: "BodyTooLong", 63: "BadLength", 64: "BadJson"},
+        **{65: "BadField", 66: "NoRoute", 67: "BadMethod", 68: "Truncated", 69: "NotFound"},
+    },
+    "unserved": {1: "NoMemory", 2: "StoreFailed"},
+}
+UNKNOWN = "which this page doesn't know"
+SENTENCES = "return given[0].map((answer) => { const { says, advises } = page.inWords(answer); return [says, advises]; });"
+
+
+def test_words_of_codes() -> None:
+    """No code without a sentence of its own and something to do, and none that no document names."""
+    text = (TOP / "docs/STATUSES.md").read_text() + (TOP / "docs/FORMATS.md").read_text()
+    documented: dict[int, str] = {69: "NotFound"}
+    rows = re.findall(r"^\| ((?:\d\d)(?:, \d\d)*) \| (\w+(?:, \w+)*) \|", text, re.M)
+    for codes, names in rows:
+        documented.update(zip(map(int, codes.split(", ")), names.split(", ")))
+    known = {**NAMES["refused"], **NAMES["fault"]}
+    assert {code: name for code, name in documented.items() if code < 70} == known
+    more = {"serial": "L7EE", "ticket": 12, "field": "payee"}
+    answers = [
+        {
+            "kind": kind,
+            "code": code,
+            "name": name,
+            "month": "2012-05" if code != 22 else 300,
+            **more,
+        }
+        for kind, names_of_kind in NAMES.items()
+        for code, name in names_of_kind.items()
+    ]
+    found = in_node(SENTENCES, answers)
+    for says, advises in found:
+        assert len(says) > 10 and len(advises) > 10 and "undefined" not in says + advises
+        assert UNKNOWN not in says
+    assert len({says for says, _ in found}) == len(answers)
+    others = [{"kind": "refused", "code": code, "name": "Other"} for code in (99, 52)]
+    assert all(UNKNOWN in says for says, _ in in_node(SENTENCES, others))
+
+
+#: nginx's reasons to pass a request on to nobody, with their statuses.
+REASONS = [
+    *(("certificate", 400), ("request", 400), ("request", 414), ("origin", 403), ("client", 403)),
+    *(("type", 403), ("group", 403), ("chunks", 411), ("size", 413), ("host", 421)),
+]
+READ_ANSWERS = "return given[0].map(([status, text]) => page.readAnswer(status, text, () => null)).map(({ kind, why }) => [kind, why]);"
+
+
+def test_words_of_nginx() -> None:
+    """Each answer of nginx and of others is read as what it is, and each reason of nginx has a sentence."""
+    wanted: list[tuple[int, str, list[str]]] = [
+        (status, json.dumps({"forbidden": why}), ["forbidden", why]) for why, status in REASONS
+    ]
+    said = '{"forbidden":"certificate","message":"No certificate."}'
+    wanted.append((400, said, ["forbidden", "certificate"]))
+    wanted += [(429, json.dumps({"forbidden": x}), ["none", "busy"]) for x in ("rate", "repeated")]
+    unavailable = '{"unavailable":"counter"}'
+    wanted += [(status, unavailable, ["none", "unavailable"]) for status in (502, 503, 504)]
+    texts = ('{"forbidden":"x"}', '{"forbidden":["group"]}', "{}", "", "null", "[]")
+    wanted += [(403, text, ["none", "status"]) for text in texts]
+    wanted += [
+        (200, '{"forbidden":"group"}', ["none", "status"]),
+        (404, unavailable, ["none", "status"]),
+    ]
+    assert in_node(READ_ANSWERS, [row[:2] for row in wanted]) == [row[2] for row in wanted]
+    script = "return given[0].map((why) => { const { says, advises } = page.forbiddenInWords(why, '/redeem'); return [says, advises]; });"
+    sentences = in_node(script, [why for why, _ in REASONS])
+    assert all(len(says) > 10 and len(advises) > 10 for says, advises in sentences)
+    assert len({says for says, _ in sentences}) == len(dict(REASONS))
+
+
+def test_entries() -> None:
+    """Only 32 hex digits are an entry of the log; without a header there is none."""
+    other = "fedcba9876543210" * 2
+    texts = [None, "", "x", ENTRY[1:], ENTRY + "0", "<b>" + ENTRY, ENTRY, f"{other}, {ENTRY}"]
+    found = in_node("return given[0].map(page.readEntry);", texts)
+    assert found == [None] * 6 + [ENTRY] * 2
+
+
+#: What an amount is in words, by hand.
+AMOUNTS = {
+    0: "Zero dollars and 00/100",
+    5: "Zero dollars and 05/100",
+    100: "One dollar and 00/100",
+    2516: "Twenty-five dollars and 16/100",
+    10000: "One hundred dollars and 00/100",
+    11300: "One hundred thirteen dollars and 00/100",
+    506207: "Five thousand sixty-two dollars and 07/100",
+    1000001: "Ten thousand dollars and 01/100",
+    99999999: "Nine hundred ninety-nine thousand nine hundred ninety-nine dollars and 99/100",
+    100000000: "One million dollars and 00/100",
+    1234567890: "Twelve million three hundred forty-five thousand six hundred seventy-eight dollars and 90/100",
+}
+TIMES = """
+    const times = [[0, 5], [9, 30], [12, 0], [23, 59]].map(([hour, minute]) => page.timeInWords(new Date(2012, 1, 6, hour, minute).getTime()));
+    return [...times, page.dayInWords("2012-12-31")];
+"""
+
+
+def test_amounts_and_times() -> None:
+    found = in_node(
+        "return given[0].map((cents) => page.amountInWords(BigInt(cents)));", [*AMOUNTS]
+    )
+    assert dict(zip(AMOUNTS, found)) == AMOUNTS
+    times = [
+        f"February 6, 2012, {time}" for time in ("12:05 AM", "9:30 AM", "12:00 PM", "11:59 PM")
+    ]
+    assert in_node(TIMES) == [*times, "December 31, 2012"]
+
+
+def test_rows_of_sheets() -> None:
+    """Up to 1,000 rows are put on sheets that have room for them, with five at least on the last."""
+    splits = in_node("return Array.from({ length: 1001 }, (_, count) => page.rowsOfSheets(count));")
+    for count, sizes in enumerate(splits):
+        assert sum(sizes) == count and max(sizes) <= 38 and sizes[0] <= 26, (count, sizes)
+        assert len(sizes) == 1 or 5 <= sizes[-1] <= 29, (count, sizes)
+
+
+# ---- what a teller types
+
+#: How people and scanners write S12EE.
+SPELLINGS = (
+    *("S12EE", "s12ee", "S 12 EE", "S-12-EE", "s-000012-ee", "S0000000012EE", " S12EE ", "S12EE,"),
+    *("S\u201112\u2013EE", "S.12.EE", "S 0,000,000,012 EE", "\uff3312\uff25\uff25"),
+)
+#: What is no serial number of a Series EE bond.
+NO_SERIALS = ("12EE", "S12", "S0EE", "S12E", "S12I", "XS12EE", "S12EEE", "SS12EE", "S12345678901EE")
+THREE = ["S1EE", "S2EE", "S3EE"]
+LISTS = {
+    "S1EE S2EE S3EE": THREE,
+    "s1ee,s2ee;s3ee": THREE,
+    "S1EES2EES3EE": THREE,
+    "S 1 EE, S-2-EE ;S3EE,": THREE,
+    "S1EE\tS2EE": THREE[:2],
+    "": [],
+    " ,": [None],
+}
+DENOMINATIONS: dict[str, int | None] = {
+    **{"50": 50, "$75": 75, "100": 100, " 200 ": 200, "500": 500, "1,000": 1000, "$5,000": 5000},
+    "10 000": 10000,
+    **dict.fromkeys(("25", "", "50.00", "1000000", "C")),
+}
+MAY = (
+    "05/2010",
+    "5/2010",
+    "5-2010",
+    "05 2010",
+    "5.2010",
+    "May 2010",
+    "MAY-2010",
+    "2010-05",
+    "2010-5",
+)
+NO_MONTHS = (
+    *("04/2005", "01/2100", "13/2010", "0/2010", "05/10", "2010/05", "Ma 2010", "Mayor 2010"),
+    *("5/1/2010", "", "2010"),
+)
+MONTHS: dict[str, str | None] = {
+    **dict.fromkeys(MAY, "2010-05"),
+    **dict.fromkeys(("Sept. 2010", "september, 2010"), "2010-09"),
+    **{"05/2005": "2005-05", "12/2099": "2099-12"},
+    **dict.fromkeys(NO_MONTHS),
+}
+
+
+def test_serials_typed() -> None:
+    """Each spelling that people use is one serial number, in a list too, and nothing else is."""
+    found = in_node("return given[0].map(page.readSerial);", [*SPELLINGS, *NO_SERIALS, "?"])
+    assert found == ["S12EE"] * len(SPELLINGS) + [None] * (len(NO_SERIALS) + 1)
+    script = "return given[0].map((text) => page.serialsIn(text).map(page.readSerial));"
+    assert dict(zip(LISTS, in_node(script, list(LISTS)))) == LISTS
+
+
+def test_walk_ins_typed() -> None:
+    found = in_node("return given[0].map(page.readDenomination);", list(DENOMINATIONS))
+    assert dict(zip(DENOMINATIONS, found)) == DENOMINATIONS
+    found = in_node("return given[0].map(page.readIssueMonth);", list(MONTHS))
+    assert dict(zip(MONTHS, found)) == MONTHS
+
+
+#: The letters of paper bonds of Series EE, by their denominations.
+LETTERS = {"L": 50, "K": 75, "C": 100, "R": 200, "D": 500, "M": 1000, "V": 5000, "X": 10000}
+DOUBTS = "return given[0].map((bonds) => page.doubtsOf(bonds.map(([serial, denom, issued]) => ({ serial, denom: String(denom), issued }))));"
+
+
+def test_doubts() -> None:
+    """Each letter with each denomination, and issue months around the last of paper."""
+    pairs = [
+        (letter, denom) for letter in "ABCDEFGHIJKLMNOPQRSTUVWXYZ" for denom in LETTERS.values()
+    ]
+    bonds = [[(f"{letter}1EE", denom, "05/2010")] for letter, denom in pairs]
+    doubts = dict(zip(pairs, in_node(DOUBTS, bonds)))
+    for (letter, denom), said in doubts.items():
+        assert len(said) == (LETTERS.get(letter) != denom), (letter, denom, said)
+    is_wrong = "M1EE: the letter M means $1,000, and the denomination here is $10,000."
+    assert doubts["M", 10000] == [is_wrong]
+    none = "no denomination has the letter S, and the denomination here is $50."
+    assert doubts["S", 50] == [f"S1EE: {none}"]
+    months = ("05/2005", "11/2011", "12/2011", "01/2012", "02/2012", "12/2099")
+    found = in_node(DOUBTS, [[("L1EE", 50, month)] for month in months])
+    assert [len(said) for said in found] == [0, 0, 0, 1, 1, 1]
+    assert found[3] == ["L1EE: issued 01/2012, and paper was sold only until 12/2011."]
+    many = [(f"S{number}EE", 50, "05/2010") for number in range(1, 6)]
+    assert in_node(DOUBTS, [many]) == [[f"S1EE, S2EE, S3EE and 2 more: {none}"]]
+
+
+# ---- sheets
+
+SHEETS = r"""
+    const text = given[0];
+    const whole = page.readSheet(text);
+    const places = [...text].map((_, at) => at);
+    const other = (at) => text.slice(0, at) + (text[at] === "9" ? "8" : "9") + text.slice(at + 1);
+    const damaged = [
+        ...places.map((at) => text.slice(0, at) + text.slice(at + 1)),
+        ...places.map((at) => text.slice(0, at) + text[at] + text.slice(at)),
+        ...places.map((at) => text.slice(0, at)),
+        ...[...text.matchAll(/\.[0-9]{2}(?!%)/g)].map((found) => other(found.index + 1)),
+    ];
+    const rows = whole.rows.map((row) => [row.serial, row.note, Number(row.value)]);
+    return [rows, Number(whole.totals.value), damaged.length, damaged.filter((one) => page.readSheet(one) !== null).length];
+"""
+
+
+def test_sheets(bank: Bank) -> None:
+    """Sheets of the true counter are read; with a byte less, a byte twice, cut, or other money they are none."""
+    bank.begin([7])
+    bank.registers(TOO_YOUNG, UNISSUED, OLDEST)
+    for month in ("2005-05", "2010-12", "2012-02", "2025-06", "2041-02", "2199-12"):
+        text = bank.ask("GET", f"/inventory/7/{month}")[1]
+        rows, total, tried, read = in_node(SHEETS, text)
+        wanted = [
+            [line.split()[0], "".join(re.findall("(?:NI|NE|P5|MA)$", line))]
+            for line in text.splitlines()[1:-1]
+        ]
+        assert [row[:2] for row in rows] == wanted and len(wanted) == 6
+        assert total == sum(value for *_, value in rows)
+        assert tried > 3 * len(text) and read == 0

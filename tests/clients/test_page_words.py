@@ -1,0 +1,173 @@
+"""The page's words: all in one file, over which the bank's own lie; and dates as an American bank writes them."""
+
+from __future__ import annotations
+
+import re
+
+import pytest
+
+from tests.browser.bank import DAY, TOO_YOUNG, Bank
+from tests.clients.conftest import NewPage
+
+pytest.importorskip("selenium")
+from tests.browser.page import Page
+
+pytestmark = [pytest.mark.browser, pytest.mark.nginx]
+#: A bank's file that says each word of words.js otherwise: in brackets. Functions, lists and tables of texts too. The name of a code isn't a word.
+OTHER_LANGUAGE = """
+import { OURS } from "./words_first.js";
+const wrap = (value) => {
+    if (typeof value === "string") return `\\u27e6${value}\\u27e7`;
+    if (typeof value === "function") return (...given) => wrap(value(...given));
+    if (Array.isArray(value)) return value.map(wrap);
+    if (value !== null && typeof value === "object") return Object.fromEntries(Object.entries(value).map(([name, one]) => [name, wrap(one)]));
+    return value;
+};
+export const BANK = "First Bank of Testing";
+export const BRANCHES = [{ name: "Main Street", from: 1, to: 9 }];
+export const WORDS = { ...wrap(OURS), FORMATS: { ...wrap(OURS.FORMATS), language: "xx" } };
+for (const kind of ["REFUSALS", "FAULTS", "UNSERVED"]) {
+    for (const [code, [name]] of Object.entries(OURS[kind])) WORDS[kind][code][0] = name;
+}
+"""
+LOOSE = """
+    const loose = [];
+    const walk = document.createTreeWalker(document.body, NodeFilter.SHOW_TEXT);
+    while (walk.nextNode()) {
+        const at = walk.currentNode.parentElement;
+        if (at.closest("noscript, #starting, #too-old, #unreadable, #incomplete") === null) loose.push(walk.currentNode.data);
+    }
+    const labels = [...document.querySelectorAll("[aria-label]")].map((e) => e.getAttribute("aria-label"));
+    return [...loose, ...labels, document.title];
+"""
+UNKNOWN = """
+    const { unknownWords } = await import(new URL("/teller/words.js", location.origin));
+    return unknownWords();
+"""
+#: What stands outside of brackets and is no word: serial numbers, badges, the user, the bank, log entries.
+NO_WORDS = r"\b(?:[A-Z]\d+EE|P5|NE|NI|MA|nora|First Bank of Testing|Main Street|[0-9a-f]{32})\b"
+
+
+def outside(text: str) -> re.Match[str] | None:
+    """A word outside of the brackets."""
+    while (shorter := re.sub("\u27e6[^\u27e6\u27e7]*\u27e7", "", text)) != text:
+        text = shorter
+    return re.search(r"[A-Za-z]{2,}", re.sub(NO_WORDS, "", text))
+
+
+def test_words_in_one_file(bank: Bank, new_page: NewPage) -> None:
+    """With each word of words.js in brackets, by bank.js alone, no word of the page stands outside of them."""
+    first = (bank.teller / "words.js").read_text()
+    (bank.teller / "words_first.js").write_text(first)
+    bank.change_page(
+        "words_first.js",
+        ('import * as bank from "./bank.js";', "const bank = {};"),
+        ("const OURS = ", "export const OURS = "),
+    )
+    (bank.teller / "bank.js").write_text(OTHER_LANGUAGE)
+    bank.begin([7, 9])
+    bank.registers(TOO_YOUNG)
+    page = new_page(None)
+    page.until(lambda: page.is_shown("#start"), "the page has started")
+    page.type("#desk", "5")
+    page.press("#start button")
+    found: list[str] = []
+
+    def look() -> None:
+        found.extend(page.run(LOOSE))
+
+    look()
+    page.join_day(DAY)
+    page.waits_for("This desk joined")
+    look()
+    page.show_sheet(7)
+    page.choose("L7EE")
+    page.add(9, "K9EE")
+    page.ask_to_add("x", "x")
+    look()
+    page.ask_to_pay()
+    look()
+    bank.gate.faults = ["lost request"]
+    page.press("#confirm-yes")
+    page.waits_for("no reply yet", "#progress")
+    look()
+    page.waits_for("neither the owner", "#notices")
+    look()
+    page.go("walkin")
+    page.type_walk_in("D12EE", "50", "11/2010")
+    page.until(lambda: page.all("#walkin-bonds li") != [], "the bond is in the list")
+    page.type("#walkin-owner", "12")
+    page.press("#walkin-button")
+    page.asks()
+    look()
+    page.asked_without_doubt()
+    look()
+    page.press("#confirm-no")
+    page.go("pay")
+    page.press("#others button")
+    page.pay(7)
+    page.waits_for("Ticket 1", "#ticket h2")
+    page.settled()
+    look()
+    page.ask_to_close()
+    look()
+    page.press("#confirm-yes")
+    page.waits_for("Tickets of", "#batch")
+    look()
+    page.ask_to_open("2121-02-06")
+    look()
+    page.press("#confirm-no")
+    page.go("interest")
+    page.type("#interest-day", DAY)
+    page.press("#ask-interest-day button")
+    page.until(lambda: page.all("#interest-of table") != [], "the interest of the day")
+    look()
+    assert sorted({text.strip() for text in found if outside(text)}) == [] and len(found) > 300
+    assert page.run("return document.documentElement.lang") == "xx"
+    assert page.run_module(UNKNOWN) == [], "the page knows each of the bank's words"
+
+
+def test_a_loose_word_is_found() -> None:
+    """Control: a word outside of the brackets."""
+    assert outside("\u27e6Pay\u27e7 more") and not outside("\u27e6Pay\u27e7 7 K7EE")
+
+
+def test_words_of_bank(bank: Bank, new_page: NewPage) -> None:
+    """The bank's own words lie over the page's. A word that the page doesn't have changes nothing, and is named. A file of release 1.0.0 has no words, and serves as it is."""
+    own = dict[str, object](FORMATS={"months": ["x"]}, SHEET={"notes": {"XX": "x"}})
+    own |= dict[str, object](PAY={"paid": "x"}, OTHER={"pay": "x"}, NOTICES="x")
+    bank.write_own(own | {"TEXTS": {"pays": "x", "name": "Bond window"}})
+    page = new_page()
+    assert page.text(".name") == "Bond window"
+    assert page.text("nav a[href='#pay']") == "Pay", "the page's own beside it"
+    named = page.run_module(UNKNOWN)
+    assert sorted(named) == sorted(
+        ["WORDS.TEXTS.pays", "WORDS.PAY.paid", "WORDS.FORMATS.months", "WORDS.SHEET.notes.XX"]
+        + ["WORDS.OTHER", "WORDS.NOTICES"]
+    )
+    if page.name == "chromium":
+        told = page.complaints()
+        assert all(any(name in line for line in told) for name in named), "in the console too"
+    bank.write_own(None)
+    page.reload()
+    page.waits_for("Desk 5,", "#state")
+    assert page.text(".name") == "Savings bond counter" and page.run_module(UNKNOWN) == []
+
+
+MONTHS = "January|February|March|April|May|June|July|August|September|October|November|December"
+DAY_FIRST = rf"\b\d{{1,2}} (?:{MONTHS})\b"
+
+
+def test_dates(page: Page) -> None:
+    """No day stands before its month, on the page and on its paper; and the desk can't be read with the day as one number."""
+    assert page.text("#state") == "Desk 5, February 6, 2012"
+    page.pays(1, 7, "L7EE")
+    texts = []
+    for view in ("day", "pay", "tickets", "batches"):
+        page.go(view)
+        page.sleep(1)
+        texts.append(page.run("return document.body.textContent"))
+    texts.append(page.ask_to_close())
+    assert sum("February 6, 2012" in text for text in texts) >= 3
+    assert [re.findall(DAY_FIRST, text) for text in texts] == [[]] * 5
+    assert re.search(DAY_FIRST, "Desk 5. 6 February 2012"), "control: such a date is found"
