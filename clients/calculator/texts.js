@@ -8,7 +8,7 @@ const MONTHS = ["January", "February", "March", "April", "May", "June", "July", 
 const month = (count) => `${MONTHS[count % 12]} ${Math.floor(count / 12)}`;
 const counted = (count, one, many) => `${count.toLocaleString("en-US")} ${count === 1 ? one : many}`;
 const bonds = (count) => counted(count, "bond", "bonds");
-const quoted = (text) => (text === null ? "bytes that are no text" : text === "" ? "nothing" : `“${text}”`);
+const quoted = (text) => (text === null ? "bytes that aren't text" : text === "" ? "nothing" : `“${text}”`);
 
 // By column of a file: what its field is to be.
 const SPELLINGS = {
@@ -71,7 +71,7 @@ export const EN = {
   month_back: "Month before",
   month_on: "Month after",
   month_shown: (value) => `Values in ${month(value)}.`,
-  month_bad: (text) => `${quoted(text)} is no value month. Write a month from May 2005 to December 2199, as 11/2026, Nov 2026 or 2026-11.`,
+  month_bad: (text) => `${quoted(text)} isn't a value month. Write a month from May 2005 to December 2199, as 11/2026, Nov 2026 or 2026-11.`,
   total_name: (count, value) => (count === 0 ? `No bonds yet. Values are for ${month(value)}.` : `Value of ${bonds(count)} in ${month(value)}`),
   sums: { price: "Issue price", interest: "Interest", year: (value) => `Interest of ${Math.floor(value / 12)}`, payable: "Payable now", next: (value) => `Value in ${month(value)}` },
   not_payable: (count) => (count === 0 ? "all bonds" : `all but ${bonds(count)} under 12 months or not issued yet`),
@@ -149,20 +149,20 @@ export const EN = {
   remove_all: "Remove all bonds",
   keep_label: "Keep the inventory, the rates and the month in this browser",
   kept: "The inventory is kept in this browser. A browser may delete what pages keep, so save it as a file too.",
-  keep_state: { kept: "Kept in this browser.", waiting: "Being kept .." },
+  keep_state: { kept: "Kept in this browser.", waiting: "Saving .." },
   not_kept: "Nothing is kept any more. Save the inventory before you close the page.",
-  keep_failed: "This browser refuses to keep the inventory. What it kept before stays as it is. Save the inventory as a file.",
+  keep_failed: "This browser can't keep the inventory. What it kept before stays. Save the inventory as a file.",
   taken_up: (count) => `${bonds(count)}, kept by an earlier visit.`,
   kept_unread: "This browser doesn't let the page read what an earlier visit kept. If anything was kept, it stays as it is.",
   kept_unreadable: (why) => `The page can't read what an earlier visit kept, and leaves it as it is. ${why}`,
   kept_incomplete: "The inventory, the rates or the month are missing.",
   left_save: "Save what was kept as a file",
   left_help: "An earlier visit kept something in this browser that the page can't read. It stays there until you keep the bonds of this page and agree to replace it.",
-  ask_replace: "What an earlier visit kept can't be read. Replace it by the bonds of this page?",
+  ask_replace: "What an earlier visit kept can't be read. Replace it with the bonds on this page?",
   keep_ended: "Another tab of this page ended the keeping, so nothing is kept any more. Save the inventory before you close the page.",
   keep_conflict: (why) => `Another tab of this page kept other bonds or rates, which stay as they are. What this tab changed isn't kept: save the inventory as a file. ${why}`,
   save_unnumbered: "A bond without a serial number is saved as #1, #2 and so on, which only this page reads.",
-  save_long: "The file is longer than 1,048,576 bytes, so neither opens it: to read it here again, copy its text and paste it.",
+  save_long: "The file is longer than 1,048,576 bytes, so neither this page nor the counter opens it. To read it here again, copy its text and paste it.",
   save_help: (count) => (count > 500 ? `The counter's import takes 500 bonds from one file. clients/counter.py registers all ${count.toLocaleString("en-US")} from this one.` : "The saved inventory opens here again, and the counter imports it."),
   saved: (name) => `Saved as ${name}.`,
   skip_table: "Skip the table",
@@ -205,16 +205,16 @@ export const EN = {
     doubles: "It is worth twice its price at least, 20 years old",
     matures: "Final maturity, 30 years old",
   },
-  ahead_none: "Nothing changes any more: the bond earns no more interest.",
+  ahead_none: "Its value no longer changes: the bond earns no more interest.",
   bond_curve_title: "Its value over 30 years",
   bond_curve_says: (serial, points) => `The value of bond ${serial} from ${dollarsText(points[0].cents)} in ${month(points[0].month)} to ${dollarsText(points.at(-1).cents)} in ${month(points.at(-1).month)}. The table has every year.`,
   remove_bond: "Remove this bond",
 
   about_title: "What is proved, and what isn't",
   about: [
-    "Every value comes from a small program, the module, whose every function is proved: for every denomination, month and rate it answers what the rules of 31 CFR Part 351 give, to the cent.",
-    "Not proved: this page, which reads what you type and prints what the module answers; the browser; and, with the module of 32 bits, the step that makes it from the proved one of 64 bits. All this is tested against the counter's program and the Treasury's published values.",
-    "Nobody proves that the rates are the Treasury's. Compare them before you rely on a value.",
+    "Every value comes from a small program, the module. Every function of it is proved: for every denomination, month and rate it gives the value by the rules of 31 CFR Part 351, to the cent.",
+    "Not proved are this page, which reads your entries and shows the module's answers, and the browser. Nor is the step that makes the 32-bit module from the proved 64-bit one. All this is tested against the counter's program and the Treasury's published values.",
+    "Nothing proves that these rates are the Treasury's. Compare them before you rely on a value.",
     "A value here is no promise of payment. The page doesn't know which bonds exist, were lost or were cashed.",
     "Everything stays on this device. The page asks no other server, and has no cookies.",
   ],
