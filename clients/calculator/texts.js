@@ -151,7 +151,7 @@ export const EN = {
   kept: "The inventory is kept in this browser. A browser may delete what pages keep, so save it as a file too.",
   keep_state: { kept: "Kept in this browser.", waiting: "Saving .." },
   not_kept: "Nothing is kept any more. Save the inventory before you close the page.",
-  keep_failed: "This browser can't keep the inventory. What it kept before stays. Save the inventory as a file.",
+  keep_failed: "This browser refuses to keep the inventory. What it kept before stays as it is. Save the inventory as a file.",
   taken_up: (count) => `${bonds(count)}, kept by an earlier visit.`,
   kept_unread: "This browser doesn't let the page read what an earlier visit kept. If anything was kept, it stays as it is.",
   kept_unreadable: (why) => `The page can't read what an earlier visit kept, and leaves it as it is. ${why}`,
