@@ -19,6 +19,7 @@ such as invoice-4711: the same call with the same key returns the same reply, al
 Errors are a tree (ee_counter_client.errors): BadCall, WrongSetup, Retryable, UnknownOutcome and Refused. The package logs to "ee_counter_client". It needs the standard
 library only, and a system with flock. `python3 -m ee_counter_client --help` lists the commands. Money is in dollars, as Decimal.
 """
+from .asynchronous import AsyncCounter
 from .counter import Counter
 from .errors import (
     AlreadyPaid,
@@ -94,6 +95,7 @@ __all__ = [
     "Abandoned",
     "Added",
     "AlreadyPaid",
+    "AsyncCounter",
     "BadArchive",
     "BadCall",
     "BadFile",

@@ -20,6 +20,7 @@ from .spelling import Json, cents_of, day_of
 
 Reader = Callable[[str], Optional[Any]]
 Found = TypeVar("Found")
+Error = TypeVar("Error", bound=CounterError)
 
 NUMBER_REUSED = 10
 NOT_FOUND = 69
@@ -167,13 +168,19 @@ def reply_in(path: str, fields: Json, text: str) -> Optional[Json]:
 
 class Answer(NamedTuple):
     """What came: a `reply`, a "refused" request, a "fault", an "unserved" request, one that the proxy didn't pass on ("forbidden", for the reason `value`), or no
-    answer of the counter ("none"), with what was met instead. `setup` is the error that it is before the first good exchange.
+    answer of the counter ("none"), with what was met instead. `setup` is the error that it is before the first good exchange, `entry` the proxy's entry in its log.
     """
 
     kind: str
     value: Any = None
     met: str = ""
     setup: Optional[CounterError] = None
+    entry: Optional[str] = None
+
+    def named(self, error: Error) -> Error:
+        """The error, with the log entry of this answer."""
+        error.request_id = self.entry
+        return error
 
 
 def reason_in(status: int, text: str) -> Optional[str]:
@@ -242,4 +249,5 @@ def is_of_one_sending(answer: Answer) -> bool:
 
 def error_of(answer: Answer, path: str) -> CounterError:
     """The error of an answer to one sending."""
-    return Forbidden(path, answer.value) if answer.kind == "forbidden" else Fault(answer.value)
+    is_forbidden = answer.kind == "forbidden"
+    return answer.named(Forbidden(path, answer.value) if is_forbidden else Fault(answer.value))

@@ -1,4 +1,4 @@
-"""The command: `python3 -m ee_counter_client`, `ee-counter`, or clients/counter.py."""
+"""The command counter-client, which is also `python3 -m ee_counter_client` and clients/counter.py."""
 from __future__ import annotations
 
 import argparse
@@ -267,7 +267,7 @@ STATUSES = """statuses:
 
 def words_of(line: Optional[Sequence[str]]) -> argparse.Namespace:
     """Reads a command line."""
-    example = "example:\n  %(prog)s --journal desk3.journal --desk 3 open 2012-02-06\n  %(prog)s ticket 1\n\n"
+    example = "example:\n  %(prog)s --journal desk3.journal --desk 3 rates samples/rates.csv\n  %(prog)s sheet 7 2012-02\n\n"
     parser = parser_of(
         argparse.ArgumentParser,
         "Sends requests to the counter. Each gets its one reply, which is printed as the counter gave it.",
@@ -302,7 +302,9 @@ def words_of(line: Optional[Sequence[str]]) -> argparse.Namespace:
         help="a file that gets every request before it is sent, and every reply; it is created if it doesn't exist",
     )
     parser.add_argument(
+        "--timeout",
         "--patience",
+        dest="timeout",
         type=float,
         default=PATIENCE,
         metavar="SECONDS",
@@ -311,7 +313,8 @@ def words_of(line: Optional[Sequence[str]]) -> argparse.Namespace:
     commands = parser.add_subparsers(dest="command", required=True, metavar="COMMAND")
     for name, does, arguments, _ in (*ACTS, *LOOK_UPS):
         journal = " --journal desk3.journal" if name in NEED_JOURNAL else ""
-        shown = " ".join(ARGUMENTS[argument][1] for argument in arguments)
+        shown = "--even-so " if name == "open" else ""
+        shown += " ".join(ARGUMENTS[argument][1] for argument in arguments)
         command = parser_of(
             commands.add_parser,
             does,
@@ -356,9 +359,7 @@ def run(words: argparse.Namespace) -> int:
     """Runs a command."""
     certificate, key, ca = words.certificate, words.certificate_key, words.ca
     if words.journal is None:
-        lookups = Lookups(
-            words.at, certificate=certificate, key=key, ca=ca, patience=words.patience
-        )
+        lookups = Lookups(words.at, certificate=certificate, key=key, ca=ca, timeout=words.timeout)
         return next(run for name, _, _, run in LOOK_UPS if name == words.command)(lookups, words)
     with Counter(
         words.journal,
@@ -367,12 +368,17 @@ def run(words: argparse.Namespace) -> int:
         certificate=certificate,
         key=key,
         ca=ca,
-        patience=words.patience,
+        timeout=words.timeout,
         archive=words.archive,
     ) as counter:
         return next(run for name, _, _, run in (*ACTS, *LOOK_UPS) if name == words.command)(
             counter, words
         )
+
+
+def entry_of(error: CounterError) -> str:
+    """What a line says of the proxy's entry in its log."""
+    return "" if error.request_id is None else f" (log entry {error.request_id})"
 
 
 def status_of(error: CounterError) -> int:
@@ -390,7 +396,7 @@ def main(line: Optional[Sequence[str]] = None) -> int:
         return run(words)
     except Refused as refusal:
         print(compact(refusal.reply), flush=True)
-        print(f"refused: {refusal}", file=sys.stderr)
+        print(f"refused: {refusal}{entry_of(refusal)}", file=sys.stderr)
         return 1
     except Implausible as doubt:
         more = len(doubt.doubts) - MOST_LINES
@@ -403,7 +409,7 @@ def main(line: Optional[Sequence[str]] = None) -> int:
         )
         return 2
     except CounterError as error:
-        print(error, file=sys.stderr)
+        print(f"{error}{entry_of(error)}", file=sys.stderr)
         return status_of(error)
     except OSError as failure:
         print(printable(str(failure)), file=sys.stderr)

@@ -37,7 +37,7 @@ from .errors import (
     printable,
 )
 from .journal import Journal
-from .lookups import ADDRESS, PATIENCE, TIME_LIMIT, Lookups, Path, Trials, path_of
+from .lookups import ADDRESS, NOT_GIVEN, PATIENCE, TIME_LIMIT, Lookups, Path, Trials, path_of
 from .plausible import MOST_DAYS, days_before, doubts_of_bond, doubts_of_day, question
 from .results import Abandoned, Added, Batch, Finished, Opened, Request, Result, Ticket, result_of
 from .spelling import (
@@ -56,10 +56,11 @@ from .spelling import (
     key_of,
     list_of,
     rate_row_of,
+    seconds_of,
     serial_of,
     whole,
 )
-from .way import Deadline
+from .way import Deadline, Stop
 
 LOG = logging.getLogger("ee_counter_client")
 
@@ -81,7 +82,7 @@ class Counter(Lookups):
     """Sends requests to a counter, for the desk of a journal. Every request gets its one reply, whatever is stopped or lost.
 
     `journal` is the path of the journal, which is created if `desk` (0 to 999) is given. `address`, `certificate`, `key` and `ca` are
-    as in Lookups. `patience` is how many seconds a call may take (300; None without an end); `time_limit` how many seconds one sending may take. `archive` names a file for every request and its reply.
+    as in Lookups. `timeout` is how many seconds a call may take (300; None without an end); `patience` is its earlier name; `time_limit` how many seconds one sending may take. `archive` names a file for every request and its reply.
 
     Threads may share it: their calls wait for one another. A process that is forked from this one may not use it (Closed).
 
@@ -96,7 +97,8 @@ class Counter(Lookups):
         certificate: Optional[Path] = None,
         key: Optional[Path] = None,
         ca: Optional[Path] = None,
-        patience: Optional[float] = PATIENCE,
+        timeout: Optional[float] = PATIENCE,
+        patience: Optional[float] = NOT_GIVEN,
         time_limit: float = TIME_LIMIT,
         archive: Optional[Path] = None,
     ) -> None:
@@ -105,6 +107,7 @@ class Counter(Lookups):
             certificate=certificate,
             key=key,
             ca=ca,
+            timeout=timeout,
             patience=patience,
             time_limit=time_limit,
         )
@@ -118,6 +121,7 @@ class Counter(Lookups):
             self._journal.close()
             raise
         self._lock, self._process, self._is_closed = threading.RLock(), os.getpid(), False
+        self._stop = Stop()
 
     def __enter__(self) -> "Counter":
         return self
@@ -133,14 +137,27 @@ class Counter(Lookups):
     def __repr__(self) -> str:
         return f"<Counter of desk {self.desk}, journal {self._journal.path}>"
 
-    def close(self) -> None:
-        """Gives the journal back. A second call does nothing. It waits for a call of another thread."""
-        if os.getpid() == self._process:
-            with self._lock:
-                self._is_closed = True
-                self._journal.close()
-                if self._archive is not None:
-                    self._archive.close()
+    def close(self, timeout: Optional[float] = None) -> None:
+        """Gives the journal back. A second call does nothing. It waits for a call of another thread, which is stopped after `timeout` seconds: it raises NoReply or
+        NoAnswer, and its request stays open."""
+        seconds = -1 if timeout is None else seconds_of(timeout, "a timeout")
+        if os.getpid() != self._process:
+            return
+        if not self._lock.acquire(timeout=seconds):
+            self._is_closed = True
+            self.stop()
+            self._lock.acquire()
+        try:
+            self._is_closed = True
+            self._journal.close()
+            if self._archive is not None:
+                self._archive.close()
+        finally:
+            self._lock.release()
+
+    def stop(self) -> None:
+        """Stops the call that another thread makes: it raises NoReply or NoAnswer, and its request stays open."""
+        self._stop.set()
 
     @property
     def desk(self) -> int:
@@ -301,6 +318,7 @@ class Counter(Lookups):
             )
         try:
             self._test_is_open()
+            self._stop = deadline.stop
             yield deadline
         except FileFailed as failure:
             raise self._as_open(failure)
@@ -421,7 +439,7 @@ class Counter(Lookups):
                 "GET", TRIAL, None, lambda text: with_its(batch_in(text), day=TRIAL[-10:]), deadline
             )
             if answer.setup is not None:
-                raise self._as_open(answer.setup)
+                raise self._as_open(answer.named(answer.setup))
             if not is_good(answer):
                 LOG.info("the counter doesn't answer yet: %s", answer.met)
                 if deadline.is_over():
@@ -454,7 +472,7 @@ class Counter(Lookups):
                 self._journal.drop()
                 raise error_of(answer, path)
             if answer.setup is not None and self._ends(answer.setup):
-                raise self._as_open(answer.setup)
+                raise self._as_open(answer.named(answer.setup))
             trials.failed(answer)
             LOG.warning(
                 "no reply: %s%s",
@@ -516,7 +534,10 @@ class Counter(Lookups):
         if answer.kind == "reply" and request.get("key") is not None:
             self._journal.keys.add(request["key"], request, answer.value)
         self._journal.change(**self._journal.with_reply(request, answer.value))
-        return result_of(self._journal.request_of(request), answer.value)
+        try:
+            return result_of(self._journal.request_of(request), answer.value)
+        except Refused as refusal:
+            raise answer.named(refusal)
 
 
 def doubts_of(path: str, fields: Json) -> Iterator[str]:

@@ -12,7 +12,7 @@
       Refused          the counter refused the request; nothing was changed
         AlreadyPaid, NotPayee, UnknownSerial, .. : one class for every code
 
-Two attributes of every error say the same to a program that doesn't know the class: `retryable`, and `may_be_done`.
+Two attributes of every error say the same to a program that doesn't know the class: `retryable`, and `may_be_done`. `request_id` names the proxy's entry of its answer.
 """
 from __future__ import annotations
 
@@ -29,6 +29,8 @@ class CounterError(Exception):
     retryable: bool = False
     #: Whether a request that this call was to finish may have taken effect. If so, the journal keeps it open.
     may_be_done: bool = False
+    #: The proxy's entry for this answer in its log of who asked (X-Request-Id). None without an answer of a proxy.
+    request_id: Optional[str] = None
 
     def __str__(self) -> str:
         """The text. Control characters of what it quotes are escaped."""

@@ -5,7 +5,6 @@ import contextlib
 import logging
 import os
 import random
-import time
 from typing import Any, Iterator, Optional, Union
 
 from .answers import (
@@ -49,6 +48,8 @@ PAUSES = (0.1, 0.2, 0.5, 1, 2, 4, 8, 15)
 TIME_LIMIT = 40.0
 #: Seconds that a call may take, unless its caller says otherwise.
 PATIENCE = 300.0
+#: Stands for a number that wasn't given.
+NOT_GIVEN = float("nan")
 Path = Union[str, "os.PathLike[str]"]
 
 
@@ -56,11 +57,12 @@ class Trials:
     """The sendings of one call: how many failed, what was met last, and the pauses between them, which grow."""
 
     def __init__(self, deadline: Deadline) -> None:
-        self.deadline, self.failures, self.met = deadline, 0, ""
+        self.deadline, self.failures, self.met = deadline, 0, "nothing was sent"
+        self.answer: Optional[Answer] = None
 
     def failed(self, answer: Answer) -> None:
         """Counts a sending that failed."""
-        self.failures += 1
+        self.failures, self.answer = self.failures + 1, answer
         self.met = answer.met or f"{shown(answer.value['fault'])} (code {answer.value['code']})"
 
     def pause(self) -> bool:
@@ -71,20 +73,26 @@ class Trials:
         """Waits, or until the deadline if that comes before."""
         left = self.deadline.left()
         is_over = left is not None and left <= seconds
-        time.sleep(left if left is not None and is_over else seconds)
-        return not is_over
+        is_stopped = self.deadline.stop.event.wait(
+            left if left is not None and is_over else seconds
+        )
+        return not (is_over or is_stopped)
 
     def over(self, request: Optional[Request]) -> CounterError:
         """The error of a call whose time is over, with its open request if it has one."""
-        text = f"no reply within {self.deadline.seconds:g} seconds, and the patience is over: {self.met}"
-        return NoAnswer(text) if request is None else NoReply(text, request)
+        why = "the call was stopped"
+        if not self.deadline.stop.is_set():
+            why = f"no reply within {self.deadline.seconds:g} seconds, and the patience is over"
+        text = f"{why}: {self.met}"
+        error = NoAnswer(text) if request is None else NoReply(text, request)
+        return error if self.answer is None else self.answer.named(error)
 
 
 class Lookups:
     """Looks things up at a counter: sheets, tickets, batches and values. It changes nothing, has no files, and takes no desk.
 
     `address` is as http://127.0.0.1:8377, or https://.. with `certificate` and `key`, the files by which the user signs in (the certificate's file may have its key
-    too), and `ca`, a file of certificates that are trusted instead of the system's. `patience` is how many seconds a call may take, None without an end; `time_limit` how many seconds one sending may take. Threads may share it, and look things up at once.
+    too), and `ca`, a file of certificates that are trusted instead of the system's. `timeout`, or by its earlier name `patience`, is how many seconds a call may take, None without an end; `time_limit` how many seconds one sending may take. Threads may share it, and look things up at once.
 
     Raises BadValue. Nothing is sent."""
 
@@ -95,11 +103,12 @@ class Lookups:
         certificate: Optional[Path] = None,
         key: Optional[Path] = None,
         ca: Optional[Path] = None,
-        patience: Optional[float] = PATIENCE,
+        timeout: Optional[float] = PATIENCE,
+        patience: Optional[float] = NOT_GIVEN,
         time_limit: float = TIME_LIMIT,
     ) -> None:
         #: How many seconds a call may take. None without an end.
-        self.patience = None if patience is None else seconds_of(patience, "patience")
+        self.patience = patience_of(timeout, patience)
         self.time_limit = seconds_of(time_limit, "a time limit")
         if self.time_limit == 0:
             raise BadValue("a time limit is more than 0 seconds")
@@ -170,17 +179,25 @@ class Lookups:
             if answer.kind == "reply":
                 return answer.value
             if answer.kind == "refused":
-                raise refusal_of(answer.value)
+                raise answer.named(refusal_of(answer.value))
             if answer.kind == "fault" and answer.value["code"] == NOT_FOUND:
                 return None
             if is_of_one_sending(answer):
                 raise error_of(answer, path)
             if answer.setup is not None and self._ends(answer.setup):
-                raise answer.setup
+                raise answer.named(answer.setup)
             trials.failed(answer)
             LOG.warning("no reply: %s", trials.met)
             if not trials.pause():
                 raise trials.over(None)
+
+
+def patience_of(timeout: Optional[float], patience: Optional[float]) -> Optional[float]:
+    """Reads the seconds of a call: `timeout`, or `patience`, its earlier name."""
+    name, seconds = ("a timeout", timeout) if patience is NOT_GIVEN else ("patience", patience)
+    if patience is not NOT_GIVEN and timeout is not PATIENCE:
+        raise BadValue("timeout and patience are two names of one number: give one of them")
+    return None if seconds is None else seconds_of(seconds, name)
 
 
 def path_of(value: object, name: str) -> str:

@@ -6,11 +6,23 @@ import logging
 import os
 import threading
 from types import TracebackType
-from typing import Any, Dict, Iterable, Iterator, List, Mapping, Optional, Tuple, Type, Union
+from typing import (
+    AbstractSet,
+    Any,
+    Dict,
+    Iterable,
+    Iterator,
+    List,
+    Mapping,
+    Optional,
+    Tuple,
+    Type,
+    Union,
+)
 
 from .counter import Counter
 from .errors import BadValue, Busy, Closed, CounterError, Refused
-from .lookups import ADDRESS, PATIENCE, TIME_LIMIT, Path, path_of
+from .lookups import ADDRESS, NOT_GIVEN, PATIENCE, TIME_LIMIT, Path, path_of, patience_of
 from .results import Added, Batch, Finished, Opened, Request, Row, Sheet, Ticket
 from .spelling import Bond, DayLike, ListOf, MonthLike, Rates, key_of, list_of, seconds_of, whole
 from .way import Deadline
@@ -40,14 +52,16 @@ class Pool:
         certificate: Optional[Path] = None,
         key: Optional[Path] = None,
         ca: Optional[Path] = None,
-        patience: Optional[float] = PATIENCE,
+        timeout: Optional[float] = PATIENCE,
+        patience: Optional[float] = NOT_GIVEN,
         time_limit: float = TIME_LIMIT,
     ) -> None:
         path = path_of(folder, "a folder")
-        numbers = [whole(desk, 0, 999, "a desk") for desk in list_of(desks, MOST_DESKS, "desks")]
+        listed = sorted(desks) if isinstance(desks, AbstractSet) else desks
+        numbers = [whole(desk, 0, 999, "a desk") for desk in list_of(listed, MOST_DESKS, "desks")]
         if len(set(numbers)) != len(numbers):
             raise BadValue(f"every desk is named once, and not {numbers!r}")
-        self._patience = None if patience is None else seconds_of(patience, "patience")
+        self._patience = patience_of(timeout, patience)
         self._counters: List[Counter] = []
         self._changed, self._taken, self._is_closed = threading.Condition(), set[int](), False
         self._keys: Dict[str, Counter] = {}
@@ -63,6 +77,7 @@ class Pool:
                         certificate=certificate,
                         key=key,
                         ca=ca,
+                        timeout=timeout,
                         patience=patience,
                         time_limit=time_limit,
                         archive=beside,
@@ -83,13 +98,14 @@ class Pool:
     ) -> None:
         self.close()
 
-    def close(self) -> None:
-        """Gives the journals back, each once its call has ended. A second call does nothing."""
+    def close(self, timeout: Optional[float] = None) -> None:
+        """Gives the journals back, each once its call has ended, or was stopped after `timeout` seconds in all. A second call does nothing."""
+        deadline = Deadline(None if timeout is None else seconds_of(timeout, "a timeout"))
         with self._changed:
             self._is_closed = True
             self._changed.notify_all()
         for counter in self._counters:
-            counter.close()
+            counter.close(deadline.left())
 
     @property
     def desks(self) -> Tuple[int, ...]:

@@ -6,10 +6,13 @@ import re
 from dataclasses import dataclass
 from decimal import Decimal
 from typing import (
+    AbstractSet,
     Any,
     Dict,
+    ItemsView,
     Iterable,
     Iterator,
+    KeysView,
     List,
     Mapping,
     Optional,
@@ -27,7 +30,8 @@ Item = TypeVar("Item", covariant=True)
 
 
 class Listed(Protocol[Item]):
-    """A list, a tuple, or another collection. For a type checker a text is none, though it is a sequence of texts: `in` of a text takes texts alone."""
+    """A list, a tuple, or another collection with an order. For a type checker a set is none, and neither is a text, though it is a sequence of texts: `in` of a text takes
+    texts alone."""
 
     def __contains__(self, __value: object) -> bool:
         ...
@@ -36,6 +40,9 @@ class Listed(Protocol[Item]):
         ...
 
     def __len__(self) -> int:
+        ...
+
+    def __reversed__(self) -> Iterator[Item]:
         ...
 
 
@@ -188,8 +195,13 @@ def cents_of(text: object) -> Optional[int]:
 
 
 def list_of(values: object, most: int, name: str) -> List[Any]:
-    """Reads a list of 1 to `most` values. A text isn't a list of its letters."""
-    if isinstance(values, (str, bytes, Mapping)) or not isinstance(values, Iterable):
+    """Reads a list of 1 to `most` values. A text isn't a list of its letters. A set has another order in each run, and would be another request under its key."""
+    is_unordered = isinstance(values, AbstractSet) and not isinstance(values, (KeysView, ItemsView))
+    if (
+        is_unordered
+        or isinstance(values, (str, bytes, Mapping))
+        or not isinstance(values, Iterable)
+    ):
         raise BadValue(f"{name} are a list, and not {values!r}")
     found = list(values)
     if not 1 <= len(found) <= most:

@@ -1,6 +1,9 @@
 """The way to the counter: one message at a time, each on a connection of its own, within a time that the caller gives."""
 from __future__ import annotations
 
+import contextlib
+import contextvars
+import functools
 import http.client
 import io
 import queue
@@ -9,7 +12,7 @@ import ssl
 import threading
 import time
 import urllib.parse
-from typing import Any, Dict, List, Optional, Tuple, Union, cast
+from typing import Any, Callable, Dict, Iterator, List, Optional, Tuple, Union, cast
 
 from .answers import Answer, Reader, answer_of, compact
 from .errors import BadValue, UnknownHost, UntrustedCertificate, shown
@@ -17,21 +20,61 @@ from .spelling import Json
 
 #: A header that no page of another origin can send without asking first. The proxy demands it.
 CLIENT = "X-Counter-Client"
+#: The header by which the proxy names its entry in the log of who asked.
+ENTRY = "X-Request-Id"
 #: More than the longest sheet: a customer with 400,000 bonds.
 MOST_BYTES = 64 << 20
 
 Address = Tuple[int, int, int, str, Any]
 
 
-class Deadline:
-    """A moment until which something may last. Without seconds there is none."""
+class Stop:
+    """Ends a call from another thread, and wakes what it waits for."""
 
-    def __init__(self, seconds: Optional[float]) -> None:
-        self.seconds = seconds
+    def __init__(self) -> None:
+        self.event, self.lock = threading.Event(), threading.Lock()
+        self.wake: Optional[Callable[[], object]] = None
+
+    def set(self) -> None:
+        """Ends the call."""
+        with self.lock:
+            self.event.set()
+            if self.wake is not None:
+                self.wake()
+
+    def is_set(self) -> bool:
+        """Whether the call was ended."""
+        return self.event.is_set()
+
+    @contextlib.contextmanager
+    def waking(self, wake: Callable[[], object]) -> Iterator[None]:
+        """What is done within waits for something that `wake` ends."""
+        with self.lock:
+            self.wake = wake
+            if self.event.is_set():
+                wake()
+        try:
+            yield
+        finally:
+            with self.lock:
+                self.wake = None
+
+
+#: What stops the calls of this context. None if nothing does.
+STOP: "contextvars.ContextVar[Optional[Stop]]" = contextvars.ContextVar("STOP", default=None)
+
+
+class Deadline:
+    """A moment until which something may last, unless it is stopped before. Without seconds there is none."""
+
+    def __init__(self, seconds: Optional[float], stop: Optional[Stop] = None) -> None:
+        self.seconds, self.stop = seconds, stop or STOP.get() or Stop()
         self.end = None if seconds is None else time.monotonic() + seconds
 
     def left(self) -> Optional[float]:
         """The seconds that are left, 0 at least. None without an end."""
+        if self.stop.is_set():
+            return 0.0
         return None if self.end is None else max(0.0, self.end - time.monotonic())
 
     def is_over(self) -> bool:
@@ -41,7 +84,7 @@ class Deadline:
     def within(self, seconds: float) -> "Deadline":
         """Returns the earlier of this deadline and the one in `seconds` seconds."""
         left = self.left()
-        return Deadline(seconds if left is None else min(seconds, left))
+        return Deadline(seconds if left is None else min(seconds, left), self.stop)
 
     def for_socket(self) -> Optional[float]:
         """The time limit of a socket's next call. Raises TimeoutError if no time is left."""
@@ -113,7 +156,7 @@ class Way:
     ) -> Answer:
         """Sends a message and reads its answer. Failures of the network are answers too, of the kind "none"."""
         try:
-            status, text = self.sent(method, path, value, deadline)
+            status, text, entry = self.sent(method, path, value, deadline)
         except socket.gaierror as failure:
             met = f"the host {self.host!r} isn't known: {failure.strerror}"
             return Answer("none", met=met, setup=UnknownHost(met))
@@ -126,12 +169,12 @@ class Way:
             ValueError,
         ) as failure:  # http.client lets a ValueError out, as for a chunk of size -5
             return Answer("none", met=shown(str(failure)) or type(failure).__name__)
-        return answer_of(status, text, read)
+        return answer_of(status, text, read)._replace(entry=entry)
 
     def sent(
         self, method: str, path: str, value: Optional[Json], deadline: Deadline
-    ) -> Tuple[int, str]:
-        """Sends a message. Returns the status and the text of its response."""
+    ) -> Tuple[int, str, Optional[str]]:
+        """Sends a message. Returns the status, the text and the log entry of its response."""
         body = b"" if value is None else compact(value).encode()
         headers: Dict[str, str] = dict(self.headers)
         if value is not None:
@@ -144,8 +187,9 @@ class Way:
         connection = self.connected(deadline)
         try:
             timed = TimedSocket(connection, deadline)
-            timed.send_all(head.encode("ascii") + body)
-            return response_of(timed, method)
+            with deadline.stop.waking(lambda: shut(connection)):
+                timed.send_all(head.encode("ascii") + body)
+                return response_of(timed, method)
         finally:
             connection.close()
 
@@ -156,7 +200,8 @@ class Way:
             plain = socket.socket(family, kind, protocol)
             try:
                 plain.settimeout(deadline.for_socket())
-                plain.connect(address)
+                with deadline.stop.waking(functools.partial(shut, plain)):
+                    plain.connect(address)
                 plain.setsockopt(socket.IPPROTO_TCP, socket.TCP_NODELAY, 1)
                 return plain if self.context is None else self.encrypted(plain, deadline)
             except OSError as met:
@@ -168,7 +213,22 @@ class Way:
         """Does the handshake, which the socket's time limit ends as a whole."""
         assert self.context is not None
         plain.settimeout(deadline.for_socket())
-        return self.context.wrap_socket(plain, server_hostname=self.host)
+        wrapped = self.context.wrap_socket(
+            plain, server_hostname=self.host, do_handshake_on_connect=False
+        )
+        try:
+            with deadline.stop.waking(lambda: shut(wrapped)):
+                wrapped.do_handshake()
+        except BaseException:
+            wrapped.close()
+            raise
+        return wrapped
+
+
+def shut(connection: socket.socket) -> None:
+    """Ends a call that another thread makes on a socket. The method of a TLS socket would also drop what that call uses."""
+    with contextlib.suppress(OSError):
+        socket.socket.shutdown(connection, socket.SHUT_RDWR)
 
 
 def parts_of(address: object) -> Tuple[bool, str, int]:
@@ -240,7 +300,8 @@ def addresses_of(host: str, port: int, deadline: Deadline) -> List[Address]:
 
     threading.Thread(target=resolve, daemon=True).start()
     try:
-        answer = found.get(timeout=deadline.for_socket())
+        with deadline.stop.waking(lambda: found.put(TimeoutError("stopped"))):
+            answer = found.get(timeout=deadline.for_socket())
     except queue.Empty:
         raise TimeoutError("the resolver timed out") from None
     if isinstance(answer, OSError):
@@ -248,8 +309,8 @@ def addresses_of(host: str, port: int, deadline: Deadline) -> List[Address]:
     return answer
 
 
-def response_of(timed: TimedSocket, method: str) -> Tuple[int, str]:
-    """Reads a response: its status and its text. Raises HTTPException if it is cut or too long."""
+def response_of(timed: TimedSocket, method: str) -> Tuple[int, str, Optional[str]]:
+    """Reads a response: its status, its text and its log entry. Raises HTTPException if it is cut or too long."""
     response = http.client.HTTPResponse(cast(socket.socket, timed), method=method)
     try:
         response.begin()
@@ -261,6 +322,7 @@ def response_of(timed: TimedSocket, method: str) -> Tuple[int, str]:
                 raise http.client.HTTPException(f"a response of more than {MOST_BYTES} bytes")
         if response.length:
             raise http.client.IncompleteRead(b"", response.length)
-        return response.status, b"".join(pieces).decode("utf-8", "replace")
+        entry = shown(response.getheader(ENTRY) or "") or None
+        return response.status, b"".join(pieces).decode("utf-8", "replace"), entry
     finally:
         response.close()
