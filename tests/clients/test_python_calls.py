@@ -229,7 +229,13 @@ def test_pauses(desk: Desk, part: Part) -> None:
         pauses: list[float] = []
         for serial in ("L1EE", "L2EE"):
             desk.gate.faults = ["lost request"] * 6
-            with mock.patch.object(time, "sleep", pauses.append):
+
+            def wait(trials: object, seconds: float) -> bool:
+                pauses.append(seconds)
+                return True
+
+            waits = mock.patch.object(lookups_module.Trials, "wait", wait)
+            with waits:
                 counter.redeem(DAY, 7, [serial])
         full = lookups_module.PAUSES[:6] * 2
         assert len(pauses) == 12 and pauses[:6] != pauses[6:]

@@ -137,7 +137,7 @@ class Documented:
         other.add_bonds([client.Bond(self.serials[1], 75, "2010-10", 7)])
         changes = {"2012-02-06": self.day, "L1EE": self.serials[0], "K2EE": self.serials[1]}
         changes["http://127.0.0.1:8377"] = self.true.address
-        changes["patience=60"] = 'patience=60, archive="desk3.archive"'
+        changes["timeout=60"] = 'timeout=60, archive="desk3.archive"'
         program = self.text
         for old, new in changes.items():
             assert old in program

@@ -143,7 +143,7 @@ def test_document(venv: Venv) -> None:
     assert venv.run(venv.python, "-c", own)[1] == "25.16 2 1\n"
     words = ("--journal", "desk9.journal", "--desk", "9", "batch", "2012-02-06")
     batch = (0, '{"bonds":2,"day":"2012-02-06","tickets":1,"total":"63.23"}\n')
-    commands: list[list[object]] = [[venv.place / "venv/bin/ee-counter"]]
+    commands: list[list[object]] = [[venv.place / "venv/bin/counter-client"]]
     commands += [[venv.python, "-m", "ee_counter_client"], [PYTHON, TOP / "clients/counter.py"]]
     shutil.copy(TOP / "clients/counter.py", venv.place)
     commands += [[venv.python, "counter.py"]]
