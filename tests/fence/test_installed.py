@@ -158,7 +158,7 @@ def test_the_clients_are_answered_through_nginx(machine: Machine) -> None:
     words = "--journal desk9.journal --desk 9 --at https://counter.bank.example"
     trust = "--ca /etc/counter/certificate.pem --certificate anna.pem"
     ran = machine.on("sh", "-c", f"cd /root; counter-client {words} {trust} ticket 1")
-    assert "NotFound" in ran.stdout, ran.stdout
+    assert ran.stdout == "there is no such ticket\n"
 
 
 def test_the_auditors_report_finds_nothing_wrong(machine: Machine) -> None:
@@ -225,11 +225,21 @@ def test_the_first_day_by_the_page(machine: Machine) -> None:
     assert "<!doctype html>" in machine.ask("anna", "/teller/").lower()
 
 
+def is_cut_off(machine: Machine, name: str) -> bool:
+    """Whether a person's certificate is refused within the ten seconds that the page says, and some for a slow machine."""
+    until = time.monotonic() + 15
+    while '"forbidden":"certificate"' not in machine.ask(name, "/user"):
+        if time.monotonic() > until:
+            return False
+        time.sleep(0.5)
+    return True
+
+
 def test_dismissed_and_replaced_by_the_page(machine: Machine) -> None:
     """The commands of docs/WHO_MAY_DO_WHAT.md, in its order."""
     (function,) = blocks("WHO_MAY_DO_WHAT", "An authority on the counter's machine")
     machine.shell(function + blocks("WHO_MAY_DO_WHAT", "Replace")[0])
-    assert '"forbidden":"certificate"' in machine.ask("anna", "/user")
+    assert is_cut_off(machine, "anna")
     kept = "cat /etc/counter/staff/issued/anna.crt /etc/counter/staff/private/anna.key > anna.pem"
     machine.shell(kept)
     assert machine.ask("anna", "/user") == '{"user":"anna","groups":"teller"}'
@@ -242,5 +252,5 @@ def test_dismissed_and_replaced_by_the_page(machine: Machine) -> None:
         "openssl pkcs12 -in /etc/counter/staff/private/anna.p12 -passin file:anna.passphrase -nokeys | grep -q CERT"
     )
     machine.shell(function + blocks("WHO_MAY_DO_WHAT", "Dismiss")[0])
-    assert '"forbidden":"certificate"' in machine.ask("anna", "/user")
+    assert is_cut_off(machine, "anna")
     assert "R\t" in machine.shell(blocks("WHO_MAY_DO_WHAT", "List")[0])

@@ -92,7 +92,7 @@ def whole(machine: Machine, tmp_path_factory: pytest.TempPathFactory) -> Iterato
             number = os.stat(devices[-1]).st_rdev
             os.mknod(machine.path(f"/dev/{disk.name}"), 0o060600, number)
         machine.shell(DISKS + blocks("INSTALL", "Where things are")[0])
-        machine.shell("systemctl restart counter.service; systemctl start counter-copy.service")
+        machine.shell("systemctl restart counter.service && systemctl start counter-copy.service")
         machine.ask("cleo", "/bonds", BONDS)
         machine.ask("bert", "/day/open", DAY)
         assert '"total":"109.52"' in machine.ask("anna", "/redeem", REDEEM)
