@@ -204,7 +204,7 @@ WRONG_PAGE: dict[str, Edits] = {
     "a number for two acts": [
         (
             "sender.js",
-            "await this.#journal.change({ next: number + 1, open:",
+            "await this.#journal.change({ next: after(number), open:",
             "await this.#journal.change({ next: number, open:",
         )
     ],
