@@ -29,6 +29,18 @@ PACKAGES = {
     "certutil": "libnss3-tools",
     "pdftotext": "poppler-utils",
     "Xvfb": "xvfb",
+    "cobc": "gnucobol3",
+    "clang++": "clang",
+    "aarch64-linux-gnu-gcc": "gcc-aarch64-linux-gnu and libc6-dev-arm64-cross",
+    "qemu-aarch64": "qemu-user",
+    "node": "nodejs",
+}
+#: What makes a file that a test needs: pytest.mark.needs("file:clients/value/out/libee_value.a").
+MAKES = {
+    "clients/value/out/libee_value.a": "clients/value/build",
+    "clients/value/out/ee_value.wasm": "clients/value/build wasm",
+    "clients/calculator/out/calculator.js": "clients/calculator/build",
+    "crates/ee_cli_value_alone/out/ee_cli_value_alone": "./ee_cli value",
 }
 
 
@@ -49,8 +61,8 @@ def missing(item: pytest.Item) -> list[str]:
         kind, _, rest = name.rpartition(":")
         if kind == "module" and importlib.util.find_spec(rest) is None:
             found.append(f"Python's module {rest}")
-        elif kind == "file" and not os.path.exists(rest):
-            found.append(rest)
+        elif kind == "file" and not (TOP / rest).exists():
+            found.append(f"{rest} ({MAKES[rest]} makes it)" if rest in MAKES else rest)
         elif not kind and shutil.which(rest) is None:
             found.append(f"{rest} (Debian's {wanted.get(rest, rest)})")
     return found

@@ -1,17 +1,26 @@
-"""Times the module beside what one would write in Python oneself, in one run, and counts what the latter get wrong of the published values:
-speeds.py PUBLISHED-VALUES.csv RATES.csv. Each takes a bond's dollars, age in months and rate in hundredths of a percent, and gives cents."""
+#!/usr/bin/env python3
+"""Times the library of values from C and from Python, beside what one would write in Python oneself, and counts what the latter get wrong of the published values:
+
+    PYTHONPATH=.:clients/value benchmarks/library_values.py
+
+clients/value/build makes the library. A calculation takes a bond's dollars, its age in months and its rate in hundredths of a percent, and gives cents."""
 
 from __future__ import annotations
 
 import csv
 import ctypes
 import decimal
-import sys
+import subprocess
+import tempfile
 import time
+from pathlib import Path
 from typing import Callable, Iterator
 
 import ee_value
-import exact
+from tests.shared import exact
+
+TOP = Path(__file__).resolve().parents[1]
+DATA = TOP / "crates/published_values/data"
 
 D = decimal.Decimal
 #: The months of issue and of redemption, the age, the rate, and the cents of a unit.
@@ -75,7 +84,15 @@ def by_one_power_of_a_unit(dollars: int, age: int, rate: int) -> int:
     return cents * (dollars // 25)
 
 
-OWN: tuple[Form, ...] = (by_integers, by_kept_integers, by_decimal, by_decimal_even, by_floats, by_one_power_of_a_unit, by_one_power)
+OWN: tuple[Form, ...] = (
+    by_integers,
+    by_kept_integers,
+    by_decimal,
+    by_decimal_even,
+    by_floats,
+    by_one_power_of_a_unit,
+    by_one_power,
+)
 
 
 def published(values: str, rates: str) -> Iterator[Published]:
@@ -93,7 +110,9 @@ def published(values: str, rates: str) -> Iterator[Published]:
 def wrongs(table: list[Published]) -> None:
     for form in OWN:
         off = [abs(form(10000, age, rate) - 400 * unit) for _, _, age, rate, unit in table]
-        print(f"{form.__name__}: {sum(map(bool, off))} of {len(table)} values of a 10,000-dollar bond wrong, by {sum(off)} cents in all and {max(off)} at most")
+        print(
+            f"{form.__name__}: {sum(map(bool, off))} of {len(table)} values of a 10,000-dollar bond wrong, by {sum(off)} cents in all and {max(off)} at most"
+        )
 
 
 def times(name: str, form: Callable[[], object], count: int, rounds: int = 3) -> None:
@@ -112,17 +131,37 @@ def timed(form: Callable[[], object]) -> float:
     return time.process_time() - begun
 
 
+def from_c(values: str, rates: str) -> None:
+    """Prints what check.c of the tests measures."""
+    with tempfile.TemporaryDirectory() as folder:
+        program = f"{folder}/check"
+        sources = [TOP / "tests/library/check.c", TOP / "clients/value/out/libee_value.a"]
+        subprocess.run(["gcc", "-O2", f"-I{TOP}/include", *sources, "-o", program], check=True)
+        ran = subprocess.run([program, values, rates, "times"], stdout=subprocess.PIPE, check=True)
+        print(ran.stdout.decode().splitlines()[-1])
+
+
 def main(values: str, rates: str) -> None:
+    from_c(values, rates)
     table = list(published(values, rates))
     wrongs(table)
     library, count = ee_value._library, len(table)
     numbers = [(10000, issued, month, rate, rate) for issued, month, _, rate, _ in table]
-    texts = [(10000, f"{i // 100}-{i % 100:02}", f"{m // 100}-{m % 100:02}", f"{r // 100}.{r % 100:02}") for _, i, m, r, _ in numbers]
-    questions, answers = (ee_value._Question * count)(*(ee_value._Question(*it) for it in numbers)), (ee_value._Row * count)()
+    texts = [
+        (10000, f"{i // 100}-{i % 100:02}", f"{m // 100}-{m % 100:02}", f"{r // 100}.{r % 100:02}")
+        for _, i, m, r, _ in numbers
+    ]
+    questions, answers = (ee_value._Question * count)(
+        *(ee_value._Question(*it) for it in numbers)
+    ), (ee_value._Row * count)()
     cents, into, out = library.ee_value_cents, library.ee_value_row_into, ee_value._Row()
     pointer = ctypes.byref(out)
     times("the library's ee_value_cents, by ctypes", lambda: [cents(*it) for it in numbers], count)
-    times("the library's ee_value_row_into, by ctypes", lambda: [into(*it, pointer) for it in numbers], count)
+    times(
+        "the library's ee_value_row_into, by ctypes",
+        lambda: [into(*it, pointer) for it in numbers],
+        count,
+    )
     times("cents(), numbers", lambda: [ee_value.cents(*it) for it in numbers], count)
     times("cents(), texts", lambda: [ee_value.cents(*it) for it in texts], count)
     times("row(), texts", lambda: [ee_value.row(*it) for it in texts], count)
@@ -134,4 +173,4 @@ def main(values: str, rates: str) -> None:
 
 
 if __name__ == "__main__":
-    main(*sys.argv[1:])
+    main(str(DATA / "published-values.csv"), str(DATA / "rates.csv"))
