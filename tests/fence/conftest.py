@@ -14,7 +14,7 @@ from typing import Iterator, Mapping, Protocol
 import pytest
 
 from tests.conftest import MEMORY, TOP
-from tests.fence.fresh import Fresh, bootstrap
+from tests.fence.fresh import Fresh, bootstrap, done, run
 from tests.fence.site import Site, free_port
 
 #: Groups of the people of docs/INSTALL.md.
@@ -150,6 +150,29 @@ def blocks(page: str, heading: str) -> list[str]:
 
 class Machine(Fresh):
     """A fresh Debian under a systemd of its own. Its network has a loopback alone."""
+
+    def __init__(self, base: str, folder: str) -> None:
+        self.devices: list[str] = []
+        super().__init__(base, folder)
+
+    def add_store_disks(self, folder: Path) -> None:
+        """As samples/snapshots has them: one with the subvolume of the store and the snapshots, and one for the copies."""
+        for name, at in (("books", "/srv/counter"), ("copies", "/srv/copies")):
+            with open(folder / name, "w") as file:
+                file.truncate(512 << 20)
+            done("mkfs.btrfs", "-q", "-m", "single", folder / name)
+            device = done("losetup", "--find", "--show", folder / name).strip()
+            self.devices.append(device)
+            node = f"mknod -m 660 {device} b 7 {device.removeprefix('/dev/loop')}"
+            self.shell(f"{node}; mkdir -p {at}; mount {device} {at}")
+        self.shell(
+            f"btrfs -q subvolume create /srv/counter/store; mkdir -p /srv/counter/snapshots /var/lib/counter; mount -o subvol=store {self.devices[0]} /var/lib/counter"
+        )
+
+    def end(self) -> None:
+        super().end()
+        while self.devices:
+            run("losetup", "-d", self.devices.pop())
 
     def deliver(self, release: Release, to: str = "/root/release") -> None:
         shutil.copytree(release.folder, self.path(to))

@@ -3,7 +3,6 @@
 from __future__ import annotations
 
 import random
-import sqlite3
 from pathlib import Path
 
 import pytest
@@ -79,15 +78,3 @@ def test_orphaned_log(day: Day, served: Served, tmp_path: Path, is_missing: bool
     assert (
         refused.returncode == 1 and "missing or empty next to its log" in refused.stderr
     ), refused.stderr
-
-
-def test_log_of_sqlite(day: Day, tmp_path: Path) -> None:
-    """Control: a log that a killed sqlite3 left is no damaged one."""
-    books = sqlite3.connect(day.store, isolation_level=None)
-    books.execute("PRAGMA journal_mode = WAL")
-    books.execute("UPDATE desk SET last_day = last_day")
-    books.execute("UPDATE desk SET last_day = last_day")
-    copy = copied(day.store, tmp_path / "left")
-    books.close()
-    taken = run(TAKE_OVER, copy, tmp_path / "new.db", day.program)
-    assert taken.returncode == 0 and "dropped" not in taken.stdout, taken.stderr

@@ -38,8 +38,9 @@ class Busy:
         wait_for(self.port)
 
     def stop(self) -> None:
-        self.server.kill()
-        self.server.communicate()
+        if self.server.poll() is None:
+            self.server.kill()
+            self.server.communicate()
 
     def ask(self, message: bytes) -> Answer | None:
         """In memory a request is so fast that all bonds would be paid at once: a pause comes before it."""

@@ -13,7 +13,6 @@ import pytest
 
 from tests.conftest import TOP
 from tests.fence.conftest import Machine, MakeMachine
-from tests.restore.counter_day import run
 from tests.samples.load import copied
 from tests.shared.counter_calls import (
     Answer,
@@ -102,23 +101,11 @@ class Bank:
 
 @pytest.fixture(scope="module")
 def machine(machines: MakeMachine, place: Path) -> Iterator[Machine]:
-    """One disk with the subvolume of the store and the snapshots, and one for the copies."""
-    made, devices = machines(), []
-    for name, at in (("books", "/srv/counter"), ("copies", "/srv/copies")):
-        with open(place / name, "w") as file:
-            file.truncate(512 << 20)
-        run("mkfs.btrfs", "-q", place / name).check_returncode()
-        device = run("losetup", "--find", "--show", place / name).stdout.strip()
-        devices.append(device)
-        nth = device.removeprefix("/dev/loop")
-        made.shell(f"mknod -m 660 {device} b 7 {nth}; mkdir -p {at}; mount {device} {at}")
-    made.shell(
-        f"btrfs -q subvolume create /srv/counter/store; mkdir /srv/counter/snapshots /var/lib/counter; mount -o subvol=store {devices[0]} /var/lib/counter"
-    )
+    """With the disks of the store and of its copies."""
+    made = machines()
+    made.add_store_disks(place)
     yield made
     made.end()
-    for device in devices:
-        run("losetup", "-d", device)
 
 
 @pytest.fixture(scope="module")

@@ -316,7 +316,7 @@ exit $status
     if int(count.read_text()) <= turns:
         assert turns > 4 and ran.returncode == 0, ran
     else:
-        assert (ran.returncode, ran.stdout) == (1, "") and "differ" in ran.stderr, ran
+        assert (ran.returncode, ran.stdout) == (1, "") and ran.stderr, ran
         assert not (tmp_path / "new.db").exists()
 
 

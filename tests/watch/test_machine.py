@@ -17,11 +17,12 @@ from typing import Callable, Iterator
 
 import pytest
 
-from tests.watch.machine import TOP, Machine
+from tests.conftest import TOP
+from tests.watch.machine import Machine
 from tests.watch.troubles import FIRST, LAST, TROUBLES
 from tests.watch.world import DEBIANS, QUICK, World
 
-pytestmark = [pytest.mark.root, pytest.mark.nginx, pytest.mark.slow]
+pytestmark = [pytest.mark.machine, pytest.mark.root, pytest.mark.slow]
 
 WATCH = Path(TOP) / "samples/watch"
 #: Limits in seconds that are made shorter, as the times of the rules are; but a busy machine is slow by itself.
@@ -62,9 +63,10 @@ def until(is_so: Callable[[], bool], seconds: int = PATIENCE) -> bool:
 
 
 @pytest.fixture(scope="module")
-def world(program: Path) -> Iterator[World]:
+def world(program: Path, root: Path) -> Iterator[World]:
     with tempfile.TemporaryDirectory(dir=os.environ.get("TMPDIR", "/var/tmp")) as folder:
-        machine = Machine(str(program), folder)
+        (Path(folder) / "machine").mkdir()
+        machine = Machine(root, Path(folder), program)
         try:
             made = World(machine)
             made.set_up()

@@ -15,7 +15,8 @@ from pathlib import Path
 from typing import Any, Iterator
 
 from tests.shared.counter_calls import Answer, bond, get, post, read_answer
-from tests.watch.machine import TOP, Machine
+from tests.conftest import TOP
+from tests.watch.machine import Machine
 
 STORE = "/var/lib/counter/day.db"
 USERS = {"anna": "teller", "bert": "supervisor", "cleo": "office"}
