@@ -45,7 +45,7 @@ def test_control_without_the_log_it_is_taken(day: Day) -> None:
 def test_an_import_needs_its_desk(day: Day, tmp_path: Path) -> None:
     file = tmp_path / "more.csv"
     file.write_text("serial,denom,issued,owner,coowner\nZ1EE,50,2010-11,7,\n")
-    words = ["import", "inventory", file, "--db", day.store, "--desk", "999", "--number", "1"]
+    words = ("import", "inventory", file, "--db", day.store, "--desk", "999", "--number", "1")
     assert run(day.program, *words).returncode == 0
     assert archived(day, "--requests", day.log).returncode == 1
     assert archived(day, "--requests", day.log, "--command-line", "998,999").returncode == 0
@@ -56,7 +56,7 @@ def test_an_entry_may_be_late(day: Day) -> None:
     day.pay([200])
     late = [redemption(201)]
     answers = apply(day.program, day.store, late)
-    words = ["--requests", day.log, "--every", "0.2"]
+    words = ("--requests", day.log, "--every", "0.2")
     process = subprocess.Popen([RESTORE / "archive", day.store, day.archive, *words])
     lines = day.archive / "requests.jsonl"
     try:

@@ -3,6 +3,7 @@
 from __future__ import annotations
 
 import gzip
+import contextlib
 import json
 import os
 import shutil
@@ -499,9 +500,9 @@ def test_drill(day: Day, served: Served) -> None:
     ) as process:
         modes = set()
         while process.poll() is None:
-            modes |= {
-                stat.S_IMODE(os.stat(path).st_mode) for path in day.room.iterdir() if path.exists()
-            }
+            for path in day.room.iterdir():
+                with contextlib.suppress(FileNotFoundError):
+                    modes.add(stat.S_IMODE(os.stat(path).st_mode))
     assert modes == {0o700}
 
 

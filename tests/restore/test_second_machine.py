@@ -96,12 +96,17 @@ def test_pull_goes_on(day: Day) -> None:
 
 
 @pytest.mark.root
-def test_append_only(day: Day) -> None:
-    lines = day.second / "requests.jsonl"
-    if "a" not in run("lsattr", lines).stdout.split(" ")[0]:
-        pytest.skip("this file system has no append-only files")
-    with pytest.raises(PermissionError):
-        open(lines, "rb+")
+def test_append_only(day: Day, tmp_path: Path) -> None:
+    """On the disk of temporary files: memory has no such files."""
+    assert run(RESTORE / "pull", day.archive, tmp_path).returncode == 0
+    lines = tmp_path / "requests.jsonl"
+    try:
+        if "a" not in run("lsattr", lines).stdout.split(" ")[0]:
+            pytest.skip("this file system has no append-only files")
+        with pytest.raises(PermissionError):
+            open(lines, "rb+")
+    finally:
+        run("chattr", "-R", "-a", tmp_path)
 
 
 # ---- the log of requests and the machine's files
@@ -466,7 +471,8 @@ def test_new_machine(day: Day) -> None:
     assert ran.returncode == 0 and "/etc/counter is lost; its files are restored" in ran.stdout, (
         ran.stdout + ran.stderr
     )
-    assert ran.stdout.split()[-4:] == ["end.json", "first.db", "requests.jsonl", "700"]
+    files = ["end.json", "first.db", "first.db-wal", "requests.jsonl"]
+    assert ran.stdout.split()[-5:] == [*files, "700"]
     assert (upper / "counter" / "key.pem").read_text() == "etc/counter/key.pem"
     assert (upper / "systemd/system/counter.service.d/archives.conf").exists()
     assert day.tables() == wanted
