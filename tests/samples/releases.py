@@ -31,6 +31,10 @@ ee_cli: ok
 """
 #: What the library of values exports.
 EXPORTS = ("cents", "row", "row_into", "rows", "status_text", "version")
+#: It needs memmove of the C library, as the proved one does.
+NEEDS_LIBC = """#include <string.h>
+__attribute__((used)) static void *(*const moved)(void *, const void *, size_t) = memmove;
+"""
 PROGRAM = "crates/ee_cli/out/ee_cli"
 #: Nothing is compressed.
 QUICKLY = {"DPKG_DEB_COMPRESSOR_TYPE": "none"}
@@ -66,8 +70,8 @@ def library_in(folder: Path) -> Path:
         return TOP / LIBRARY
     folder.mkdir()
     text = "".join(f"int ee_value_{name}(void) {{ return 0; }}\n" for name in EXPORTS)
-    (folder / "stand_in.c").write_text(text)
-    shared = "cc -shared -nostdlib -Wl,-soname,libee_value.so.1 -o libee_value.so.1 stand_in.o"
+    (folder / "stand_in.c").write_text(NEEDS_LIBC + text)
+    shared = "cc -shared -nostdlib -Wl,-soname,libee_value.so.1 -o libee_value.so.1 stand_in.o -lc"
     for line in ("cc -fPIC -c stand_in.c", "ar rcD libee_value.a stand_in.o", shared):
         done(*line.split(), cwd=folder)
     return folder

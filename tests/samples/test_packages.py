@@ -279,7 +279,7 @@ def test_signed(packages: Packages, folder: Path, keyring: dict[str, str]) -> No
     assert found is not None
     sign = found[1].replace("KEY", "release@bank.example")
     assert run("sh", "-c", sign, cwd=release, env=keyring).returncode == 0
-    checks = blocks("INSTALL", "Check that it is the proved one")[0].splitlines()
+    checks = blocks("INSTALL", "Check that it is the proved one")[1].splitlines()
 
     def ends() -> list[bool]:
         return [
