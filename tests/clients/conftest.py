@@ -4,7 +4,7 @@ from __future__ import annotations
 
 import os
 from pathlib import Path
-from typing import TYPE_CHECKING, Iterator, Protocol
+from typing import TYPE_CHECKING, Callable, Iterator
 
 import pytest
 
@@ -32,11 +32,7 @@ def browser(request: pytest.FixtureRequest) -> str:
     return str(request.param)
 
 
-class NewPage(Protocol):
-    def __call__(
-        self, desk: int | None = DESK, *, day: str | None = None, profile: Path | None = None
-    ) -> Page:
-        ...
+NewPage = Callable[..., "Page"]
 
 
 @pytest.fixture

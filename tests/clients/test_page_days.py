@@ -37,9 +37,34 @@ def keeps_nothing(page: Page) -> None:
     assert re.search(r"\d+EE", json.dumps(journal)) is None
 
 
+HEARD = """
+    window.heard = [];
+    const real = window.fetch;
+    window.fetch = (url, options) => {
+        const headers = new Headers(options.headers);
+        const names = ["X-Counter-Client", "Content-Type", "X-Counter-Sending"].map((name) => headers.get(name));
+        window.heard.push([options.method, new URL(url).pathname, ...names]);
+        return real(url, options);
+    };
+"""
+
+
+def names_all(page: Page) -> None:
+    """Each request of the page named its client, and each POST its type and a name of its own."""
+    heard = page.run("return window.heard")
+    paths = {"/day/open", "/redeem", "/inventory/7/2012-02", "/batch/2012-02-05"}
+    assert paths <= {path for _, path, *_ in heard}
+    assert {client for _, _, client, *_ in heard} == {"teller-page"}
+    posts = [row for row in heard if row[0] == "POST"]
+    assert {kind for _, _, _, kind, _ in posts} == {"application/json"} and len(posts) == 3
+    names = {name for *_, name in posts}
+    assert len(names) == 3 and None not in names
+
+
 def test_a_day(bank: Bank, new_page: NewPage) -> None:
     bank.begin([7], day=None)
     page = new_page(3)
+    page.run(HEARD)
     page.open_day(DAY)
     page.waits_for("February 6, 2012 is open.")
     page.show_sheet(7)
@@ -53,6 +78,7 @@ def test_a_day(bank: Bank, new_page: NewPage) -> None:
     assert EARLIER not in page.text()
     page.pays(2, 7, "K7EE", payee=8)
     assert "customer 8" in page.text("#ticket"), "a payment to the coowner"
+    names_all(page)
     keeps_nothing(page)
     page.look_up(1)
     page.is_paid(1, VALUES["L"], VALUES["M"])
@@ -133,20 +159,21 @@ def test_far_from_today(bank: Bank, new_page: NewPage) -> None:
     bank.opens("2012-02-03")
     bank.closes("2012-02-03")
     page = new_page()
-    for today, distance in (
-        ("Tue, 14 Feb 2012", "8 days before today, Tuesday, February 14, 2012."),
-        ("Sun, 29 Jan 2012", "8 days after today, Sunday, January 29, 2012."),
-        ("Sun, 06 Feb 2011", "365 days after today, Sunday, February 6, 2011."),
+    for today, words, times in (
+        ("Tue, 14 Feb 2012", "8 days before today, Tuesday, February 14, 2012.", TWICE),
+        ("Sun, 29 Jan 2012", "8 days after today, Sunday, January 29, 2012.", TWICE),
+        ("Sun, 06 Feb 2011", "365 days after today, Sunday, February 6, 2011.", TWICE),
+        ("Mon, 13 Feb 2012", "Friday, February 3, 2012.", ONCE),
+        ("Mon, 30 Jan 2012", "Friday, February 3, 2012.", ONCE),
     ):
         page.run(SERVER_DATE, f"{today} 14:00:00 GMT")
-        assert distance in page.ask_to_open(DAY) and page.text("#confirm-yes") == TWICE
-        page.press("#confirm-yes")
-        page.until(lambda: "Is the year 2012 right?" in page.question(), "it asks again")
-        assert distance in page.question()
-        page.press("#confirm-no")
-    for today in ("Mon, 13 Feb 2012", "Mon, 30 Jan 2012"):
-        page.run(SERVER_DATE, f"{today} 14:00:00 GMT")
-        assert "today" not in page.ask_to_open(DAY) and page.text("#confirm-yes") == ONCE
+        asked = page.ask_to_open(DAY)
+        assert words in asked and page.text("#confirm-yes") == times
+        assert ("today" in asked) == (times == TWICE)
+        if times == TWICE:
+            page.press("#confirm-yes")
+            page.until(lambda: "Is the year 2012 right?" in page.question(), "it asks again")
+            assert words in page.question()
         page.press("#confirm-no")
     assert bank.gate.bodies == []
 
@@ -182,38 +209,7 @@ def test_wrong_year(bank: Bank, new_page: NewPage) -> None:
     assert days == [DAY, "2121-02-06"]
 
 
-# ---- what is asked, and who may
-
-HEARD = """
-    window.heard = [];
-    const real = window.fetch;
-    window.fetch = (url, options) => {
-        const headers = new Headers(options.headers);
-        const names = ["X-Counter-Client", "Content-Type", "X-Counter-Sending"].map((name) => headers.get(name));
-        window.heard.push([options.method, new URL(url).pathname, ...names]);
-        return real(url, options);
-    };
-"""
-
-
-def test_headers_sent(bank: Bank, new_page: NewPage) -> None:
-    """Each request of the page names its client, and each POST its type and a name of its own."""
-    bank.begin([7], day=None)
-    page = new_page()
-    page.run(HEARD)
-    page.open_day(DAY)
-    page.waits_for("February 6, 2012 is open.")
-    page.pays(1, 7, "L7EE")
-    page.closes()
-    heard = page.run("return window.heard")
-    paths = {"/day/open", "/redeem", "/day/close", "/inventory/7/2012-02", "/batch/2012-02-05"}
-    assert paths <= {path for _, path, *_ in heard}
-    assert {client for _, _, client, *_ in heard} == {"teller-page"}
-    for method, _, _, kind, _ in heard:
-        assert (kind == "application/json") == (method == "POST")
-    names = {name for method, *_, name in heard if method == "POST"}
-    assert len(names) == 3 and None not in names
-
+# ---- who may
 
 #: The buttons in the order of the page, each with whether it is a main one.
 DAY_BUTTONS = "return [...document.querySelectorAll('#day button')].filter((one) => one.checkVisibility()).map((one) => [one.textContent, !one.classList.contains('plain')])"
@@ -240,17 +236,6 @@ def test_supervisors_acts(bank: Bank, new_page: NewPage) -> None:
     assert "This user may not close the day: ask a supervisor." in page.text("#close-day")
     plain = [["Close the day", False], ["Choose another day", False]]
     assert page.run(DAY_BUTTONS)[-2:] == plain
-
-
-def test_two_tabs(bank: Bank, new_page: NewPage) -> None:
-    """A second tab waits, and shows no view; it goes on at the same desk when the first is closed."""
-    page = new_page()
-    first = page.new_tab()
-    page.open(bank.url)
-    page.waits_for("The counter is open in another tab")
-    assert not page.is_shown("nav")
-    page.close_tab(first)
-    page.waits_for("Desk 5,", "#state")
 
 
 # ---- which sums

@@ -3,7 +3,6 @@
 from __future__ import annotations
 
 import json
-import subprocess
 import threading
 import time
 from typing import Callable
@@ -138,23 +137,6 @@ def test_numbers_used(bank: Bank, page: Page) -> None:
     assert bank.books().rows(query) == [(number + 15,)]
 
 
-def test_half_a_page(bank: Bank, new_page: NewPage) -> None:
-    """A module of the page that doesn't come: the page is loaded again by itself, and sends what is open."""
-    bank.begin([7], day=None)
-    page = new_page()
-    bank.gate.faults = ["lost answer", *["lost request"] * 20]
-    page.open_day(DAY)
-    page.waits_for("no reply yet", "#progress")
-    module, away = bank.teller / "sheet.js", bank.teller / "sheet.away"
-    module.rename(away)
-    page.reload()
-    page.waits_for("The page didn't load completely.")
-    away.rename(module)
-    bank.gate.faults = []
-    page.waits_for("February 6, 2012 is open.")
-    assert EARLIER in page.text()
-
-
 def test_silent_counter(bank: Bank, new_page: NewPage) -> None:
     """An answer that doesn't come: no other request can be made, and after the time limit the page sends again."""
     bank.begin([7], day=None)
@@ -172,27 +154,9 @@ def test_silent_counter(bank: Bank, new_page: NewPage) -> None:
     assert time.monotonic() - begun < 50 and EARLIER in page.text()
 
 
-@pytest.mark.needs("strace")
-def test_device_fails(bank: Bank, page: Page) -> None:
-    """A real 503: the store's device fails under the request, `serve` ends, and is started again."""
-    page.show_sheet(7)
-    page.choose("L7EE")
-    words = "strace -f -qq -e trace=fdatasync -e inject=fdatasync:error=EIO:when=1+ -o /dev/null -p"
-    process = str(bank.server.process.pid)
-    tracer = subprocess.Popen([*words.split(), process], stderr=subprocess.DEVNULL)
-    time.sleep(1)
-    bank.server.pause = 2
-    page.pay()
-    failed = "The counter's store failed, so the request may or may not have been done."
-    page.waits_for(failed, "#progress")
-    page.is_paid(1, VALUES["L"])
-    tracer.wait()
-    assert EARLIER in page.text() and bank.server.ends == 1
-    assert bank.books().one(ONE_TICKET) == 1
-
-
 # ---- an answer to one sending
 
+NO_CERTIFICATE = "This browser sent no certificate of the staff, or it was revoked or has run out."
 NOTHING = "This says nothing about the earlier attempts."
 RESENT = {
     "not json": f"The counter can't read the request: it isn't JSON. {NOTHING}",
@@ -201,19 +165,23 @@ RESENT = {
     "proxy page": "The counter didn't answer: something else did (status 403).",
     "redirect": "The counter didn't answer: the request was redirected.",
     "too many": "The counter didn't answer: too many requests.",
+    "no certificate": NO_CERTIFICATE,
+    "failed after": "The counter's store failed, so the request may or may not have been done.",
 }
 
 
 def test_faults_on_resend(bank: Bank, page: Page) -> None:
-    """Payments whose answers are lost after the commit; each resend meets a fault; then the true reply comes."""
-    bank.registers_many(60, len(RESENT))
-    for ticket, (fault, words) in enumerate(RESENT.items(), 1):
+    """Payments whose answers are lost after the commit; each resend meets a fault; then the true reply comes. So it does if nginx misses a certificate on the first sending."""
+    bank.registers_many(60, len(RESENT) + 1)
+    rounds = [*(("lost answer", fault) for fault in RESENT), ("no certificate", "no certificate")]
+    for ticket, (first, fault) in enumerate(rounds, 1):
         sent = len(bank.gate.bodies)
         page.show_sheet(60)
         page.choose(f"S{ticket}EE")
-        bank.gate.faults = ["lost answer", fault, fault]
+        bank.gate.faults = [first, fault, fault]
         page.pay()
-        page.waits_for(words, "#progress")
+        page.waits_for(RESENT[fault], "#progress")
+        page.waits_for("sent again in 2 seconds", "#progress")
         may = "no reply yet. Nothing may be paid out yet. The payment may have been made already."
         assert may in page.text("#progress") and "Nothing was done" not in page.text()
         still = page.journal()["open"]
@@ -222,7 +190,7 @@ def test_faults_on_resend(bank: Bank, page: Page) -> None:
         page.waits_for(f"Ticket {ticket} is paid.")
         assert f"{EARLIER} This was paid once." in page.text()
         assert len(set(bank.gate.bodies[sent:])) == 1
-    assert bank.books().one(ONE_TICKET) == len(RESENT)
+    assert bank.books().one(ONE_TICKET) == len(rounds)
 
 
 def test_first_sendings(bank: Bank, page: Page) -> None:
@@ -303,7 +271,6 @@ def test_repeats_passed_on_are_found(bank: Bank, new_page: NewPage) -> None:
 
 # ---- certificates
 
-NO_CERTIFICATE = "This browser sent no certificate of the staff, or it was revoked or has run out."
 #: What the page says of a first attempt without a certificate.
 FIRST = """
     const { STEPS } = await import(new URL("/teller/words.js", location.origin));
@@ -339,21 +306,6 @@ def test_revoked_while_paying(bank: Bank, page: Page, new_page: NewPage) -> None
     again.is_paid(1, VALUES["L"])
     assert len(bank.gate.bodies) == 1
     assert bank.books().one(ONE_TICKET) == 1
-
-
-def test_no_certificate_met(bank: Bank, page: Page) -> None:
-    """nginx's word on the certificate, to a first sending and to a later one: each leaves the request open, until the true reply comes."""
-    for ticket, serial, faults in (
-        (1, "L7EE", ["no certificate"] * 4),
-        (2, "K7EE", ["lost answer", *["no certificate"] * 3]),
-    ):
-        page.show_sheet(7)
-        page.choose(serial)
-        bank.gate.faults = list(faults)
-        page.pay()
-        page.waits_for(NO_CERTIFICATE, "#progress")
-        page.is_paid(ticket, VALUES[serial[0]])
-        assert f"{EARLIER} This was paid once." in page.text("#notices")
 
 
 # ---- look-ups

@@ -224,11 +224,10 @@ def test_notices_in_a_narrow_window(page: Page) -> None:
 
 SIZES = "const size = (id) => parseFloat(getComputedStyle(document.querySelector(id)).fontSize); return [size('#sum'), size('#sheet td'), size('#chosen')]"
 SCROLL = "scrollTo(0, arguments[0] * document.documentElement.scrollHeight)"
-COLORS = "return ['#day-open .buttons a', '#close-day button'].map((one) => getComputedStyle(document.querySelector(one)).backgroundColor)"
 
 
 def test_sum_beside_pay(bank: Bank, page: Page) -> None:
-    """The sum stands large beside Pay, and both in view, however long the sheet is and wherever it is scrolled. The question and its button name sum and payee, and list the bonds."""
+    """The sum stands large beside Pay, and both in view, however long the sheet is and wherever it is scrolled. The button names sum and payee."""
     bank.registers_many(60, 60)
     for size in ((1280, 800), (820, 1100), (360, 740)):
         page.resize(*size)
@@ -247,20 +246,6 @@ def test_sum_beside_pay(bank: Bank, page: Page) -> None:
     assert page.text("#pay-button") == f"Pay {two} to customer 60"
     page.type("#payee", "61")
     assert page.text("#pay-button") == f"Pay {two} to customer 61"
-    page.type("#payee", "60")
-    assert page.ask_to_pay().startswith(f"Pay {two} to customer 60?\n")
-    assert page.text("#confirm-yes") == f"Pay {two} to customer 60"
-    line = ["$50", "issued 11/2010", dollars(L)]
-    assert page.bonds_asked() == [["S1EE", *line], ["S60EE", *line]]
-    page.press("#confirm-yes")
-    page.is_paid(1, 2 * L)
-    page.go("day")
-    main, plain = "rgb(23, 66, 107)", "rgb(255, 255, 255)"
-    assert page.run(COLORS) == [main, plain], "to pay is the main act of an open day"
-    asked = page.ask_to_close()
-    assert asked.startswith(f"Close Monday, February 6, 2012 with {two}?")
-    assert "1 ticket, 2 bonds" in asked
-    assert page.text("#confirm-yes") == f"Close the day with {two}"
 
 
 # ---- texts that are whole
@@ -386,7 +371,9 @@ def seen(page: Page, root: str, least: int | None, pictures: Path | None, name: 
 
 
 def given(page: Page, name: str, said: Sequence[str], buttons: list[str], items: int = 0) -> None:
-    """What a screen reader is given of the question that is open: its title names it, its text describes it, and nothing beside it is there. `said` are parts of its description."""
+    """The question that is open has this title and these buttons. A screen reader is given that its title names it and its text describes it, and nothing beside it. `said` are parts of its description."""
+    assert page.text("#confirm-title") == name
+    assert [button.text for button in page.all("#confirm .buttons button")] == buttons
     found = page.engine.dialog()
     if found is None:
         assert page.name == "firefox"
@@ -395,6 +382,9 @@ def given(page: Page, name: str, said: Sequence[str], buttons: list[str], items:
     within += [("list", name)] * bool(items) + [("button", button) for button in buttons]
     assert found[0] == name and found[2] and sorted(found[3]) == sorted(within)
     assert all(part in found[1] for part in said) and found[4] == buttons
+
+
+COLORS = "return ['#day-open .buttons a', '#close-day button'].map((one) => getComputedStyle(document.querySelector(one)).backgroundColor)"
 
 
 def test_questions(bank: Bank, page: Page, pictures: Path | None) -> None:
@@ -424,6 +414,9 @@ def test_questions(bank: Bank, page: Page, pictures: Path | None) -> None:
     page.press("#confirm-yes")
     page.is_paid(1, L, K)
     seen(page, "#ticket", None, pictures, "ticket")
+    page.go("day")
+    main, plain = "rgb(23, 66, 107)", "rgb(255, 255, 255)"
+    assert page.run(COLORS) == [main, plain], "to pay is the main act of an open day"
     page.ask_to_close()
     seen(page, "#confirm", 2, pictures, "close")
     said = f"Paid so far, at all desks: 1 ticket, 2 bonds, {both}. No desk can pay on it any more, and it can't be opened again."
@@ -580,5 +573,6 @@ def test_pictures(bank: Bank, new_page: NewPage, pictures: Path | None) -> None:
     page.ask_to_open("2121-12-01")
     page.press("#confirm-yes")
     page.until(lambda: page.text("#confirm-yes") == "Open the day in 2121", "it asks again")
+    page.resize(960, 560)
     page.rested("#confirm-yes")
     kept("again", 960, 560)

@@ -32,15 +32,10 @@ MODULES = ["words", "answers", "sheet", "typed", "spelling", "doubts", "papers"]
 def in_node(script: str, *given: object) -> Any:
     """What a script returns, which has all that the modules export as `page`, and `given`."""
     text = AROUND % (json.dumps(MODULES), PAGE, script)
-    words = [
-        "node",
-        "--experimental-default-type=module",
-        "--no-warnings",
-        "-e",
-        text,
-        json.dumps(given),
-    ]
-    ran = subprocess.run(words, capture_output=True, text=True, timeout=60)
+    words = "node --experimental-default-type=module --no-warnings -e".split()
+    ran = subprocess.run(
+        [*words, text, json.dumps(given)], capture_output=True, text=True, timeout=60
+    )
     assert ran.returncode == 0, ran.stderr
     return json.loads(ran.stdout)
 
@@ -197,20 +192,9 @@ DENOMINATIONS: dict[str, int | None] = {
     "10 000": 10000,
     **dict.fromkeys(("25", "", "50.00", "1000000", "C")),
 }
-MAY = (
-    "05/2010",
-    "5/2010",
-    "5-2010",
-    "05 2010",
-    "5.2010",
-    "May 2010",
-    "MAY-2010",
-    "2010-05",
-    "2010-5",
-)
-NO_MONTHS = (
-    *("04/2005", "01/2100", "13/2010", "0/2010", "05/10", "2010/05", "Ma 2010", "Mayor 2010"),
-    *("5/1/2010", "", "2010"),
+MAY = "05/2010|5/2010|5-2010|05 2010|5.2010|May 2010|MAY-2010|2010-05|2010-5".split("|")
+NO_MONTHS = "04/2005|01/2100|13/2010|0/2010|05/10|2010/05|Ma 2010|Mayor 2010|5/1/2010||2010".split(
+    "|"
 )
 MONTHS: dict[str, str | None] = {
     **dict.fromkeys(MAY, "2010-05"),

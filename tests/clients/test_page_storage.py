@@ -231,7 +231,8 @@ def stays(bank: Bank, page: Page) -> None:
 
 
 def test_old_browser(bank: Bank, new_page: NewPage) -> None:
-    """A browser that lacks what the page needs, and a file that can't be read, get one sentence and no reload. Without a file it is loaded again, after 3 seconds and after 6 more."""
+    """A browser that lacks what the page needs, and a file that can't be read, get one sentence and no reload. Without a file the page is loaded again by itself, after 3 seconds and after 6 more, and sends what is open as soon as the file is there."""
+    bank.begin([], day=None)
     runs_before(bank, "delete AbortSignal.any;\n")
     page = new_page(None)
     page.waits_for("This browser is too old for this page: use one of 2024 or later.")
@@ -242,6 +243,12 @@ def test_old_browser(bank: Bank, new_page: NewPage) -> None:
     page.reload()
     page.waits_for("A file of this page can't be read")
     stays(bank, page)
+    (bank.teller / "sheet.js").write_text(sheet)
+    page.reload()
+    page.choose_desk(5)
+    bank.gate.faults = ["lost answer", *["lost request"] * 20]
+    page.open_day(DAY)
+    page.waits_for("no reply yet", "#progress")
     (bank.teller / "sheet.js").unlink()
     before = loads(bank)
     page.reload()
@@ -249,4 +256,6 @@ def test_old_browser(bank: Bank, new_page: NewPage) -> None:
     page.sleep(12)
     assert loads(bank) - before == 3
     (bank.teller / "sheet.js").write_text(sheet)
-    page.waits_for("Choose a desk")
+    bank.gate.faults = []
+    page.waits_for("February 6, 2012 is open.")
+    assert EARLIER in page.text()

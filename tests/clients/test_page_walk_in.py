@@ -143,6 +143,7 @@ def test_walk_in_once(bank: Bank, page: Page) -> None:
     first = page.new_tab()
     page.open(bank.url)
     page.waits_for("The counter is open in another tab")
+    assert not page.is_shown("nav"), "it waits, and shows no view"
     page.close_tab(first)
     bank.gate.faults = []
     page.is_paid(1, TWO)
