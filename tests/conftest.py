@@ -12,6 +12,8 @@ from typing import Iterator
 
 import pytest
 
+from tests.shared.hostile.program import Program
+
 TOP = Path(__file__).resolve().parents[1]
 #: In memory if possible: a store waits for the disk at each sync.
 MEMORY = Path("/dev/shm") if os.path.isdir("/dev/shm") else Path(tempfile.gettempdir())
@@ -82,6 +84,15 @@ def program() -> Path:
     if not path.exists():
         pytest.skip(f"{path} isn't built: ./ee_cli, or name one by EE_CLI")
     return path
+
+
+@pytest.fixture(scope="session")
+def hostile(program: Path) -> Iterator[Program]:
+    """The program under a library in C that makes its calls on files and memory fail."""
+    if shutil.which("cc") is None:
+        pytest.skip("needs cc (Debian's gcc and libc6-dev)")
+    with tempfile.TemporaryDirectory(prefix="hostile.", dir=MEMORY) as made:
+        yield Program(str(program), made)
 
 
 @pytest.fixture

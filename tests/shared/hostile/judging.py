@@ -10,7 +10,7 @@ from .program import Ran
 FAULTS_TOLD = {"store: StoreFailed", "store: NotWrittenBack", "input or output failed", "no memory"}
 
 
-class Wrong(Exception):
+class Wrong(AssertionError):
     """A run that is not right, and why."""
 
 

@@ -1,61 +1,19 @@
 """The built program under test, run with what shim.c does to it: faults of files, refused memory, a record of its writes."""
+
 from __future__ import annotations
 
-import dataclasses, multiprocessing, os, shutil, struct, subprocess, sys, tempfile
-from typing import Any, Callable, Collection, Iterable, Iterator, NoReturn, Sequence, TypeVar
-
-T = TypeVar("T")
-R = TypeVar("R", bound=tuple[Any, ...])
+import dataclasses
+import os
+import shutil
+import struct
+import subprocess
+from typing import Any, Callable, Sequence
 
 HERE = os.path.dirname(os.path.abspath(__file__))
-KINDS = (
-    "open",
-    "read",
-    "write",
-    "truncate",
-    "sync",
-    "stat",
-    "lock",
-    "advise",
-    "own",
-    "hear",
-    "tell",
-)
+KINDS = "open read write truncate sync stat lock advise own hear tell".split()
 COUNTS = (*KINDS, "met", "asked", "refused", "told_before", "told")
 SECONDS = 120
-
-
-def work_folder() -> str:
-    """A new folder for stores, in memory where the system has a place for that, so that a sync costs nothing."""
-    place = "/dev/shm" if os.access("/dev/shm", os.W_OK) else None
-    return tempfile.mkdtemp(prefix="hostile-", dir=place)
-
-
-def remove(folder: str) -> None:
-    shutil.rmtree(folder, ignore_errors=True)
-
-
-def build_shim(folder: str) -> str:
-    """Compile the shim into a folder."""
-    made = os.path.join(folder, "shim.so")
-    compiled = subprocess.run(
-        [
-            "cc",
-            "-O1",
-            "-Wall",
-            "-Wextra",
-            "-shared",
-            "-fPIC",
-            "-o",
-            made,
-            os.path.join(HERE, "shim.c"),
-        ],
-        capture_output=True,
-        text=True,
-    )
-    if compiled.returncode or compiled.stderr:
-        sys.exit(f"the shim can't be compiled:\n{compiled.stderr}")
-    return made
+COMPILE = ["cc", "-O1", "-Wall", "-Wextra", "-Werror", "-shared", "-fPIC"]
 
 
 @dataclasses.dataclass
@@ -79,15 +37,10 @@ class Ran:
 class Program:
     """The program, a shim for it, and a folder in which stores are made."""
 
-    def __init__(self, path: str) -> None:
-        self.path = os.path.abspath(path)
-        if not os.access(self.path, os.X_OK):
-            sys.exit(f"there is no program at {path}")
-        self.folder = work_folder()
-        self.shim = build_shim(self.folder)
-
-    def close(self) -> None:
-        remove(self.folder)
+    def __init__(self, path: str, folder: str) -> None:
+        self.path, self.folder = path, folder
+        self.shim = os.path.join(folder, "shim.so")
+        subprocess.run([*COMPILE, "-o", self.shim, os.path.join(HERE, "shim.c")], check=True)
 
     def place(self, name: str) -> str:
         """An empty folder of that name for a store, whose path is the result."""
@@ -176,31 +129,3 @@ def read_counts(path: str) -> dict[str, int]:
     if len(text) < 8 * len(COUNTS):
         return {}
     return dict(zip(COUNTS, struct.unpack(f"{len(COUNTS)}Q", text[: 8 * len(COUNTS)])))
-
-
-def end_with(program: Program, main: Callable[[], int]) -> NoReturn:
-    """Ends the script with the status of `main`, and removes the program's folder."""
-    try:
-        status = main()
-    finally:
-        program.close()
-    sys.exit(status)
-
-
-def results(work: Callable[[T], R], tasks: Iterable[T], plant: str | None) -> Iterator[R]:
-    """Yields what `work` returns for each task, in two processes. The last part of it lists what was wrong, of which three are
-    printed. With a planted fault, the first wrong result is the last."""
-    with multiprocessing.Pool(2) as pool:
-        for result in pool.imap_unordered(work, tasks):
-            wrongs = result[-1]
-            for wrong in wrongs[:3]:
-                print(("found: " if plant else "WRONG: ") + wrong, flush=True)
-            yield result
-            if plant and wrongs:
-                return
-
-
-def planted(plant: str | None, wrongs: Collection[object] | int) -> int:
-    """The status of a run with a planted fault: 0 if it was found."""
-    print(f"the planted fault {plant} was {'found' if wrongs else 'NOT found'}")
-    return 0 if wrongs else 1

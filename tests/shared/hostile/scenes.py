@@ -95,3 +95,8 @@ def files(program: Program) -> list[Scene]:
         Scene("export", begun, start, commands.Shown(7)),
         Scene("sheet", begun, start, commands.Shown(7, "2012-02")),
     ]
+
+
+#: The names of all scenes.
+CONNECTIONS = ["new", "at rest", "with a log", "version 1", "version 1 without extensions"]
+FILES = ["import rates", "import inventory", "export", "sheet"]

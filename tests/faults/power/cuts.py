@@ -2,7 +2,8 @@
 
 from __future__ import annotations
 
-import os, zlib
+import os
+import zlib
 from random import Random
 from typing import Iterator
 
@@ -34,7 +35,13 @@ def superblock_writes(base: str, steps: list[Step], begin: int, end: int) -> lis
     for place, step in enumerate(steps, 1):
         if step.kind == WRITE and step.at <= begin and end <= step.at + step.size:
             now = step.bytes_[begin - step.at : end - step.at]
-            if sum(now[at : at + SECTOR] != last[at : at + SECTOR] for at in range(0, end - begin, SECTOR)) > 1:
+            if (
+                sum(
+                    now[at : at + SECTOR] != last[at : at + SECTOR]
+                    for at in range(0, end - begin, SECTOR)
+                )
+                > 1
+            ):
                 found.append(place)
             last = now
     return found
@@ -88,13 +95,27 @@ class Image:
             steps = steps[: dice.randint(0, len(steps))]
         share = 1 if kind == "kept" else dice.random()
         for place, step in enumerate(steps, 1):
-            if kind == "torn" and dice.random() < 0.6 or kind == "last torn" and place == len(steps):
+            if (
+                kind == "torn"
+                and dice.random() < 0.6
+                or kind == "last torn"
+                and place == len(steps)
+            ):
                 self.put_torn(step, dice)
             elif kind not in ("some", "torn") or dice.random() < share:
                 self.put(step, 0, step.size)
 
 
-def write_image(base: str, steps: list[Step], cut: int, kind: str, dice: Random, path: str, whole: Range, ignores_flushes: bool = False) -> int:
+def write_image(
+    base: str,
+    steps: list[Step],
+    cut: int,
+    kind: str,
+    dice: Random,
+    path: str,
+    whole: Range,
+    ignores_flushes: bool = False,
+) -> int:
     """Write what the disk may hold if power is lost before the step at a cut. The result tells images apart."""
     image = Image(base, path, whole)
     sure = 0 if ignores_flushes else last_flush(steps, cut)

@@ -2,7 +2,15 @@
 
 from __future__ import annotations
 
-import ctypes, os, platform, signal, socket, struct, subprocess, threading, time
+import ctypes
+import os
+import platform
+import signal
+import socket
+import struct
+import subprocess
+import threading
+import time
 from random import Random
 from typing import Callable
 
@@ -16,7 +24,12 @@ Setup = Callable[[], None]
 SECONDS = 120
 BONDS = 200
 OWNERS = (7, 8)
-DENOMINATIONS, ISSUES = (50, 75, 100, 200, 500, 1000, 5000, 10000), ("2010-06", "2010-10", "2010-11", "2011-02")
+DENOMINATIONS, ISSUES = (50, 75, 100, 200, 500, 1000, 5000, 10000), (
+    "2010-06",
+    "2010-10",
+    "2010-11",
+    "2011-02",
+)
 # For each architecture: its number in a filter, and the numbers of fsync and fdatasync.
 SYNCS = {"x86_64": (0xC000003E, 74, 75), "aarch64": (0xC00000B7, 82, 83)}
 LOAD, JUMP_IF, RETURN = 0x20, 0x15, 0x06
@@ -29,26 +42,44 @@ def serial(number: int) -> str:
 
 
 def bond(number: int, dice: Random) -> str:
-    return '{"serial":"%s","denom":%d,"issued":"%s","owner":%d}' % (serial(number), dice.choice(DENOMINATIONS), dice.choice(ISSUES), dice.choice(OWNERS))
+    return '{"serial":"%s","denom":%d,"issued":"%s","owner":%d}' % (
+        serial(number),
+        dice.choice(DENOMINATIONS),
+        dice.choice(ISSUES),
+        dice.choice(OWNERS),
+    )
 
 
 def redemption(number: int, day: str, dice: Random) -> str:
     """A redemption of one to three bonds. Some are refused, since a bond was paid already or has another owner."""
     serials = dice.sample(range(1, BONDS + 1), dice.choice((1, 1, 1, 2, 3)))
     listed = ",".join(f'"{serial(one)}"' for one in serials)
-    return '/redeem {"desk":%d,"number":%d,"day":"%s","payee":%d,"serials":[%s]}' % (number % 3, number, day, dice.choice(OWNERS), listed)
+    return '/redeem {"desk":%d,"number":%d,"day":"%s","payee":%d,"serials":[%s]}' % (
+        number % 3,
+        number,
+        day,
+        dice.choice(OWNERS),
+        listed,
+    )
 
 
 def requests(count: int, dice: Random) -> list[bytes]:
     """`count` requests: rates, bonds, and days of redemptions. Some are sent twice."""
     bonds = ",".join(bond(number, dice) for number in range(1, BONDS + 1))
-    found = ['/rates {"number":1,"rates":[{"from":"2010-05","rate":"2.00"},{"from":"2010-11","rate":"3.50"}]}', '/bonds {"number":2,"bonds":[%s]}' % bonds]
+    found = [
+        '/rates {"number":1,"rates":[{"from":"2010-05","rate":"2.00"},{"from":"2010-11","rate":"3.50"}]}',
+        '/bonds {"number":2,"bonds":[%s]}' % bonds,
+    ]
     days = iter(range(1, 29))
     while len(found) < count:
         day = f"2012-02-{next(days):02}"
         found.append('/day/open {"number":%d,"day":"%s"}' % (len(found) + 1, day))
         for _ in range(max(10, count // 5)):
-            found.append(dice.choice(found[2:]) if dice.random() < 0.04 else redemption(len(found) + 1, day, dice))
+            found.append(
+                dice.choice(found[2:])
+                if dice.random() < 0.04
+                else redemption(len(found) + 1, day, dice)
+            )
         found.append('/day/close {"number":%d,"day":"%s"}' % (len(found) + 1, day))
     return [talk.message("POST " + text) for text in found[:count]]
 
@@ -56,12 +87,23 @@ def requests(count: int, dice: Random) -> list[bytes]:
 def drop_syncs() -> None:
     """Let fsync and fdatasync of this process do nothing and return 0, by a filter of its system calls."""
     mark, *numbers = SYNCS[platform.machine()]
-    words = [(LOAD, 0, 0, 4), (JUMP_IF, 0, 3, mark), (LOAD, 0, 0, 0), *((JUMP_IF, 3 - place, 0, number) for place, number in enumerate(numbers, 1))]
-    code = b"".join(struct.pack("=HBBI", *word) for word in [*words, (RETURN, 0, 0, ALLOW), (RETURN, 0, 0, ANSWER_ZERO)])
+    words = [
+        (LOAD, 0, 0, 4),
+        (JUMP_IF, 0, 3, mark),
+        (LOAD, 0, 0, 0),
+        *((JUMP_IF, 3 - place, 0, number) for place, number in enumerate(numbers, 1)),
+    ]
+    code = b"".join(
+        struct.pack("=HBBI", *word)
+        for word in [*words, (RETURN, 0, 0, ALLOW), (RETURN, 0, 0, ANSWER_ZERO)]
+    )
     held = ctypes.create_string_buffer(code)
     given = struct.pack("@HP", len(code) // 8, ctypes.addressof(held))
     libc = ctypes.CDLL(None, use_errno=True)
-    if libc.prctl(NO_NEW_PRIVILEGES, 1, 0, 0, 0) != 0 or libc.prctl(FILTER, 2, ctypes.create_string_buffer(given), 0, 0) != 0:
+    if (
+        libc.prctl(NO_NEW_PRIVILEGES, 1, 0, 0, 0) != 0
+        or libc.prctl(FILTER, 2, ctypes.create_string_buffer(given), 0, 0) != 0
+    ):
         os._exit(98)
 
 
@@ -84,7 +126,12 @@ class Applied:
     """`apply`. It ends with its input, and checkpoints the log."""
 
     def __init__(self, path: str, store: str, setup: Setup | None) -> None:
-        self.process = subprocess.Popen([path, "apply", "--db", store], stdin=subprocess.PIPE, stdout=subprocess.PIPE, preexec_fn=setup)
+        self.process = subprocess.Popen(
+            [path, "apply", "--db", store],
+            stdin=subprocess.PIPE,
+            stdout=subprocess.PIPE,
+            preexec_fn=setup,
+        )
 
     def ask(self, message: bytes) -> bytes:
         stdin, stdout = piped(self.process.stdin), piped(self.process.stdout)
@@ -103,7 +150,11 @@ class Served:
 
     def __init__(self, path: str, store: str, setup: Setup | None) -> None:
         port = free_port()
-        self.process = subprocess.Popen([path, "serve", "--db", store, "--port", str(port)], stdout=subprocess.DEVNULL, preexec_fn=setup)
+        self.process = subprocess.Popen(
+            [path, "serve", "--db", store, "--port", str(port)],
+            stdout=subprocess.DEVNULL,
+            preexec_fn=setup,
+        )
         until = time.time() + SECONDS
         while True:
             try:
@@ -152,7 +203,9 @@ class Neighbour:
 class Played:
     """The requests and their responses, how much was recorded when each was sent and when its response had come, and the books after each by the rules."""
 
-    def __init__(self, messages: list[bytes], answers: list[bytes], sent: list[int], came: list[int]) -> None:
+    def __init__(
+        self, messages: list[bytes], answers: list[bytes], sent: list[int], came: list[int]
+    ) -> None:
         self.messages, self.answers, self.sent, self.came = messages, answers, sent, came
         asked = judging.messages_of(b"".join(messages))
         self.chain, books = [judging.key_of(desk.Books())], desk.Books()
@@ -160,7 +213,9 @@ class Played:
         for place, message in enumerate(asked):
             books, right = judging.delivered(books, message)
             if right != answers[place]:
-                raise Wrong(f"request {place + 1} was answered {answers[place]!r:.600}, and not {right!r:.600}")
+                raise Wrong(
+                    f"request {place + 1} was answered {answers[place]!r:.600}, and not {right!r:.600}"
+                )
             self.chain.append(judging.key_of(books))
             self.books[self.chain[-1]] = books
 
@@ -174,7 +229,14 @@ class Played:
         return set(self.chain[acknowledged : max(acknowledged, sent) + 1])
 
 
-def play(path: str, store: str, messages: list[bytes], position: Callable[[], int], dice: Random, setup: Setup | None = None) -> Played:
+def play(
+    path: str,
+    store: str,
+    messages: list[bytes],
+    position: Callable[[], int],
+    dice: Random,
+    setup: Setup | None = None,
+) -> Played:
     """Send the requests to `apply` and `serve` in turn. The first command meets no store."""
     answers: list[bytes] = []
     sent: list[int] = []

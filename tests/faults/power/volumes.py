@@ -2,17 +2,35 @@
 
 from __future__ import annotations
 
-import ctypes, os, shutil, subprocess, time
+import ctypes
+import os
+import subprocess
+import time
 
 MAKERS = {
-    "ext4": (192, ["mkfs.ext4", "-q", "-F", "-b", "4096", "-E", "lazy_itable_init=0,lazy_journal_init=0,nodiscard"]),
+    "ext4": (
+        192,
+        [
+            "mkfs.ext4",
+            "-q",
+            "-F",
+            "-b",
+            "4096",
+            "-E",
+            "lazy_itable_init=0,lazy_journal_init=0,nodiscard",
+        ],
+    ),
     "xfs": (320, ["mkfs.xfs", "-q", "-f", "-K"]),
     "btrfs": (256, ["mkfs.btrfs", "-q", "-f", "-K"]),
 }
 # The superblock, which a file system supposes to arrive whole, as a range of bytes. That of xfs is one sector.
 SUPERBLOCKS = {"ext4": (0, 4096), "xfs": (0, 512), "btrfs": (65536, 69632)}
 # What repairs a file system whose superblock was torn.
-REPAIRS = {"ext4": ["e2fsck", "-f", "-y"], "xfs": ["xfs_repair"], "btrfs": ["btrfs", "rescue", "super-recover", "-y"]}
+REPAIRS = {
+    "ext4": ["e2fsck", "-f", "-y"],
+    "xfs": ["xfs_repair"],
+    "btrfs": ["btrfs", "rescue", "super-recover", "-y"],
+}
 SECONDS = 60
 BLOCK = 65536
 PUNCH_HOLE, KEEP_SIZE = 2, 1
@@ -22,7 +40,7 @@ libc.fallocate.argtypes = [ctypes.c_int, ctypes.c_int, ctypes.c_long, ctypes.c_l
 
 
 class Failed(Exception):
-    """Something that the script needs of the machine failed."""
+    """Something that the test needs of the machine failed."""
 
 
 class NotMounted(Exception):
@@ -30,7 +48,14 @@ class NotMounted(Exception):
 
 
 def command(*words: str) -> tuple[int, str]:
-    ran = subprocess.run(words, stdout=subprocess.PIPE, stderr=subprocess.STDOUT, text=True, errors="replace", env={**os.environ, "PATH": PLACES})
+    ran = subprocess.run(
+        words,
+        stdout=subprocess.PIPE,
+        stderr=subprocess.STDOUT,
+        text=True,
+        errors="replace",
+        env={**os.environ, "PATH": PLACES},
+    )
     return ran.returncode, ran.stdout.strip()
 
 
@@ -39,10 +64,6 @@ def done(*words: str) -> str:
     if status:
         raise Failed(f"{' '.join(words)} ended with status {status}: {told}")
     return told
-
-
-def can_make(kind: str) -> bool:
-    return shutil.which(MAKERS[kind][1][0], path=PLACES) is not None
 
 
 def make(kind: str, image: str) -> None:
@@ -122,16 +143,3 @@ class Mounted:
         if self.kind == "btrfs":
             command("btrfs", "device", "scan", "--forget", self.device)
         patiently("losetup", "--detach", self.device)
-
-
-def release(folder: str) -> None:
-    """Unmount and detach what an interrupted script may leave in a folder."""
-    with open("/proc/self/mounts") as mounts:
-        places = [line.split()[1] for line in mounts]
-    for place in reversed(places):
-        if place.startswith(folder + "/"):
-            command("umount", "--lazy", place)
-    for line in command("losetup", "--noheadings", "--output", "NAME,BACK-FILE")[1].splitlines():
-        device, file = line.split(None, 1)
-        if f"/{os.path.basename(folder)}/" in file:
-            command("losetup", "--detach", device)

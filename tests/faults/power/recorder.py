@@ -5,12 +5,30 @@ step, does it and answers it before it takes the next one. So a flush covers exa
 
 from __future__ import annotations
 
-import ctypes, dataclasses, mmap, os, signal, struct
+import ctypes
+import dataclasses
+import mmap
+import os
+import signal
+import struct
 from typing import IO, NoReturn, Sequence
 
 from . import volumes
 
-GET_ATTRIBUTES, SET_ATTRIBUTES, OPEN, READ, WRITTEN, STATFS, RELEASE, FSYNC, CLOSE, INIT, DESTROY, FALLOCATE = 3, 4, 14, 15, 16, 17, 18, 20, 25, 26, 38, 43
+(
+    GET_ATTRIBUTES,
+    SET_ATTRIBUTES,
+    OPEN,
+    READ,
+    WRITTEN,
+    STATFS,
+    RELEASE,
+    FSYNC,
+    CLOSE,
+    INIT,
+    DESTROY,
+    FALLOCATE,
+) = (3, 4, 14, 15, 16, 17, 18, 20, 25, 26, 38, 43)
 WITHOUT_ANSWER = (2, 36, 42)
 NOT_SERVED = -38
 HEAD, ANSWER, STEP = struct.Struct("=2I2Q4I"), struct.Struct("=IiQ"), struct.Struct("=3Q")
@@ -67,7 +85,10 @@ class Server:
                 parts = self.answer(kind, memoryview(asked)[HEAD.size :])
                 error = NOT_SERVED if parts is None else 0
                 parts = parts or []
-                os.writev(self.device, [ANSWER.pack(ANSWER.size + sum(map(len, parts)), error, unique), *parts])
+                os.writev(
+                    self.device,
+                    [ANSWER.pack(ANSWER.size + sum(map(len, parts)), error, unique), *parts],
+                )
             if kind == DESTROY:
                 return
 
@@ -75,9 +96,46 @@ class Server:
         """The parts of an answer; None for a request that a disk doesn't need."""
         if kind == INIT:
             _, _, ahead, flags = struct.unpack_from("=4I", asked)
-            return [struct.pack("=4I2H2I2H2I24x", 7, 31, ahead, flags & (BIG_WRITES | MAX_PAGES), 16, 12, MOST_BYTES, 1, MOST_BYTES // 4096, 0, 0, 0)]
+            return [
+                struct.pack(
+                    "=4I2H2I2H2I24x",
+                    7,
+                    31,
+                    ahead,
+                    flags & (BIG_WRITES | MAX_PAGES),
+                    16,
+                    12,
+                    MOST_BYTES,
+                    1,
+                    MOST_BYTES // 4096,
+                    0,
+                    0,
+                    0,
+                )
+            ]
         if kind in (GET_ATTRIBUTES, SET_ATTRIBUTES):
-            return [struct.pack("=Q2I", 3600, 0, 0), struct.pack("=6Q10I", 1, self.size, self.size // 512, 0, 0, 0, 0, 0, 0, 0o100600, 1, 0, 0, 0, 4096, 0)]
+            return [
+                struct.pack("=Q2I", 3600, 0, 0),
+                struct.pack(
+                    "=6Q10I",
+                    1,
+                    self.size,
+                    self.size // 512,
+                    0,
+                    0,
+                    0,
+                    0,
+                    0,
+                    0,
+                    0o100600,
+                    1,
+                    0,
+                    0,
+                    0,
+                    4096,
+                    0,
+                ),
+            ]
         if kind == OPEN:
             return [struct.pack("=Q2I", 0, DIRECT_IO, 0)]
         if kind == STATFS:
@@ -120,7 +178,9 @@ class Recorder:
         device = os.open("/dev/fuse", os.O_RDWR)
         options = f"fd={device},rootmode=100600,user_id=0,group_id=0"
         if libc.mount(b"power_lost", self.file.encode(), b"fuse", 0, options.encode()) != 0:
-            raise volumes.Failed(f"FUSE can't mount the recorded disk: {os.strerror(ctypes.get_errno())}")
+            raise volumes.Failed(
+                f"FUSE can't mount the recorded disk: {os.strerror(ctypes.get_errno())}"
+            )
         self.server = os.fork()
         if self.server == 0:
             self.serve(device, image)

@@ -1,0 +1,345 @@
+"""What the program says after a wrong use: explained.toml and uses.py have the texts, written by hand.
+
+Without --explain a line says its first line alone. With it a second one says where the fault arose,
+why, and what to do (docs/STATUSES.md); status and output stay the same. clap's own texts have more
+lines anyway. A wrong message is answered, with nothing on standard error."""
+
+from __future__ import annotations
+
+import os
+import pty
+import shutil
+import tempfile
+import tomllib
+from collections.abc import Callable, Iterator
+from dataclasses import replace
+from pathlib import Path
+from typing import Any
+
+import pytest
+
+from tests.conftest import MEMORY, TOP
+from tests.faults import uses
+from tests.faults.uses import BONDS, Counter, Ran, Streams, Use, words_of
+from tests.shared.hostile.program import Program
+
+TABLE: dict[str, dict[str, Any]] = tomllib.loads((TOP / "tests/faults/explained.toml").read_text())
+SPELLING = {name: rows["spelling"] for name, rows in TABLE["argument"].items()}
+SPELLING |= {
+    "from": SPELLING["issued"],
+    "owner": SPELLING["customer"],
+    "coowner": SPELLING["customer"],
+}
+SPELLING |= {"serial": "a serial number is a letter, 1 to 9999999999 and EE, as L1EE"}
+KIND_OF = {"rates.csv": "rates", "bonds.csv": "inventory"}
+HEADS = {"rates.csv": "from,rate", "bonds.csv": "serial,denom,issued,owner,coowner"}
+TOO_LARGE = "413 Content Too Large"
+
+
+def arguments() -> Iterator[Use]:
+    for name, rows in TABLE["argument"].items():
+        for kind, lines in list(rows.items())[1:]:
+            yield Use(f"{name}: {kind}", tuple(lines), f"bad argument: {name}", rows["spelling"], 2)
+    two, line = "the first of two words that spell no value", "value 51 2010-13 2015-05 3.50"
+    yield Use(two, (line,), "bad argument: denom", SPELLING["denom"], 2)
+    line = "value 5\xff 2010-05 2015-05 3.50"
+    yield Use("a word that isn't UTF-8", (line,), "bad argument: a word isn't UTF-8", None, 2)
+    for kind, (line, first, second) in TABLE["claps"].items():
+        yield Use(kind, (line,), f"error: {first}", second, 2, is_claps=True)
+
+
+def of_file(kind: str, file: str, content: str, fault: str, second: str) -> Use:
+    line = f"import {KIND_OF[file]} {file} --db day.db --number 1"
+    put = uses.with_file(file, content.encode("latin-1"))
+    return Use(kind, (line,), f"file: {fault}", f"{file}: {second}", make=put)
+
+
+def files() -> Iterator[Use]:
+    again = "correct it, and send the file again"
+    for kind, row in TABLE["file"].items():
+        yield of_file(kind, *row)
+    for kind, (file, content, at, column, shown) in TABLE["field"].items():
+        second = f'row {at}, column {column} is "{shown}": {SPELLING[column]}; {again}'
+        yield of_file(kind, file, content, f"row {at} code 72", second)
+    rows = "from,rate\n" + "2010-05,2.00\n" * 499 + "2010\n"
+    lacks = f"row 501 has not one field for each column; {again}"
+    yield of_file("the last of 500 rows cut off", "rates.csv", rows, "row 501 code 71", lacks)
+    parts, head = uses.PARTS, f"the first row is not {HEADS['bonds.csv']}; {again}"
+    yield of_file(
+        "far above the limit",
+        "rates.csv",
+        "from,rate\n" + "2010-05,2.00\n" * 90_000,
+        "row 1 code 75",
+        parts,
+    )
+    yield of_file("a byte above the limit", "bonds.csv", "x" * 1_048_577, "row 1 code 75", parts)
+    yield of_file("at the limit", "bonds.csv", "x" * 1_048_576, "row 1 code 70", head)
+
+
+USES = [*arguments(), *files(), *uses.PATHS, *uses.STORES, *uses.STREAMS]
+BY_KIND = {use.kind: use for use in USES}
+
+
+@pytest.fixture(scope="session")
+def readable(program: Path) -> Iterator[Path]:
+    """A copy of the program that everybody can run."""
+    with tempfile.TemporaryDirectory(dir=MEMORY) as made:
+        os.chmod(made, 0o755)
+        copy = Path(shutil.copy(program, made))
+        copy.chmod(0o755)
+        yield copy
+
+
+@pytest.fixture
+def counter(readable: Path, folder: Path) -> Iterator[Counter]:
+    folder.chmod(0o777)
+    yield Counter(readable, folder)
+    folder.chmod(0o777)
+
+
+def fresh(counter: Counter) -> Counter:
+    """The same program in an empty folder."""
+    for path in counter.folder.iterdir():
+        if path.is_dir() and not path.is_symlink():
+            path.chmod(0o777)
+            shutil.rmtree(path)
+        else:
+            path.unlink()
+    counter.folder.chmod(0o777)
+    counter.environment = dict(os.environ)
+    return counter
+
+
+def tried(use: Use, counter: Counter) -> None:
+    """Every line says its first line alone, and the second one too if it is asked for."""
+    for line in use.lines:
+        it = fresh(counter)
+        use.make(it)
+        with use.during(it) as streams:
+            words = words_of(line)
+            alone, explained = it.run(words, streams), it.run([*words, "--explain"], streams)
+        if use.is_claps:
+            said = alone.said.splitlines()
+            assert said[0] == use.first and use.second in [text.strip() for text in said[1:]], line
+        else:
+            second = "" if use.second is None else use.second + "\n"
+            assert alone.said == use.first + "\n", line
+            assert explained.said == use.first + "\n" + second, line
+        assert alone.status == use.status, line
+        assert (explained.status, explained.printed) == (alone.status, alone.printed), line
+
+
+def test_kinds_have_names_of_their_own() -> None:
+    kinds = [use.kind for use in USES]
+    assert len(set(kinds)) == len(kinds) > 190
+
+
+@pytest.mark.parametrize("kind", BY_KIND)
+def test_uses(counter: Counter, kind: str) -> None:
+    tried(BY_KIND[kind], counter)
+
+
+@pytest.mark.root
+@pytest.mark.parametrize("use", uses.DISKS, ids=[use.kind for use in uses.DISKS])
+def test_disks(counter: Counter, use: Use) -> None:
+    tried(use, counter)
+
+
+@pytest.mark.parametrize("kind", uses.FAILING)
+def test_failing_disks(counter: Counter, hostile: Program, kind: str) -> None:
+    shim = shutil.copy(hostile.shim, counter.program.parent)
+    os.chmod(shim, 0o755)
+    tried(uses.failing(kind, str(shim)), counter)
+
+
+def test_wrong_lines_make_no_file(counter: Counter) -> None:
+    for use in arguments():
+        for line in use.lines:
+            counter.run(words_of(line))
+    assert list(counter.folder.iterdir()) == []
+
+
+#: The first and the last value that every spelling allows.
+BORDERS = [
+    *(
+        f"value {denom} 2010-05 2015-05 3.50"
+        for denom in (50, 75, 100, 200, 500, 1000, 5000, 10000)
+    ),
+    *(
+        f"value 50 {months} 3.50"
+        for months in ("2005-05 2005-05", "05/2005 12/2199", "2099-12 2199-12")
+    ),
+    *(f"value 50 2010-05 2015-05 {rate}" for rate in ("0", "0.00", "20.00", "20", "3.5", "3.50%")),
+    "value 50 12/2099 2099-12 3.50",
+    "value 50 2010-05 2030-11 3.40 20.00",
+    *(f"export {customer} --db day.db" for customer in (1, 999999999)),
+    *(f"sheet {customer} 2012-02 --db day.db" for customer in (1, 999999999)),
+    "sheet 7 2005-05 --db day.db",
+    "sheet 7 2199-12 --db day.db",
+]
+
+
+@pytest.mark.parametrize("line", BORDERS)
+def test_borders_are_taken(counter: Counter, line: str) -> None:
+    ran = counter.run(words_of(line))
+    assert (ran.status, ran.said) == (0, "")
+
+
+def test_store_that_sql_changed_by_the_rules_opens(counter: Counter) -> None:
+    uses.changed("UPDATE bonds SET coowner = 8")(counter)
+    ran = counter.run(words_of("export 7 --db day.db"))
+    assert ran.status == 0 and b"L1EE,50,2010-11,7,8" in ran.printed, ran
+
+
+# ---- messages
+
+
+def messages() -> dict[str, list[Any]]:
+    headers = "".join(f"a{number}: b\r\n" for number in range(33))
+    head = "GET /ticket/1 HTTP/1.1\r\n"
+    return {
+        **TABLE["message"],
+        "33 headers": [
+            f"{head}{headers}\r\n",
+            "400 Bad Request",
+            '{"code":60,"fault":"BadHead"}',
+            1,
+        ],
+        "a head without an end": [
+            head + "a: " + "b" * 17_000,
+            TOO_LARGE,
+            '{"code":61,"fault":"HeadTooLong"}',
+            1,
+        ],
+    }
+
+
+def answered(row: list[Any], ran: Ran) -> None:
+    _, status, body, ends = row
+    head, _, found = ran.printed.partition(b"\r\n\r\n")
+    assert head.split(b"\r\n")[0].decode().partition(" ")[2] == status
+    assert found.decode() == body and (ran.status, ran.said) == (ends, "")
+
+
+@pytest.mark.parametrize("kind", messages())
+def test_messages(counter: Counter, kind: str) -> None:
+    row = messages()[kind]
+    counter.store()
+    for more in ("", " --explain"):
+        words = words_of("apply --db day.db" + more)
+        ran = counter.run(words, Streams(given=row[0].encode("latin-1")))
+        answered(row, ran)
+    assert counter.run(words_of("export 7 --db day.db")).printed == BONDS
+    others = [
+        replace(ran, printed=ran.printed.replace(b'":"', b'":"x', 1)),
+        replace(ran, said="x\n"),
+    ]
+    for other in [*others, replace(ran, status=1 - ran.status)]:
+        with pytest.raises(AssertionError):
+            answered(row, other)
+
+
+# ---- terminals, and help
+
+
+def on_terminal(counter: Counter, line: str, given: bytes = b"") -> str:
+    """What a terminal shows of a line."""
+    child, terminal = pty.fork()
+    if child == 0:
+        os.chdir(counter.folder)
+        if given:
+            os.dup2(os.open(counter.put("given", given), os.O_RDONLY), 0)
+        os.execv(counter.program, [str(counter.program), *line.split()])
+    shown = b""
+    try:
+        while part := os.read(terminal, 65536):
+            shown += part
+    except OSError:
+        pass
+    os.waitpid(child, 0)
+    os.close(terminal)
+    return shown.decode().replace("\r\n", "\n")
+
+
+def test_terminals(counter: Counter) -> None:
+    """There the second line needs no option, and `apply` ends its answers with a line end."""
+    shown = on_terminal(counter, "value 50 2010-05 2015-5 3.50")
+    assert shown == f"bad argument: month\n{SPELLING['month']}\n"
+    shown = on_terminal(counter, "apply --db day.db", uses.MESSAGE)
+    assert shown.endswith("}\n") and not shown.endswith("\n\n")
+    ran = counter.run(words_of("apply --db other.db"), Streams(given=uses.MESSAGE))
+    assert ran.printed.endswith(b"}"), "control: elsewhere apply adds no line end"
+
+
+@pytest.mark.parametrize("command", ["", "value", "import", "export", "sheet", "serve", "apply"])
+def test_help(counter: Counter, command: str) -> None:
+    ran = counter.run(words_of(f"help {command}"))
+    assert ran == counter.run(words_of(f"{command} --help"))
+    assert ran.status == 0 and b"Usage: ee_cli" in ran.printed
+    assert command or b"--explain" in ran.printed
+
+
+# ---- controls: programs that say something else
+
+Change = Callable[[bool, Ran], Ran]
+
+
+def instead(old: str, new: str) -> Change:
+    """Another second line."""
+
+    def change(is_explained: bool, ran: Ran) -> Ran:
+        first, *more = ran.said.split("\n", 1)
+        return replace(ran, said="\n".join([first, *(text.replace(old, new) for text in more)]))
+
+    return change
+
+
+def no_second(is_explained: bool, ran: Ran) -> Ran:
+    return replace(ran, said=ran.said.split("\n")[0] + "\n")
+
+
+def unasked(is_explained: bool, ran: Ran) -> Ran:
+    return ran if is_explained else replace(ran, said=ran.said + "look at the disk\n")
+
+
+def other_status(is_explained: bool, ran: Ran) -> Ran:
+    return replace(ran, status=1) if is_explained else ran
+
+
+def other_output(is_explained: bool, ran: Ran) -> Ran:
+    return replace(ran, printed=ran.said.encode()) if is_explained else ran
+
+
+def anywhere(old: str, new: str) -> Change:
+    return lambda is_explained, ran: replace(ran, said=ran.said.replace(old, new))
+
+
+PLAYED = [
+    ("desk: a word", no_second),
+    ("a store: a text", unasked),
+    ("desk: a word", other_status),
+    ("desk: a word", other_output),
+    ("a store: a text", anywhere("StoreFailed", "Unusable")),
+    ("a command with two letters the other way", anywhere("tip: a similar", "tip: another")),
+    (
+        "a store: one that another process has open",
+        instead("another process uses it", "no such file"),
+    ),
+    ("owner of a row: a name", instead("column owner", "column coowner")),
+    ("desk: a word", instead("0 to 999", "0 to 1000")),
+    ("a port that is in use", instead("address in use", "permission denied")),
+    ("owner of a row: a name", instead('is "John Doe"', 'is "John Doe?"')),
+    ("a full disk behind the answers", instead("no space left on the disk", "nothing reads it")),
+]
+
+
+@pytest.mark.parametrize("kind, change", PLAYED, ids=range(len(PLAYED)))
+def test_other_text_is_found(counter: Counter, kind: str, change: Change) -> None:
+    """Control: a program that says something else."""
+
+    class Other(Counter):
+        def run(self, words: list[str | bytes], streams: Streams = Streams()) -> Ran:
+            return change("--explain" in words, super().run(words, streams))
+
+    with pytest.raises(AssertionError):
+        tried(BY_KIND[kind], Other(counter.program, counter.folder))

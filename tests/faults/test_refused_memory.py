@@ -1,0 +1,176 @@
+"""Requests for memory are refused in turn: to the built program, and to tests of the crates.
+
+Every answer that isn't 503 NoMemory is byte for byte that of a desk that got the served requests
+alone; not more answers are NoMemory than requests were refused; the next command finds those books;
+and the same requests again have their one reply each. CHOSEN names how many of each kind are tried,
+25 if it isn't set."""
+
+from __future__ import annotations
+
+import os
+import random
+import re
+import subprocess
+from pathlib import Path
+
+import pytest
+
+from tests.conftest import TOP
+from tests.shared.hostile import commands, desk, judging
+from tests.shared.hostile.judging import Wrong
+from tests.shared.hostile.program import Program, Ran
+from tests.shared.hostile.returning import come_back, put, shows_ample
+from tests.shared.hostile.scenes import CONNECTIONS, FILES, Scene
+
+CHOSEN = int(os.environ.get("CHOSEN", "10"))
+ENDINGS = {"", "no memory", "store: NotWrittenBack", "file: row 1 code 74"}
+
+
+def judge(scene: Scene, ran: Ran, most: int | None) -> list[desk.Books]:
+    """Nothing but a lack of memory is said, and not more often than it was refused."""
+    if ran.status not in (0, 3) or ran.faults.strip() not in ENDINGS:
+        raise Wrong(f"ended with {ran.status} {ran.faults!r}")
+    command = scene.command
+    if most is not None and isinstance(command, commands.Connection) and ran.told:
+        heard = judging.follow([scene.books], command.messages, ran.told)
+        if heard.no_memory > most:
+            raise Wrong(f"{heard.no_memory} answers are NoMemory, where {most} were refused")
+    return command.judge(ran, [scene.books])
+
+
+def meets(program: Program, scene: Scene, refuse: str, most: int | None, plant: str = "") -> bool:
+    """Whether a run met a refusal; if it did, it is judged, and what it left."""
+    path = program.place(f"refused{os.getpid()}")
+    put(scene, path)
+    ran = scene.command.run(program, path, refuse=refuse, plant=plant)
+    if ran.refused == 0:
+        shows_ample(scene, ran, path)
+        return False
+    try:
+        come_back(program, scene, path, judge(scene, ran, most), ran.status < 2)
+    except Wrong as wrong:
+        raise Wrong(f"{scene.name}, refused `{refuse}`: {wrong}") from wrong
+    return True
+
+
+def asked_of(program: Program, scene: Scene) -> int:
+    """How many requests for memory a run makes that meets no refusal."""
+    path = program.place(f"asked{os.getpid()}")
+    put(scene, path)
+    ran = scene.command.run(program, path)
+    shows_ample(scene, ran, path)
+    return ran.counts["asked"]
+
+
+@pytest.mark.parametrize("name", [*CONNECTIONS, *FILES])
+def test_program(
+    hostile: Program, scenes: dict[str, Scene], name: str, dice: random.Random
+) -> None:
+    """One request is refused, or all from one on, or a pair; and one more than there are, which none meets."""
+    scene, asked = scenes[name], asked_of(hostile, scenes[name])
+    chosen = sorted(dice.sample(range(1, asked + 1), min(asked, 4 * CHOSEN)))
+    assert all(meets(hostile, scene, f"{at} 1", 1) for at in chosen)
+    assert not meets(hostile, scene, f"{asked + 1} 1", 1)
+    few = dice.sample(chosen, min(len(chosen), CHOSEN))
+    assert all(meets(hostile, scene, f"{at} 0", None) for at in few)
+    pairs = [f"{at} 1;{at + dice.choice((1, 2, 3, 5, 8, 50, 200))} 1" for at in few]
+    assert all(meets(hostile, scene, pair, 2) for pair in pairs)
+
+
+def test_wrong_program_is_found(
+    hostile: Program, scenes: dict[str, Scene], dice: random.Random
+) -> None:
+    """Control: a program that goes on answering that it lacks memory."""
+    scene = scenes["at rest"]
+    asked = asked_of(hostile, scene)
+    with pytest.raises(Wrong):
+        for at in dice.sample(range(1, asked + 1), asked):
+            meets(hostile, scene, f"{at} 1", 1, "stays_refused")
+
+
+# ---- tests of the crates, as they are natively built
+
+#: A malloc that refuses the request of the number REFUSE_AT, and says so.
+REFUSE = r"""
+#include <stdio.h>
+#include <stdlib.h>
+void *__libc_malloc(size_t);
+void *__libc_realloc(void *, size_t);
+static long asked, refused;
+static int is_refused(void) {
+    if (refused == 0) {
+        const char *at = getenv("REFUSE_AT");
+        refused = at ? atol(at) : -1;
+    }
+    asked += 1;
+    if (asked != refused) return 0;
+    fputs("memory was refused\n", stderr);
+    return 1;
+}
+void *malloc(size_t size) { return is_refused() ? NULL : __libc_malloc(size); }
+void *realloc(void *old, size_t size) { return is_refused() ? NULL : __libc_realloc(old, size); }
+"""
+OVER = ("day", "stream", "files", "one_list")
+TESTS = {
+    "library_tests": [f"{module}::refused_memory" for module in ("framing", "calls", "wire")]
+    + ["files::written::refused_memory"],
+    "store_tests": ["version_1_many_replies::refused_memory"]
+    + [
+        f"refused::refused_memory_in_a_{what}_over_{place}"
+        for what in OVER[:2]
+        for place in ("a_list", "tables")
+    ]
+    + [
+        f"refused::refused_memory_in_{what}_over_{place}"
+        for what in OVER[2:]
+        for place in ("a_list", "tables")
+    ],
+}
+#: How a test says that memory was refused to its own preparation or comparison.
+LACKS = r"""^error: .*(AllocFailed|AllocError|NoMemory|OutOfMemory|unserved)
+|: [A-Za-z]*[(]?(AllocFailed|AllocError|OutOfMemory)( \{ \.\. \})?[)]?$""".replace(
+    "\n", ""
+)
+
+
+def refused_in_turn(words: list[str], shim: Path) -> int:
+    """How many requests were refused until a run met none. A test may fail if it says so itself."""
+    for at in range(1, 100_000):
+        env = {**os.environ, "REFUSE_AT": str(at), "LD_PRELOAD": str(shim)}
+        ran = subprocess.run(words, env=env, text=True, capture_output=True)
+        said = ran.stdout + ran.stderr
+        if "memory was refused" not in said:
+            assert ran.returncode == 0, said
+            return at - 1
+        assert ran.returncode == 0 or re.search(LACKS, said, re.M), said
+    raise AssertionError("no run came without a refusal")
+
+
+@pytest.fixture
+def refuse(tmp_path: Path) -> Path:
+    (tmp_path / "refuse.c").write_text(REFUSE)
+    words = ["cc", "-O1", "-shared", "-fPIC", "-o", "refuse.so", "refuse.c"]
+    subprocess.run(words, cwd=tmp_path, check=True)
+    return tmp_path / "refuse.so"
+
+
+@pytest.mark.slow
+@pytest.mark.needs("rt", "cc")
+@pytest.mark.parametrize("crate", TESTS)
+def test_crates(crate: str, refuse: Path) -> None:
+    """It builds the tests of a crate, which takes ten minutes."""
+    folder = TOP / "crates" / crate
+    subprocess.run(["rt", "test"], cwd=folder, check=True)
+    for name in TESTS[crate]:
+        assert refused_in_turn([str(folder / "out" / f"{crate}_tests"), name], refuse) > 0, name
+
+
+@pytest.mark.needs("cc")
+def test_crash_is_found(refuse: Path, tmp_path: Path) -> None:
+    """Control: a program that uses memory without a look at what it got."""
+    (tmp_path / "crash.c").write_text(
+        "#include <stdlib.h>\nint main(void) { volatile char *it = malloc(64); it[0] = 1; return 0; }\n"
+    )
+    subprocess.run(["cc", "-o", tmp_path / "crash", tmp_path / "crash.c"], check=True)
+    with pytest.raises(AssertionError):
+        refused_in_turn([str(tmp_path / "crash")], refuse)
