@@ -2,6 +2,7 @@
 
 from __future__ import annotations
 
+import re
 import subprocess
 import sys
 from pathlib import Path
@@ -66,3 +67,23 @@ def test_a_changed_sentence_is_found(folder: Path) -> None:
     page = other_page(folder, PAGE.read_text().replace("Don't pay.", "Pay it."))
     with pytest.raises(AssertionError):
         assert printed(page, folder / "page.pdf") == sides(PDF)
+
+
+def unknown_words(text: str) -> list[str]:
+    """The sentences in italics that the page for tellers doesn't have."""
+    folder = TOP / "clients/teller"
+    words = "".join(file.read_text() for file in [*folder.glob("*.js"), *folder.glob("*.html")])
+    found = re.findall(r"(?<!\*)\*([^*]+)\*(?!\*)", re.sub(r"\s+", " ", text))
+    parts = [part.strip(" .") for quote in found for part in re.split(r"\.\.|\. ", quote)]
+    return [part for part in parts if part not in words]
+
+
+def test_the_words_are_the_pages() -> None:
+    assert unknown_words(PAGE.read_text()) == []
+
+
+def test_other_words_are_found() -> None:
+    """Control: a button of another name."""
+    assert unknown_words(PAGE.read_text().replace("*Send it now*", "*Send at once*")) == [
+        "Send at once"
+    ]
