@@ -9,18 +9,11 @@ from typing import Any, Callable
 
 from hypothesis import strategies as st
 
-from tests.shared.hostile import counter, spelling
+from tests.shared.hostile import counter, making, spelling
 from tests.shared.hostile.desk import Books
 
 Strategy = st.SearchStrategy[Any]
 Draw = Callable[[Strategy], Any]
-NUMBERS = [*range(1, 9), 2**63 - 1]
-OWNERS = (7, 8, 9, 1, 999_999_999)
-MONTHS = "2005-05 2010-05 2010-11 2011-05 2011-11 2012-05 2099-11".split()
-ISSUED = "2005-05 2005-10 2010-05 2010-10 2010-11 2011-02 2011-06 2012-01 2099-12".split()
-RATES = "0 0.00 1.40 2.00 2 3.5% 3.50 20.00".split()
-DAYS = "2011-12-31 2012-02-06 2012-02-07 2012-06-01 2015-10-31 2025-06-02 2030-11-04".split()
-LAST_DAY = spelling.day("2199-01-01") or 0
 WRONG: list[object] = [
     None,
     True,
@@ -55,11 +48,10 @@ FIELDS += [
     "x:\x00",
     "x:" + "y" * 300,
 ]
+MONTHS = "2012-02 06/2015 2030-11 2005-05 2199-12 2200-01 x".split()
 LENGTHS = "0 1048576 1048577 +1 1x 1,1 -1 0x1".split() + ["", "9" * 30, "1 1"]
 
 pick = st.sampled_from
-bonds_number = pick([1, 2, 3, 4, 9_999_999_999]) | st.integers(5, 199)
-bond_serial = st.builds("{}{}EE".format, pick("AKLZ"), bonds_number)
 
 
 def seldom(usual: Strategy, other: Strategy, most: int = 9) -> Strategy:
@@ -67,79 +59,15 @@ def seldom(usual: Strategy, other: Strategy, most: int = 9) -> Strategy:
     return st.integers(0, most).flatmap(lambda turn: other if turn == most else usual)
 
 
-def respelled(text: str) -> Strategy:
-    """A serial number with its dashes and zeros, or a month in its other order."""
-    if text[0].isalpha():
-        digits = st.builds(text[1:-2].rjust, pick([0, 4, 10]), st.just("0"))
-        dash = pick(["", "-"])
-        return st.builds("{}{}{}{}EE".format, st.just(text[0]), dash, digits, dash)
-    return pick([text, f"{text[5:]}/{text[:4]}"])
-
-
-months, issued = pick(MONTHS).flatmap(respelled), pick(ISSUED).flatmap(respelled)
-rate_row: Strategy = st.fixed_dictionaries(
-    {"from": seldom(months, issued), "rate": pick(RATES)},
-    optional={"extension": pick([*RATES, None])},
-)
-bond_row: Strategy = st.fixed_dictionaries(
-    {
-        "serial": bond_serial.flatmap(respelled),
-        "denom": pick(spelling.DENOMINATIONS),
-        "issued": issued,
-        "owner": pick(OWNERS),
-    },
-    optional={"coowner": pick([*OWNERS, None])},
-)
-
-
-def day_for(books: Books) -> Strategy:
-    """Mostly the open day, or one that may be opened."""
-    other = pick(DAYS)
-    if books.day is not None:
-        return seldom(st.just(spelling.day_text(books.day)), other)
-    if books.last_day is None or books.last_day > LAST_DAY:
-        return other
-    later = [spelling.day_text(books.last_day + more) for more in (1, 1, 2, 30, 200, 0, -1)]
-    return seldom(pick(later), other)
-
-
-def redemption(books: Books, payee: int) -> Strategy:
-    """Mostly of bonds that the books have, and that the payee has."""
-    text, bonds = spelling.serial_text, books.bonds.items()
-    mine = [text(key) for key, bond in bonds if payee in bond[2:] and key not in books.paid_on]
-    known = pick([text(key) for key, _ in bonds] or ["A1EE"])
-    named = seldom(pick(mine) if mine else known, known | pick(["A1EE", "Z9EE", "K2EE"]), 3)
-    serials = st.lists(named.flatmap(respelled), max_size=3)
-    day = day_for(books)
-    return st.fixed_dictionaries({"day": day, "payee": st.just(payee), "serials": serials})
-
-
-def posted(draw: Draw, books: Books) -> tuple[str, dict[str, object]]:
-    """A path and a body, which is often one that the books take."""
-    usual = "day/open" if books.day is None else "redeem"
-    kind = draw(st.just(usual) | pick(["redeem", "bonds", "rates", "day/open", "day/close"]))
-    number = seldom(st.just(1000 + len(books.kept)), pick(NUMBERS), 4)
-    head = {"number": draw(number)}
-    desk = draw(pick(["none", None, 0, 1, 2, 999]))
-    head |= {} if desk == "none" else {"desk": desk}
-    if kind == "rates":
-        return "/rates", {**head, "rates": draw(st.lists(rate_row, max_size=4))}
-    if kind == "bonds":
-        return "/bonds", {**head, "bonds": draw(st.lists(bond_row, max_size=8))}
-    if kind == "redeem":
-        return "/redeem", {**head, **draw(redemption(books, draw(pick(OWNERS))))}
-    return f"/{kind}", {**head, "day": draw(day_for(books))}
-
-
 asked = st.one_of(
-    st.builds("/inventory/{}/{}".format, pick([*OWNERS, 0, "007", "x"]), months),
+    st.builds("/inventory/{}/{}".format, pick([*making.OWNERS, 0, "007", "x"]), pick(MONTHS)),
     st.builds("/ticket/{}".format, pick([1, 2, 3, 0, 2**63 - 1])),
-    st.builds("/batch/{}".format, pick([*DAYS, "2012-02-30"])),
+    st.builds("/batch/{}".format, pick([*making.DAYS, "2012-02-30"])),
     st.builds(
         "/value/{}/{}/{}".format,
         pick([*spelling.DENOMINATIONS, 51, "050"]),
-        pick([*ISSUED, "2010"]),
-        pick("2012-02 06/2015 2030-11 2005-05 2199-12 2200-01 x".split()),
+        pick([*making.ISSUED, "2010"]),
+        pick(MONTHS),
     ),
     pick(TARGETS),
 )
@@ -190,7 +118,7 @@ def one_message(draw: Draw, books: Books) -> bytes:
     if draw(pick([True, False, False])):
         method = draw(seldom(st.just("GET"), pick(["POST", "HEAD", "get", "G T"]), 20))
         return message(draw, method, draw(asked), draw(seldom(st.just(b""), st.just(b"["))))
-    path, value = posted(draw, books)
+    path, value = making.posted(draw(st.randoms()), books)
     value = draw(seldom(st.just(value), st.builds(lambda: harmed(draw, value)), 8))
     method = draw(seldom(st.just("POST"), pick(["GET", "PUT", "P\u00d6ST"]), 30))
     text = draw(seldom(st.just(text_of(draw, value)), pick(TEXTS), 12))
