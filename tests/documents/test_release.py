@@ -14,6 +14,8 @@ from typing import Iterator
 import pytest
 
 from tests.conftest import TOP
+from tests.fence.conftest import blocks
+from tests.fence.fresh import bootstrap
 
 pytestmark = pytest.mark.needs("dh", "fakeroot", "gpg", "cc", "git")
 
@@ -162,3 +164,33 @@ def test_a_file_that_is_not_committed_stops_it(owner: Owner) -> None:
     shutil.copy(owner.tree / "README.md", owner.tree / "notes.md")
     status, said = owner.release("release", "--key", "owner@bank.example")
     assert (status, owner.tags()) == (1, []) and "aren't committed" in said, said
+
+
+@pytest.mark.root
+@pytest.mark.machine
+@pytest.mark.slow
+def test_a_fresh_debian_takes_it(owner: Owner) -> None:
+    """By the commands of docs/INSTALL.md, with the owner's public key and a clone at the tag. Control: a byte more."""
+    root = Path(bootstrap(str(owner.folder / "debian"), included="gpg,python3,git"))
+    assert owner.release("release", "--key", "owner@bank.example")[0] == 0
+    place = root / "root/release"
+    shutil.copytree(owner.folder / "release", place)
+    done("git", "clone", "--quiet", owner.tree, root / "root/ladwenpik")
+    gpg = ("gpg", "--homedir", owner.env["GNUPGHOME"], "--armor")
+    (root / "root/key.asc").write_text(done(*gpg, "--export"))
+    key = done("gpg", "--homedir", owner.env["GNUPGHOME"], "--with-colons", "--list-keys")
+    found = re.search("^fpr:+([0-9A-F]{40}):", key, re.M)
+    assert found
+    _, check, verify, *_ = blocks("INSTALL", "Check that it is the proved one")
+    script = f"set -e; cd /root/release\n{check}{verify}".replace("FINGERPRINT", found[1])
+
+    def ends() -> int:
+        line = ["chroot", str(root), "sh", "-c", script]
+        return subprocess.run(line, stdout=subprocess.DEVNULL, stderr=subprocess.DEVNULL).returncode
+
+    done("chroot", root, "gpg", "--quiet", "--import", "/root/key.asc")
+    assert ends() == 0
+    with open(next(place.glob("ladwenpik_*.deb")), "ab") as file:
+        file.write(b"\n")
+    with pytest.raises(AssertionError):
+        assert ends() == 0
