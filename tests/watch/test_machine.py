@@ -132,7 +132,7 @@ def test_unlogged_within_a_minute(today: World) -> None:
     """By the times that ship, with Debian's of Prometheus: the metrics come every 20 seconds, and are read and judged every 15."""
     assert until(lambda: "Unlogged" not in today.firing())
     today.write_rules((WATCH / "alerts.yml").read_text(), DEBIANS)
-    today.machine.follow("systemctl reload prometheus.service")
+    today.machine.follow("systemctl kill --signal=HUP prometheus.service")
     today.watch_quickly("20s")
     steps, begun = TROUBLES["Unlogged"][0](today), time.monotonic()
     try:
@@ -144,7 +144,7 @@ def test_unlogged_within_a_minute(today: World) -> None:
     finally:
         today.watch_quickly("2s")
         today.write_rules(quick_rules(), QUICK)
-        today.machine.follow("systemctl reload prometheus.service")
+        today.machine.follow("systemctl kill --signal=HUP prometheus.service")
         lingering.update({"Unlogged", "DiskFull"})
         next(steps, None)
 
