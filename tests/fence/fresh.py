@@ -14,7 +14,7 @@ from typing import Any, NoReturn
 SUITE = "bookworm"
 MIRROR = "http://deb.debian.org/debian"
 #: What the packages need, what a bank has beside them, and the shells in which completion is tried.
-INCLUDED = "systemd,systemd-sysv,logrotate,nftables,nginx-light,libnginx-mod-http-js,easy-rsa,apache2-utils,python3,curl,man-db,bash-completion,zsh,sqlite3,openssl,iproute2,btrfs-progs,faketime,prometheus,prometheus-node-exporter"
+INCLUDED = "systemd,systemd-sysv,logrotate,nftables,nginx-light,libnginx-mod-http-js,easy-rsa,apache2-utils,python3,curl,man-db,bash-completion,zsh,sqlite3,openssl,iproute2,btrfs-progs,faketime,procps,prometheus,prometheus-node-exporter"
 DEVICES = ["null", "zero", "full", "random", "urandom", "tty"]
 #: What is asked of a machine that isn't up, or that does what it shouldn't.
 WAIT = 120

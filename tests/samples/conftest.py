@@ -11,7 +11,10 @@ from typing import Iterator, Protocol
 import pytest
 
 from tests.conftest import MEMORY
+from tests.fence.conftest import machines, root
 from tests.restore.counter_day import run
+
+__all__ = ["machines", "mount", "place", "root"]
 
 
 @pytest.fixture(scope="module")

@@ -8,6 +8,7 @@ import shutil
 import sqlite3
 import subprocess
 import time
+import tomllib
 from contextlib import closing
 from pathlib import Path
 from typing import Any, Callable
@@ -35,35 +36,7 @@ DAY = [
     post("/day/open", {"number": 5, "day": "2012-03-07"}, b""),
     redeem(2, 12, "2012-03-07", 9, "N4EE"),
 ]
-# Worked by hand from the rules: the values of February 2012 are those of docs/FORMATS.md; N4EE has age 16 in March, and pays 25.96.
-WANTED: dict[str, Any] = {
-    "sums": {"bonds": 4, "total": "5222.18", "price": "5087.50", "interest": "134.68"},
-    "days": [
-        {"day": "2012-02-06", "is_closed": True, "tickets": 2, "bonds": 3, "total": "5196.22"},
-        {"day": "2012-03-07", "is_closed": False, "tickets": 1, "bonds": 1, "total": "25.96"},
-    ],
-    "issue_periods": [
-        {"period": "2010-05", "bonds": 1, "total": "38.34"},
-        {"period": "2010-11", "bonds": 3, "total": "5183.84"},
-    ],
-    "denominations": [
-        {"denom": 50, "bonds": 2, "total": "51.84"},
-        {"denom": 75, "bonds": 1, "total": "38.34"},
-        {"denom": 10000, "bonds": 1, "total": "5132.00"},
-    ],
-    "ages": [{"years": 1, "note": "P5", "bonds": 4, "total": "5222.18"}],
-    "refusals": [{"code": 52, "name": "AlreadyPaid", "requests": 2}],
-    "desks": [
-        {"desk": 0, "requests": 5, "refused": 0, "again": 0},
-        {"desk": 1, "requests": 3, "refused": 2, "again": 1},
-        {"desk": 2, "requests": 2, "refused": 0, "again": 0},
-    ],
-    "largest": [
-        {"ticket": 1, "day": "2012-02-06", "payee": 7, "bonds": 2, "total": "5157.88"},
-        {"ticket": 2, "day": "2012-02-06", "payee": 8, "bonds": 1, "total": "38.34"},
-        {"ticket": 3, "day": "2012-03-07", "payee": 9, "bonds": 1, "total": "25.96"},
-    ],
-}
+DATA = tomllib.loads((Path(__file__).parent / "parts/report.toml").read_text())
 pytestmark = pytest.mark.needs("sqlite3")
 
 
@@ -91,7 +64,7 @@ def test_known_days(day: Path, tmp_path: Path) -> None:
     assert all(test["tested"] for test in found["tests"]), "each test has something to test"
     assert files_of(day) == before and set(day.parent.iterdir()) == {day, Path(f"{day}-wal")}
     period: dict[str, Any] = dict(figures_of(found))
-    assert {name: period[name] for name in WANTED} == WANTED
+    assert {name: period[name] for name in DATA["days"]} == DATA["days"]
     outlook = period["outlook"]
     assert (outlook["bonds"], outlook["price"]) == (1, "25.00")
     assert outlook["months"][0] == {"month": "2012-03", "worth": "25.96", "earning": 1}
@@ -214,23 +187,6 @@ ENTERED = [
     {"from": "2010-11", "rate": "0.61"},
     {"from": "2099-05", "rate": "1.00"},
 ]
-#: A list of rates, and what of ENTERED differs from it.
-LISTS: list[tuple[str, list[str]]] = [
-    ("from,rate\n2005-05,3.50\n2010-05,1.40\n2010-11,0.61\n2099-05,1.00\n", []),
-    (
-        "\ufefffrom,rate,source\r\n05/2005,3.5,a\r\n05/2010,1.4%,b\r\n2010-11,0.61%,c\r\n2099-05,1,d\r\n",
-        [],
-    ),
-    ("from,rate,extension\n2005-05,3.50,4\n2010-05,1.40,\n2010-11,0.61,\n2099-05,1.00,\n", []),
-    (
-        "from,rate,extension\n2005-05,3.50,\n2010-05,1.40,\n2010-11,0.61,\n2099-05,1.00,\n",
-        ["2005-05"],
-    ),
-    (
-        "from,rate,extension\n2005-05,3.50,4.10\n2010-05,1.40,2\n2010-11,0.61,\n2099-05,1.00,1.00\n",
-        ["2005-05", "2010-05"],
-    ),
-]
 NO_LISTS = [
     "rate\n1.00",
     "from,rate\n2010-5,1.00",
@@ -253,7 +209,8 @@ def test_announced_rates(program: Path, tmp_path: Path) -> None:
     assert ran.returncode == 1 and differing(found) == {
         "announced": [(*one, "rate") for one in periods]
     }
-    for text, wanted in LISTS:
+    for case in DATA["lists"]:
+        text, wanted = case["text"], case["differing"]
         listed.write_bytes(text.encode())
         ran, found = made(store, to, "--announced", listed)
         rows = [("extensions", period, "rate") for period in wanted]
@@ -268,23 +225,11 @@ def test_announced_rates(program: Path, tmp_path: Path) -> None:
 
 # ---- a year's interest
 
-# Worked by hand: DAY pays 5157.88, 38.34 and 25.96 in 2012 for bonds of 5025.00, 37.50 and 25.00. In February 2013 N5EE has age 27, counted as 24: a unit of 12.50 grows to 12.72, 12.94, 13.17 and 13.40, so two units are 26.80.
 NEXT_YEAR = [
     post("/day/close", {"number": 6, "day": "2012-03-07"}, b""),
     post("/day/open", {"number": 7, "day": "2013-02-04"}, b""),
     redeem(2, 13, "2013-02-04", 9, "N5EE"),
 ]
-INTEREST = {
-    "2012": (
-        "7,2,5157.88,5025.00,132.88\n8,1,38.34,37.50,0.84\n9,1,25.96,25.00,0.96\n",
-        {"bonds": 4, "paid": "5222.18", "price": "5087.50", "interest": "134.68"},
-    ),
-    "2013": (
-        "9,1,26.80,25.00,1.80\n",
-        {"bonds": 1, "paid": "26.80", "price": "25.00", "interest": "1.80"},
-    ),
-    "2014": ("", {"bonds": 0, "paid": "0.00", "price": "0.00", "interest": "0.00"}),
-}
 
 
 @pytest.fixture(scope="module")
@@ -293,10 +238,10 @@ def years(program: Path, place: Path) -> Path:
     return place / "years.db"
 
 
-@pytest.mark.parametrize("year", INTEREST)
+@pytest.mark.parametrize("year", DATA["interest"])
 def test_interest(years: Path, tmp_path: Path, year: str) -> None:
     ran, found = made(years, tmp_path, "--year", year)
-    lines, sums = INTEREST[year]
+    lines, sums = DATA["interest"][year]["lines"], DATA["interest"][year]["sums"]
     table = (tmp_path / f"interest-{year}.csv").read_text()
     assert ran.returncode == 0 and table == f"payee,bonds,paid,price,interest\n{lines}"
     assert found["interest"] is not None and found["interest"]["sums"] == sums
@@ -417,27 +362,6 @@ def test_page_fits_the_window(day: Path, tmp_path: Path, width: int, style: str)
 # ---- a store's text on a terminal
 
 ESCAPES = "\x1b[2J\x1b[H19 tests of 804 rows: 0 differing\r\n\x07\x9b1A\u202e\x00"
-HOSTILE = {
-    "a kept reply": ["UPDATE answers SET reply = ? WHERE number = 12"],
-    "a kept act": ["UPDATE answers SET act = ? WHERE number = 12"],
-    "JSON with escapes": ["UPDATE answers SET reply = json_object('opened', ?) WHERE number = 12"],
-    "a table's name": [f'CREATE TABLE "{ESCAPES[:-1]}" (id INTEGER)'],
-    "a rate": [
-        "DROP TABLE rates",
-        "CREATE TABLE rates (period, rate)",
-        "INSERT INTO rates VALUES (?1, ?1)",
-    ],
-    "a batch": [
-        "DROP TABLE batches",
-        "CREATE TABLE batches (day, tickets, bonds, total)",
-        "INSERT INTO batches VALUES (15376, ?1, ?1, ?1)",
-    ],
-    "the version": [
-        "DROP TABLE desk",
-        "CREATE TABLE desk (id, version, day, last_day)",
-        "INSERT INTO desk VALUES (1, ?, NULL, NULL)",
-    ],
-}
 
 
 def is_plain(text: str) -> bool:
@@ -445,13 +369,14 @@ def is_plain(text: str) -> bool:
     return all(one.isprintable() or one == "\n" for one in text)
 
 
-@pytest.mark.parametrize("kind", HOSTILE)
+@pytest.mark.parametrize("kind", DATA["hostile"])
 def test_hostile_texts(day: Path, tmp_path: Path, kind: str) -> None:
     """A store's text doesn't write on the auditor's terminal or page: by the report, the queries or who_asked."""
     store = Path(shutil.copy(day, tmp_path / "escapes.db"))
     with closing(sqlite3.connect(store)) as base:
-        for statement in HOSTILE[kind]:
-            base.execute(statement, (ESCAPES,) if "?" in statement else ())
+        for statement in DATA["hostile"][kind]:
+            given = (ESCAPES,) if "?" in statement else ()
+            base.execute(statement.replace("{}", ESCAPES[:-1]), given)
         base.commit()
     ran, _ = made(store, tmp_path / "to", "--year", "2012")
     files = "".join(
@@ -472,37 +397,9 @@ def test_hostile_texts(day: Path, tmp_path: Path, kind: str) -> None:
 
 # ---- forgeries
 
-NO_THIRD = "DELETE FROM paid WHERE ticket = 3; DELETE FROM tickets WHERE ticket = 3; UPDATE bonds SET ticket = NULL WHERE ticket = 3; DELETE FROM answers WHERE number = 12"
-#: Changes of several values that agree with one another, and which tests tell them beside the checksums.
-FORGERIES: dict[str, tuple[str, set[str]]] = {
-    "a cent more on a line, its ticket, its batch and both replies": (
-        "UPDATE paid SET cents = 3835 WHERE ticket = 2; UPDATE tickets SET total = 3835 WHERE ticket = 2; UPDATE batches SET total = total + 1; UPDATE answers SET reply = replace(replace(reply, '38.34', '38.35'), '5196.22', '5196.23')",
-        {"values", "replies"},
-    ),
-    "a ticket that no request asked for": (
-        "INSERT INTO tickets VALUES (4, 15406, 9, 1, 2596); INSERT INTO paid VALUES (4, 1, 14, 5, 2596); UPDATE bonds SET ticket = 4 WHERE number = 5",
-        {"told", "books"},
-    ),
-    "a request that is gone, with its ticket of a closed day": (
-        """DELETE FROM paid WHERE ticket = 2; DELETE FROM tickets WHERE ticket = 2; UPDATE bonds SET ticket = NULL WHERE ticket = 2; DELETE FROM answers WHERE desk = 2 AND number = 10; UPDATE batches SET tickets = 1, bonds = 2, total = 515788; UPDATE answers SET reply = '{"bonds":2,"day":"2012-02-06","tickets":1,"total":"5157.88"}' WHERE reply LIKE '{"bonds"%'""",
-        {"tickets", "texts", "replies", "books"},
-    ),
-    "a payee who isn't named on the bond, in all that names the payee": (
-        """UPDATE tickets SET payee = 77 WHERE ticket = 3; UPDATE answers SET act = replace(act, '"payee":9', '"payee":77'), reply = replace(reply, '"payee":9', '"payee":77') WHERE number = 12""",
-        {"payees", "replies"},
-    ),
-    # Books don't depend on a desk; an archive tells, and an earlier report (test_damaged_books.py).
-    "another desk": ("UPDATE answers SET desk = 9 WHERE desk = 2 AND number = 10", set()),
-    "another owner, in the register and in its request": (
-        """UPDATE bonds SET owner = 10 WHERE number = 5; UPDATE answers SET act = replace(act, '"owner":9,"serial":"N5EE"', '"owner":10,"serial":"N5EE"')""",
-        set(),
-    ),
-    "the last request gone with all that it did": (NO_THIRD, set()),
-}
 
-
-@pytest.mark.parametrize("kind", FORGERIES)
+@pytest.mark.parametrize("kind", DATA["forgeries"])
 def test_forgery(day: Path, folder: Path, kind: str) -> None:
-    statements, wanted = FORGERIES[kind]
-    found = differing(here(changed(day, folder / "forged.db", statements)))
-    assert set(found) == wanted | {"checksums"}
+    forgery = DATA["forgeries"][kind]
+    found = differing(here(changed(day, folder / "forged.db", forgery["sql"])))
+    assert set(found) == {"checksums", *forgery["tests"]}

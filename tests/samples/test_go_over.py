@@ -8,6 +8,7 @@ import signal
 import subprocess
 import sys
 import time
+import tomllib
 from pathlib import Path
 from typing import Any, Iterator, NamedTuple
 
@@ -308,36 +309,7 @@ def test_full_disk(old: Old, mount: Mount, more: int) -> None:
     assert (ran.returncode, ran.stdout, list(small.iterdir())) == (3, "", []), ran
 
 
-#: Programs that do something else than they are asked: what is said of each, and lines of Python over what goes in and comes out.
-WRONG = {
-    "loses a bond": (
-        "the new store differs",
-        """given = given.replace(b'{"serial":"L1EE","denom":50,"issued":"2010-11","owner":7},', b'')""",
-        """out = out.replace(b'"new":1,', b'"new":2,')""",
-    ),
-    "changes an owner": (
-        "the new store differs",
-        """given = given.replace(b'"owner":7}', b'"owner":9}', 1)""",
-        "",
-    ),
-    "changes a month": (
-        "the new store differs",
-        "given = given.replace(b'2010-11', b'2010-12')",
-        "",
-    ),
-    "shows a cent more": ("which is worth 27.56", "", "out = out.replace(b' 27.56', b' 27.57')"),
-    "shows another sum": ("has the sum", "", "out = out.replace(b'10535.56', b'10535.57')"),
-    "exports another coowner": (
-        "the export of customer",
-        "",
-        "out = out.replace(b',7,\\n', b',7,8\\n')",
-    ),
-    "enters another rate": (
-        "has other terms from 2005-05",
-        "words = [other_rates(word) for word in words]",
-        "",
-    ),
-}
+WRONG = tomllib.loads((Path(__file__).parent / "parts/wrong_programs.toml").read_text())
 FAKE = """#!{python}
 import re, subprocess, sys
 words, given = sys.argv[1:], b""
@@ -367,15 +339,15 @@ sys.exit(ran.returncode)
 
 def fake(old: Old, path: Path, before: str, after: str) -> Path:
     words = {"python": sys.executable, "program": str(old.program)}
-    return script(path, FAKE.format(**words, before=before or "pass", after=after or "pass"))
+    return script(path, FAKE.format(**words, before=before, after=after))
 
 
 @pytest.mark.parametrize("kind", WRONG)
 def test_wrong_program(old: Old, tmp_path: Path, kind: str) -> None:
     """Control: without its comparison the script takes what the program made."""
-    said, before, after = WRONG[kind]
-    program = fake(old, tmp_path / "fake", before, after)
-    old.refuses(1, said, program=program)
+    wrong = WRONG[kind]
+    program = fake(old, tmp_path / "fake", wrong["before"], wrong["after"])
+    old.refuses(1, wrong["said"], program=program)
     comparisons = [
         "    compare_terms(terms, new.terms)\n",
         "    compare_bonds(carried, new.bonds)\n",
@@ -394,7 +366,7 @@ def test_old_store_is_locked(old: Old, tmp_path: Path) -> None:
     words = [str(old.program), "export", "7", "--db", str(old.path)]
     said = f"subprocess.run({words!r}, stderr=subprocess.PIPE, text=True).stderr"
     program = fake(
-        old, tmp_path / "fake", f"open({str(tmp_path / 'tried')!r}, 'w').write({said})", ""
+        old, tmp_path / "fake", f"open({str(tmp_path / 'tried')!r}, 'w').write({said})", "pass"
     )
     assert old.go(program=program).returncode == 0
     assert (tmp_path / "tried").read_text() == "store: StoreFailed\n"

@@ -66,9 +66,9 @@ def test_lintian(packages: Packages) -> None:
     """No error and no warning. Control: without the overrides it has some."""
     lintian = ["lintian", "--allow-root", "--fail-on", "error,warning", "--tag-display-limit", "0"]
     ran = run(*lintian, *packages.debs)
-    assert ran.returncode == 0 and not re.search("^[EW]:", ran.stdout, re.M), ran
+    assert (ran.returncode, re.findall("^[EW]:.*$", ran.stdout, re.M)) == (0, [])
     ran = run(*lintian, "--no-override", *packages.debs)
-    assert ran.returncode != 0 and re.search("^[EW]:", ran.stdout, re.M), ran
+    assert ran.returncode != 0 and re.findall("^[EW]:.*$", ran.stdout, re.M)
 
 
 def test_overrides_have_reasons() -> None:
@@ -279,7 +279,8 @@ def test_signed(packages: Packages, folder: Path, keyring: dict[str, str]) -> No
     assert found is not None
     sign = found[1].replace("KEY", "release@bank.example")
     assert run("sh", "-c", sign, cwd=release, env=keyring).returncode == 0
-    checks = blocks("INSTALL", "Check that it is the proved one")[1].splitlines()
+    named = blocks("INSTALL", "Check that it is the proved one")
+    checks = next(block for block in named if "gpg --verify" in block).splitlines()
 
     def ends() -> list[bool]:
         return [

@@ -126,6 +126,9 @@ def bank(begun: Bank) -> Bank:
     m.shell("systemctl start counter.service")
     m.shell(page("restore", 0))
     begun.wait_until_served()
+    begun.load.start()
+    time.sleep(2)
+    begun.load.stop()
     return begun
 
 
@@ -260,7 +263,9 @@ def test_control_without_the_guard(bank: Bank, other: Machine, program: Path, fo
 
 def test_store_in_use(bank: Bank, other: Machine) -> None:
     """It is tried again after growing pauses, and served without a hand once it can be."""
-    other.shell("cp -p good/day.db* /var/lib/counter/; systemctl reset-failed counter.service")
+    other.shell(
+        "cp -p good/day.db good/day.db-wal /var/lib/counter/; systemctl reset-failed counter.service"
+    )
     other.shell(
         f"systemd-run -q --unit other -p User=counter /opt/counter/ee_cli serve --db {STORE} --port 9999"
     )
