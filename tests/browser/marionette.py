@@ -32,7 +32,7 @@ COMMANDS = dict(
     w3cAcceptAlert:AcceptAlert screenshot:TakeScreenshot printPage:Print
 """.split()
 )
-#: No page of Mozilla's is asked for, and a page's data is kept without a question.
+#: No page of Mozilla's is asked for, a page's data is kept without a question, and scrollbars take no room, as on a phone.
 PREFERENCES = {
     "marionette.port": 0,
     "app.update.enabled": False,
@@ -48,6 +48,7 @@ PREFERENCES = {
     "network.connectivity-service.enabled": False,
     "intl.accept_languages": "en-US",
     "layout.css.devPixelsPerPx": "1",
+    "ui.useOverlayScrollbars": 1,
     "toolkit.startup.max_resumed_crashes": -1,
 }
 
@@ -136,6 +137,8 @@ class Firefox:
             wanted = words["capabilities"]["alwaysMatch"]
             known = ("acceptInsecureCerts", "pageLoadStrategy", "unhandledPromptBehavior")
             words = {name: wanted[name] for name in known if name in wanted}
+        elif command == "screenshot":
+            words["full"] = False
         elif command.startswith("findChild"):
             words["element"] = words.pop("id")
         name = COMMANDS.get(command, command[0].upper() + command[1:])

@@ -147,7 +147,9 @@ def test_usual_day(bank: Bank, new_page: NewPage) -> None:
     with bank.gate.changes("/batch/", lambda text: b""):
         page.type("#open-date", "2012-02-14")
         page.press("#open-day button")
-        page.waits_for("The counter didn't answer: something else did (status 502).", "#notices")
+        page.waits_for(
+            "The counter didn't answer: it is starting, or has too much to do.", "#notices"
+        )
     assert len(bank.gate.bodies) == sent and not page.is_shown(
         "#confirm"
     ), "no day is opened blindly"

@@ -271,13 +271,6 @@ def test_repeats_passed_on_are_found(bank: Bank, new_page: NewPage) -> None:
 
 # ---- certificates
 
-#: What the page says of a first attempt without a certificate.
-FIRST = """
-    const { STEPS } = await import(new URL("/teller/words.js", location.origin));
-    const request = { path: "/redeem", fields: { serials: ["L7EE"], payee: 7 }, sent: 1 };
-    return STEPS.pausing({ request, answer: { kind: "forbidden", why: "certificate" }, milliseconds: 500 });
-"""
-
 
 def test_revoked_while_paying(bank: Bank, page: Page, new_page: NewPage) -> None:
     """The user's certificate is revoked while a teller works: the page says so, and keeps the request and what was typed. With another certificate it is paid, once."""
@@ -291,8 +284,6 @@ def test_revoked_while_paying(bank: Bank, page: Page, new_page: NewPage) -> None
     page.waits_for(NO_CERTIFICATE, "#progress")
     page.waits_for("sent again in 4 seconds", "#progress")
     assert "Put in your card" in page.text("#progress")
-    says, why = page.run_module(FIRST)[:2]
-    assert "This attempt did nothing." in says and NO_CERTIFICATE in why and "earlier" not in why
     assert bank.gate.bodies == [] and page.value("#serial") == "K-9"
     assert page.box("L7EE").is_selected()
     still = page.journal()["open"]

@@ -195,8 +195,11 @@ def covered(page: Page) -> list[str]:
     for back in (False, True):
         for _ in range(20):
             page.tab(back)
-            found.append(page.run(COVERED))
-    return [one for one in found if one is not None]
+            if page.run(COVERED):
+                # A browser may scroll a little later.
+                page.sleep(0.5)
+                found.append(page.run(COVERED))
+    return [one for one in found if one]
 
 
 def test_notices_in_a_narrow_window(page: Page) -> None:

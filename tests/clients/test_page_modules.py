@@ -121,6 +121,19 @@ def test_words_of_nginx() -> None:
     assert len({says for says, _ in sentences}) == len(dict(REASONS))
 
 
+#: What the page says of a first attempt without a certificate.
+FIRST = """
+    const request = { path: "/redeem", fields: { serials: ["L7EE"], payee: 7 }, sent: 1 };
+    return page.STEPS.pausing({ request, answer: { kind: "forbidden", why: "certificate" }, milliseconds: 500 });
+"""
+
+
+def test_words_of_a_first_attempt() -> None:
+    says, why = in_node(FIRST)[:2]
+    assert "This attempt did nothing." in says and "earlier" not in why
+    assert "This browser sent no certificate of the staff, or it was revoked or has run out." in why
+
+
 def test_entries() -> None:
     """Only 32 hex digits are an entry of the log; without a header there is none."""
     other = "fedcba9876543210" * 2

@@ -427,21 +427,6 @@ def test_refused_payments(bank: Bank, page: Page) -> None:
     assert page.complaints() == []
 
 
-@pytest.mark.slow
-def test_full_day(bank: Bank, page: Page) -> None:
-    """1,000 tickets on one day."""
-    bank.registers_many(20, 1000, "F")
-    for number in range(1, 1000):
-        bank.pays(20, f"F{number}EE")
-    page.show_sheet(20)
-    page.choose("F1000EE")
-    page.pay()
-    refused(page, "The day has reached its limit of 1,000 tickets.", 44)
-    page.close_day(patience=240)
-    page.waits_for("Batch of February 6, 2012", "#batch h2")
-    assert "1,000" in page.text("#batch dl")
-
-
 # ---- the keyboard alone
 
 
