@@ -135,7 +135,7 @@ class Documented:
         self.serials = [f"L{self.count}EE", f"K{self.count}EE"]
         other.add_bonds([client.Bond(self.serials[0], 50, "2010-11", 7)])
         other.add_bonds([client.Bond(self.serials[1], 75, "2010-10", 7)])
-        changes = {"2012-02-06": self.day, "L1EE": self.serials[0], "K2EE": self.serials[1]}
+        changes = {"2026-11-30": self.day, "L1EE": self.serials[0], "K2EE": self.serials[1]}
         changes["http://127.0.0.1:8377"] = self.true.address
         changes["timeout=60"] = 'timeout=60, archive="desk3.archive"'
         program = self.text

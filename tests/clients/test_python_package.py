@@ -140,9 +140,9 @@ def test_document(venv: Venv) -> None:
     interest, pool, own = blocks("python")[1:4]
     assert venv.run(venv.python, "-c", interest)[:2] == (0, blocks("")[2])
     assert "NoOpenDay" in venv.run(venv.python, "-c", pool)[2]
-    assert venv.run(venv.python, "-c", own)[1] == "25.16 2 1\n"
-    words = ("--journal", "desk9.journal", "--desk", "9", "batch", "2012-02-06")
-    batch = (0, '{"bonds":2,"day":"2012-02-06","tickets":1,"total":"63.23"}\n')
+    assert venv.run(venv.python, "-c", own)[1] == "27.56 2 1\n"
+    words = ("--journal", "desk9.journal", "--desk", "9", "batch", "2026-11-30")
+    batch = (0, '{"bonds":2,"day":"2026-11-30","tickets":1,"total":"74.51"}\n')
     commands: list[list[object]] = [[venv.place / "venv/bin/counter-client"]]
     commands += [[venv.python, "-m", "ee_counter_client"], [PYTHON, TOP / "clients/counter.py"]]
     shutil.copy(TOP / "clients/counter.py", venv.place)
