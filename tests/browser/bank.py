@@ -163,9 +163,6 @@ class Books:
     def tickets(self, columns: str = "payee, bonds, total") -> list[tuple[Any, ...]]:
         return self.rows(f"SELECT {columns} FROM tickets ORDER BY ticket")
 
-    def close(self) -> None:
-        self.database.close()
-
 
 class Bank:
     """All of it, in a folder of its own."""
@@ -174,7 +171,7 @@ class Bank:
         self.folder = folder
         self.store = folder / "day.db"
         self.server = Server(program, self.store)
-        self.gate = Gate(self.server)
+        self.gate = Gate(self.server.port, self.server.kill)
         self.users = {USER: GROUPS}
         #: The page, which a test may change.
         self.teller = folder / "teller"
@@ -281,5 +278,5 @@ class Bank:
     def end(self) -> None:
         for front in self.fronts:
             front.end()
-        self.gate.end()
+        self.gate.close()
         self.server.end()

@@ -8,9 +8,10 @@ import time
 from typing import Callable
 
 import pytest
+from ee_counter_client.testing.gate import AFTER, BEFORE
 
 from tests.browser.bank import DAY, RATE, USER, Bank, Front
-from tests.browser.gate import AFTER, BEFORE, Relay
+from tests.browser.gate import Relay
 from tests.clients.conftest import NewPage
 
 pytest.importorskip("selenium")
@@ -18,7 +19,7 @@ from tests.browser.page import EARLIER, VALUES, Page, dollars
 
 pytestmark = [pytest.mark.browser, pytest.mark.nginx]
 SUM = sum(VALUES.values())
-FAULTS = [fault for fault in AFTER + BEFORE if fault != "silent"]
+FAULTS = [fault for fault in AFTER + BEFORE if fault not in ("silent", "dripping")]
 ONE_TICKET = "SELECT count(*) FROM tickets"
 
 
@@ -236,7 +237,7 @@ def reset_while_paying(
     page.show_sheet(7)
     page.choose(serial)
     bank.gate.bodies.clear()
-    bank.gate.faults = ["reset", *then]
+    bank.gate.faults = ["lost answer", *then]
     page.pay()
     return page
 

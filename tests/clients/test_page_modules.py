@@ -10,7 +10,6 @@ from typing import Any
 import pytest
 
 from tests.browser.bank import OLDEST, PAGE, TOO_YOUNG, UNISSUED, Bank
-from tests.browser.gate import ENTRY
 from tests.conftest import TOP
 
 pytestmark = pytest.mark.needs("node")
@@ -132,6 +131,9 @@ def test_words_of_a_first_attempt() -> None:
     says, why = in_node(FIRST)[:2]
     assert "This attempt did nothing." in says and "earlier" not in why
     assert "This browser sent no certificate of the staff, or it was revoked or has run out." in why
+
+
+ENTRY = "0123456789abcdef" * 2
 
 
 def test_entries() -> None:

@@ -3,9 +3,9 @@
 from __future__ import annotations
 
 import pytest
+from ee_counter_client.testing.gate import response
 
 from tests.browser.bank import DAY, TOO_YOUNG, UNISSUED, Bank, bond
-from tests.browser.gate import answer
 from tests.clients.conftest import NewPage
 
 pytest.importorskip("selenium")
@@ -213,7 +213,7 @@ def test_bonds_added(bank: Bank, page: Page) -> None:
 def test_sum_differs(bank: Bank, page: Page) -> None:
     """A sheet that isn't the counter's own, as another program might give it: the ticket's total is what was paid, and the page says so."""
     later = bank.ask("GET", "/inventory/7/2012-08")[1].encode()
-    with bank.gate.changes("/inventory/7/", lambda text: answer(b"200 OK", later, b"text/plain")):
+    with bank.gate.changes("/inventory/7/", lambda text: response(b"200 OK", b"text/plain", later)):
         page.show_sheet(7)
     page.choose("K7EE")
     assert dollars(K) not in page.pay(), "another sum was confirmed"
@@ -402,7 +402,7 @@ def test_refused_payments(bank: Bank, page: Page) -> None:
         ("Q7EE", 7, later, "Bond Q7EE isn't issued yet in the month of the open day.", 53),
         ("N7EE", 7, later, "Bond N7EE is less than 12 months old.", 54),
     ):
-        false = answer(b"200 OK", sheet, b"text/plain")
+        false = response(b"200 OK", b"text/plain", sheet)
         with bank.gate.changes("/inventory/7/", lambda text: false):
             page.go("pay")
             page.add(owner, serial)

@@ -6,9 +6,9 @@ import json
 from pathlib import Path
 
 import pytest
+from ee_counter_client.testing.gate import JSON, response
 
 from tests.browser.bank import DAY, USER, Bank, bond
-from tests.browser.gate import answer
 from tests.clients.conftest import NewPage
 from tests.clients.test_page_days import DAY_BUTTONS
 
@@ -109,7 +109,7 @@ def test_walk_in_interrupted(bank: Bank, page: Page, reloads: bool) -> None:
         owner, sent = 1000 + ticket, len(bank.gate.bodies)
         type_two(page, owner)
         walk_in(page, owner)
-        bank.gate.faults = [None] * place + [fault] + (["lost request"] if reloads else [])
+        bank.gate.passes, bank.gate.faults = place, [fault, *["lost request"] * reloads]
         page.run(STEPS)
         if reloads:
             page.run(HELD)
@@ -136,7 +136,7 @@ def test_walk_in_once(bank: Bank, page: Page) -> None:
     page.asks()
     page.sleep(2)
     assert bank.gate.bodies == []
-    bank.gate.faults = [None, *["lost answer"] * 2, *["lost request"] * 20]
+    bank.gate.passes, bank.gate.faults = 1, ["lost answer"] * 2 + ["lost request"] * 20
     page.press("#confirm-yes")
     page.waits_for("Paying 2 bonds to customer 7: no reply yet.", "#progress")
     assert not any(button.is_enabled() for button in page.all("#walkin fieldset.acts button"))
@@ -184,7 +184,7 @@ def test_walk_in_refused(bank: Bank, page: Page) -> None:
         "Ask a registrar.",
         "No bond was registered, and nothing was paid.",
     )
-    bank.gate.faults = [None, "forbidden"]
+    bank.gate.passes, bank.gate.faults = 1, ["forbidden"]
     confirm(page)
     two = "2 bonds were registered. None of them was paid."
     assert "Nothing was" not in page.refuses("This user may not pay bonds.", two)
@@ -261,7 +261,7 @@ def test_walk_in_typed(bank: Bank, page: Page) -> None:
     page.type_walk_in("C8EE", "100", "09/2011")
     young = "it is less than 12 months old."
     page.waits_for(f"Bond C8EE can't be paid in February 2012: {young}", "#notices")
-    no_rate = answer(b"409 Conflict", b'{"code":30,"refused":"NoRate"}')
+    no_rate = response(b"409 Conflict", JSON, b'{"code":30,"refused":"NoRate"}')
     with bank.gate.changes("/value/", lambda text: no_rate):
         page.type_walk_in("C8EE", "100", "10/2011")
         missing = "No rate is entered for the month in which a bond was issued."
@@ -300,7 +300,7 @@ def test_walk_in_beside(bank: Bank, page: Page) -> None:
     page.shows_sum(1, VALUES["L"])
     type_two(page, 22)
     walk_in(page, 22)
-    bank.gate.faults = [None, "lost answer", *["lost request"] * 20]
+    bank.gate.passes, bank.gate.faults = 1, ["lost answer"] + ["lost request"] * 20
     page.press("#confirm-yes")
     page.waits_for("sent again in 2 seconds", "#progress")
     page.show_sheet(9)

@@ -69,59 +69,51 @@ def test_words_in_one_file(bank: Bank, new_page: NewPage) -> None:
     bank.registers(TOO_YOUNG)
     page = new_page(None)
     page.until(lambda: page.is_shown("#start"), "the page has started")
+    found: list[str] = []
+    press = page.press
+
+    def looks_and_presses(selector: str) -> None:
+        found.extend(page.run(LOOSE))
+        press(selector)
+
+    setattr(page, "press", looks_and_presses)
     page.type("#desk", "5")
     page.press("#start button")
-    found: list[str] = []
-
-    def look() -> None:
-        found.extend(page.run(LOOSE))
-
-    look()
     page.join_day(DAY)
     page.waits_for("This desk joined")
-    look()
     page.show_sheet(7)
     page.choose("L7EE")
     page.add(9, "K9EE")
     page.ask_to_add("x", "x")
-    look()
     page.ask_to_pay()
-    look()
     bank.gate.faults = ["lost request"]
     page.press("#confirm-yes")
     page.waits_for("no reply yet", "#progress")
-    look()
+    found += page.run(LOOSE)
     page.waits_for("neither the owner", "#notices")
-    look()
     page.go("walkin")
     page.type_walk_in("D12EE", "50", "11/2010")
     page.until(lambda: page.all("#walkin-bonds li") != [], "the bond is in the list")
     page.type("#walkin-owner", "12")
     page.press("#walkin-button")
     page.asks()
-    look()
     page.asked_without_doubt()
-    look()
     page.press("#confirm-no")
     page.go("pay")
     page.press("#others button")
     page.pay(7)
     page.waits_for("Ticket 1", "#ticket h2")
     page.settled()
-    look()
     page.ask_to_close()
-    look()
     page.press("#confirm-yes")
     page.waits_for("Tickets of", "#batch")
-    look()
     page.ask_to_open("2121-02-06")
-    look()
     page.press("#confirm-no")
     page.go("interest")
     page.type("#interest-day", DAY)
     page.press("#ask-interest-day button")
     page.until(lambda: page.all("#interest-of table") != [], "the interest of the day")
-    look()
+    found += page.run(LOOSE)
     assert sorted({text.strip() for text in found if outside(text)}) == [] and len(found) > 300
     assert page.run("return document.documentElement.lang") == "xx"
     assert page.run_module(UNKNOWN) == [], "the page knows each of the bank's words"
