@@ -19,8 +19,16 @@ TOP = Path(__file__).resolve().parents[1]
 MEMORY = Path("/dev/shm") if os.path.isdir("/dev/shm") else Path(tempfile.gettempdir())
 #: The commands that a marker needs, with Debian's packages.
 COMMANDS = {
-    "browser": {"chromedriver": "chromium-driver", "firefox-esr": "firefox-esr"},
-    "nginx": {"nginx": "nginx-light", "openssl": "openssl"},
+    "browser": {
+        "chromedriver": "chromium-driver",
+        "firefox-esr": "firefox-esr",
+        "certutil": "libnss3-tools",
+    },
+    "nginx": {
+        "nginx": "nginx-light",
+        "openssl": "openssl",
+        "/usr/share/easy-rsa/easyrsa": "easy-rsa",
+    },
     "machine": {"debootstrap": "debootstrap", "unshare": "util-linux"},
 }
 #: The commands that a test names itself: pytest.mark.needs("strace", "module:selenium").
@@ -28,7 +36,6 @@ PACKAGES = {
     "cc": "gcc and libc6-dev",
     "mkfs.btrfs": "btrfs-progs",
     "mkfs.xfs": "xfsprogs",
-    "certutil": "libnss3-tools",
     "pdftotext": "poppler-utils",
     "Xvfb": "xvfb",
     "cobc": "gnucobol3",

@@ -27,7 +27,7 @@ pytestmark = [
     pytest.mark.browser,
     pytest.mark.nginx,
     pytest.mark.slow,
-    pytest.mark.needs("certutil", "Xvfb", "xdotool"),
+    pytest.mark.needs("Xvfb", "xdotool"),
 ]
 GROUPS = {"anna": "teller", "bert": "supervisor"}
 DAY = "2012-02-06"
