@@ -19,7 +19,6 @@ VERDICT = "logic=proved functions=9 axioms=63 target=x86_64-unknown-linux-gnu cp
 KEPT = f"{VERDICT} incremental=trusted"
 #: How the gate says that all was done in its run, or that some wasn't.
 ALL_ANEW = "every proof and must-fail edit was done in this run"
-SOME_KEPT = "done in this run: 3 of the 40 proofs; the others are kept from earlier runs of the same files on this machine"
 #: A log of ./ee_cli: the crates with their last lines, the program's own last, and a summary.
 PROOF = f"""crate ee_io: modules loaded=0 checked=3
 logic=proved functions=3 sum=dac8208d650f15bf

@@ -4,23 +4,21 @@ from __future__ import annotations
 
 import os
 import re
+import tomllib
 from pathlib import Path
-from typing import Callable, Iterator
+from typing import Iterator
 
 import pytest
 
 from tests.samples.books import script
 from tests.samples.releases import (
-    ALL_ANEW,
     KEPT,
     PROGRAM,
     PROOF,
-    SOME_KEPT,
     VERDICT,
     Packages,
     Tree,
     library_in,
-    with_line,
     without,
 )
 
@@ -99,64 +97,7 @@ def test_forged_library(tree: Tree, folder: Path, none: Path) -> None:
 # ---- logs
 
 
-def lines(log: str, alter: Callable[[list[str]], list[str]]) -> str:
-    return "\n".join(alter(log.splitlines()))
-
-
-def others(log: str) -> str:
-    return re.sub(r"(sources of ee_cli) [0-9a-f]{8}", r"\1 00000000", log)
-
-
-NO_VERDICT = f"is no verdict from nothing by rattle-kit-13f logic dac8208d650f15bf: {KEPT}"
-COUNT = "crates and must-fail edits, and it ends with"
-#: Logs that are no verdict on the program, each with what is said of it.
-LOGS: dict[str, tuple[str, Callable[[str], str]]] = {
-    "of other sources": ("it isn't of these sources", others),
-    "of sources that changed while it ran": (
-        "it isn't of these sources",
-        lambda log: lines(log, lambda found: [others(log).splitlines()[0], *found[1:]]),
-    ),
-    "of another program": (
-        "isn't the program that it ends with",
-        lambda log: lines(log, lambda found: [*found[:-1], f"packaging: program {'0' * 64}"]),
-    ),
-    "of a gate that was stopped": (
-        "it isn't of these sources",
-        lambda log: lines(log, lambda found: found[:-4]),
-    ),
-    "as rt alone prints it": (
-        "it isn't of these sources",
-        lambda log: lines(log, lambda found: found[2:-3]),
-    ),
-    "of the small program": (
-        "it has no proof of ee_cli",
-        lambda log: log.replace("== ee_cli\n", "== ee_cli_other\n"),
-    ),
-    "over kept proofs of the program": (
-        f"its line on ee_cli {NO_VERDICT}",
-        lambda log: with_line(log, "ee_cli", KEPT),
-    ),
-    "over kept proofs of the library": (
-        f"its line on ee_value_c {NO_VERDICT}",
-        lambda log: with_line(log, "ee_value_c", KEPT),
-    ),
-    "by another toolchain": (
-        "is no verdict from nothing by rattle-kit-13f",
-        lambda log: log.replace("sum=dac8208d650f15bf", "sum=0123456789abcdef"),
-    ),
-    "with kept proofs": (
-        "it doesn't say that every proof",
-        lambda log: log.replace(ALL_ANEW, SOME_KEPT),
-    ),
-    "with fewer crates and wrong bodies": (
-        COUNT,
-        lambda log: re.sub(r"[0-9]+ passed", "12 passed", log),
-    ),
-    "of a gate that failed": (
-        COUNT,
-        lambda log: log.replace(" passed, 0 failed", " passed, 1 failed"),
-    ),
-}
+LOGS = tomllib.loads((Path(__file__).parent / "parts/logs.toml").read_text())
 
 
 @pytest.fixture
@@ -168,10 +109,11 @@ def log(tree: Tree, folder: Path) -> Path:
 
 @pytest.mark.parametrize("kind", LOGS)
 def test_wrong_log(tree: Tree, log: Path, none: Path, kind: str) -> None:
-    said, alter = LOGS[kind]
-    text = alter(log.read_text())
-    assert text != log.read_text()
+    wrong = LOGS[kind]
+    text, count = re.subn(wrong["old"], wrong["new"], log.read_text())
+    assert count and text != log.read_text()
     log.write_text(text)
+    said = wrong["said"].replace("KEPT", KEPT)
     tree.refuses(none, said, "--ci-log", log, *by_library(tree))
 
 
@@ -218,7 +160,7 @@ def test_proved_by_a_stub(
     tree.build_library()
     (tree.path / PROGRAM).unlink()
     wanted = tree.gate_log()
-    (folder / "printed").write_text(lines(wanted, lambda found: found[2:-3]) + "\n")
+    (folder / "printed").write_text("".join(wanted.splitlines(keepends=True)[2:-3]))
     (folder / "stub").mkdir()
     fails = "" if is_right else 'echo "0 passed, 1 failed"; exit 1\n'
     says = f'[ "$*" = "ci --anew" ] || exit 2\n{fails}mkdir -p crates/ee_cli/out\n'

@@ -224,6 +224,22 @@ def test_torn(busy: Busy, folder: Path) -> None:
     assert beside_the_log(file) == len(acknowledged) >= 60
 
 
+def test_copies_at_a_stop(program: Path, folder: Path) -> None:
+    """Where there are no snapshots: stop, copy both files, start, while clients ask on."""
+    busy = Busy(program, folder / "day.db", 8000, pause=0.005)
+    for nth in range(3):
+        busy.load.start()
+        time.sleep(0.5)
+        acknowledged = dict(busy.load.replies)
+        busy.stop()
+        copy = copied(busy.path, folder / str(nth))
+        busy.start()
+        time.sleep(0.2)
+        busy.load.stop()
+        busy.is_right(copy, acknowledged)
+    busy.stop()
+
+
 # ---- samples/copy_store
 
 BETWEEN = (

@@ -1,4 +1,4 @@
-"""Copies of a store while it is served: snapshots of btrfs, what samples/snapshots/snapshot_copy sends and keeps, samples/copy_store on each file system, and copies of both files at a stop."""
+"""Copies of a store while it is served: snapshots of btrfs, what samples/snapshots/snapshot_copy sends and keeps, and samples/copy_store on each file system."""
 
 from __future__ import annotations
 
@@ -204,17 +204,3 @@ def test_copy_store(
         busy.stop()
     for nth, acknowledged in enumerate(taken, 1):
         busy.is_right(folder / str(nth) / "day.db", acknowledged)
-
-
-def test_copies_at_a_stop(program: Path, folder: Path) -> None:
-    """Where there are no snapshots: stop, copy both files, start, while clients ask on."""
-    busy = Busy(program, folder / "day.db", BONDS, pause=0.005)
-    for nth in range(3):
-        acknowledged = while_clients_redeem(busy, 0.5)
-        busy.stop()
-        copy = copied(busy.path, folder / str(nth))
-        busy.start()
-        time.sleep(0.2)
-        busy.load.stop()
-        busy.is_right(copy, acknowledged)
-    busy.stop()

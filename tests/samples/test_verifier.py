@@ -7,8 +7,9 @@ import re
 import shutil
 import sys
 import time
+import tomllib
 from pathlib import Path
-from typing import Callable, Iterator
+from typing import Iterator
 
 import pytest
 
@@ -16,9 +17,7 @@ from tests.conftest import TOP
 from tests.restore.counter_day import run
 from tests.samples.books import script
 from tests.samples.releases import (
-    ALL_ANEW,
     KEPT,
-    SOME_KEPT,
     VERDICT,
     Packages,
     Tree,
@@ -35,6 +34,7 @@ VERIFIER = TOP / "packaging/verify"
 CHECKS = ("signature", "sums", "program", "verdict", "sources")
 GOOD = ["right"] * 5
 MAIN = "crates/ee_cli/src/main.rt"
+FORGERIES = tomllib.loads((Path(__file__).parent / "parts/forgeries.toml").read_text())
 
 
 class Keys:
@@ -160,29 +160,47 @@ class Forged:
         (found,) = self.folder.glob(pattern)
         return found
 
-    def add_byte(self) -> Forged:
-        with open(self.file("ladwenpik_*.deb"), "ab") as file:
-            file.write(b"\n")
-        return self
+    def do(self, step: str, *given: str) -> None:
+        """One step of parts/forgeries.toml."""
+        words = [one.replace("VERDICT", VERDICT).replace("KEPT", KEPT) for one in given]
+        deb = self.file("ladwenpik_*.deb")
+        if step == "byte":
+            deb.write_bytes(deb.read_bytes() + b"\n")
+        elif step == "sums":
+            self.sums()
+        elif step == "sign":
+            self.bank.keys.sign(words[0], self.folder)
+        elif step == "script":
+            self.with_script(deb)
+        elif step == "quote":
+            was, now = sum_of(self.bank.program), sum_of(
+                self.folder.parent / "opened/usr/bin/ee_cli"
+            )
+            change(self.file("*_evidence.txt"), f"{was}  usr/bin/ee_cli", f"{now}  usr/bin/ee_cli")
+        elif step == "touch":
+            (self.folder / words[0]).touch()
+        elif step == "unlink":
+            self.file(words[0]).unlink()
+        elif step == "write":
+            self.file(words[0]).write_text(words[1])
+        elif step == "replace":
+            change(self.file(words[0]), words[1], words[2])
+        elif step == "kept":
+            log = self.file("*_gate.log")
+            log.write_text(with_line(log.read_text(), words[0], KEPT))
+        else:
+            log = self.file("*_gate.log")
+            named = rf"(sources of {words[0]}) [0-9a-f]{{8}}"
+            text, count = re.subn(named, r"\1 00000000", log.read_text())
+            assert count and step == "other sources"
+            log.write_text(text)
 
-    def evidence(self, old: str, new: str) -> None:
-        change(self.file("*_evidence.txt"), old, new)
-
-    def log(self, old: str, new: str) -> None:
-        change(self.file("*_gate.log"), old, new)
-
-    def line(self, crate: str) -> None:
-        """The log's line on a crate is one over kept work."""
-        log = self.file("*_gate.log")
-        log.write_text(with_line(log.read_text(), crate, KEPT))
-
-    def with_script(self) -> tuple[str, str]:
-        """A script that answers as the program does takes its place. The sums of both."""
-        deb, tree = self.file("ladwenpik_*.deb"), self.folder.parent / "opened"
+    def with_script(self, deb: Path) -> None:
+        """A script that answers as the program does takes its place."""
+        tree = self.folder.parent / "opened"
         done("dpkg-deb", "-R", deb, tree)
         script(tree / "usr/bin/ee_cli", f'#!/bin/sh\nexec {self.bank.program} "$@"\n')
         done("dpkg-deb", "--root-owner-group", "-Znone", "-b", tree, deb)
-        return sum_of(self.bank.program), sum_of(tree / "usr/bin/ee_cli")
 
     def sums(self) -> None:
         """As a forger, or a careless builder, would: the evidence and SHA256SUMS have the sums of the files as they are."""
@@ -202,9 +220,9 @@ class Forged:
         named = "".join(f"{sum_of(path)}  {path.name}\n" for path in files)
         (self.folder / "SHA256SUMS").write_text(named)
 
-    def signed(self, by: str = "release") -> None:
+    def signed(self) -> None:
         self.sums()
-        self.bank.keys.sign(by, self.folder)
+        self.bank.keys.sign("release", self.folder)
 
     def is_refused(self, wrong: str, said: str) -> None:
         """The named checks alone are wrong."""
@@ -213,167 +231,38 @@ class Forged:
         assert status == 1 and said in found, found
 
 
-def script_with_its_sum(forged: Forged) -> None:
-    was, now = forged.with_script()
-    forged.evidence(f"{was}  usr/bin/ee_cli", f"{now}  usr/bin/ee_cli")
-
-
-def kept_everywhere(forged: Forged) -> None:
-    forged.line("ee_cli")
-    forged.evidence(f"checker    {VERDICT}", f"checker    {KEPT}")
-
-
-#: What a forger does, the checks that are wrong then, and what is said. The sums aren't put right, and nothing is signed.
-UNSIGNED: dict[str, tuple[Callable[[Forged], object], str, str]] = {
-    "a byte more": (Forged.add_byte, "sums", "hasn't the sum"),
-    "that with right sums": (
-        lambda forged: forged.add_byte().sums(),
-        "signature",
-        "the file was changed",
-    ),
-    "that signed by another key": (
-        lambda forged: forged.add_byte().signed("forger"),
-        "signature",
-        "not by the one that you named",
-    ),
-    "an expired key": (
-        lambda forged: forged.bank.keys.sign("expired", forged.folder),
-        "signature",
-        "its key has expired",
-    ),
-    "no signature": (
-        lambda forged: forged.file("SHA256SUMS.asc").unlink(),
-        "signature",
-        "isn't signed",
-    ),
-    "another package in the folder": (
-        lambda forged: (forged.folder / "ladwenpik_2.0.0-1_arm64.deb").touch(),
-        "sums program",
-        "doesn't name ladwenpik_2.0.0-1_arm64.deb",
-    ),
-    "a file less": (lambda forged: forged.file("python3-*.deb").unlink(), "sums", "isn't there"),
-}
-#: The same with all sums put right, signed by the right key.
-SIGNED: dict[str, tuple[Callable[[Forged], object], str, str]] = {
-    "a script in the program's place": (
-        Forged.with_script,
-        "program",
-        "isn't the file that the evidence names",
-    ),
-    "its sum in the evidence too": (script_with_its_sum, "verdict", "of another program"),
-    "kept proofs in log and evidence": (
-        kept_everywhere,
-        "verdict",
-        "no verdict from nothing on ee_cli",
-    ),
-    "kept proofs of the library": (
-        lambda forged: forged.line("ee_value_c"),
-        "verdict",
-        "no verdict from nothing on ee_value_c",
-    ),
-    "a line that the log doesn't have": (
-        lambda forged: forged.evidence(
-            f"checker    {VERDICT}", f"checker    {VERDICT.replace('63', '60')}"
-        ),
-        "verdict",
-        "another line of the checker",
-    ),
-    "a gate over kept proofs": (
-        lambda forged: forged.log(ALL_ANEW, SOME_KEPT),
-        "verdict",
-        "everything proved in that run",
-    ),
-    "files that differ from the commit": (
-        lambda forged: forged.evidence(
-            "nothing since the commit",
-            "these files differ from the commit:\n             samples/rates.csv",
-        ),
-        "verdict",
-        "files that differ from the commit",
-    ),
-    "no log": (
-        lambda forged: forged.file("*_gate.log").unlink(),
-        "verdict sources",
-        "0 files ladwenpik_*_gate.log",
-    ),
-    "a log of one line": (
-        lambda forged: forged.file("*_gate.log").write_text("316 passed, 0 failed\n"),
-        "verdict sources",
-        "no verdict from nothing on ee_cli",
-    ),
-    "a library that was named by hand": (
-        lambda forged: forged.evidence(
-            "built from these sources by clients/value/build, which checks them over kept work",
-            "NAMED BY --library: not known to be proved or built from these sources",
-        ),
-        "verdict",
-        "named by hand",
-    ),
-    "a log of other sources of the library": (
-        lambda forged: forged.file("*_gate.log").write_text(
-            re.sub(
-                "(sources of ee_value_c) [0-9a-f]{8}",
-                r"\1 00000000",
-                forged.file("*_gate.log").read_text(),
-            )
-        ),
-        "sources",
-        "other checksums than the gate's log names",
-    ),
-}
-
-
-@pytest.mark.parametrize("kind", UNSIGNED)
+@pytest.mark.parametrize("kind", FORGERIES["unsigned"])
 def test_changed_release(bank: Bank, folder: Path, kind: str) -> None:
-    alter, wrong, said = UNSIGNED[kind]
-    forged = Forged(bank, folder / "release")
-    alter(forged)
-    forged.is_refused(wrong, said)
+    forgery, forged = FORGERIES["unsigned"][kind], Forged(bank, folder / "release")
+    for step in forgery["do"]:
+        forged.do(*step)
+    forged.is_refused(forgery["wrong"], forgery["said"])
 
 
-@pytest.mark.parametrize("kind", SIGNED)
+@pytest.mark.parametrize("kind", FORGERIES["signed"])
 def test_signed_forgery(bank: Bank, folder: Path, kind: str) -> None:
-    alter, wrong, said = SIGNED[kind]
-    forged = Forged(bank, folder / "release")
-    alter(forged)
+    forgery, forged = FORGERIES["signed"][kind], Forged(bank, folder / "release")
+    for step in forgery["do"]:
+        forged.do(*step)
     forged.signed()
-    forged.is_refused(wrong, said)
+    forged.is_refused(forgery["wrong"], forgery["said"])
 
 
-#: A file of a later commit and what is changed there, and what is said of evidence that claims that commit.
-LATER: dict[str, tuple[str, str, str, str]] = {
-    "a stale proof": (MAIN, "//", "// changed since\n//", "have another checksum"),
-    "other axioms": (
-        "docs/ASSUMPTIONS.md",
-        "contracts of 63 functions",
-        "contracts of 62 functions",
-        "lists other axioms",
-    ),
-    "another toolchain": (
-        "README.md",
-        "rattle-kit-13f",
-        "rattle-kit-12a",
-        "names another toolchain",
-    ),
-    "a wrong body less": ("", "", "", "the gate's log counts others"),
-}
-
-
-@pytest.mark.parametrize("kind", LATER)
+@pytest.mark.parametrize("kind", FORGERIES["later"])
 def test_later_commit(bank: Bank, folder: Path, kind: str) -> None:
     """The checkout is at another commit than the release's. Evidence that claims that one is stale."""
-    name, old, new, said = LATER[kind]
-    if name:
-        change(bank.tree.path / name, old, new)
+    later = FORGERIES["later"][kind]
+    if later["name"]:
+        change(bank.tree.path / later["name"], later["old"], later["new"])
     else:
         next(bank.tree.path.glob("crates/ee_units/must-fail/*.edit")).unlink()
     now = bank.tree.commit(kind)
     try:
         forged = Forged(bank, folder / "release")
         forged.is_refused("sources", "the checkout is at")
-        forged.evidence(bank.commit, now)
+        forged.do("replace", "*_evidence.txt", bank.commit, now)
         forged.signed()
-        forged.is_refused("sources", said)
+        forged.is_refused("sources", later["said"])
     finally:
         bank.tree.git("reset", "--quiet", "--hard", bank.commit)
 

@@ -389,11 +389,14 @@ def requests_gone(w: World) -> Iterator[None]:
 
 @trouble("Gone: the witness")
 def witness_gone(w: World) -> Iterator[None]:
+    restart = "systemctl restart counter-witness.service"
     w.drop_in("counter-witness.service", "zzz", "Environment=WITNESS=false")
+    w.machine.follow(restart)
     yield
     wanted = {"archive /run/counter-witness"}
     gone = sources_gone(w, wanted)
     w.drop_in("counter-witness.service", "zzz")
+    w.machine.follow(restart)
     assert gone == wanted
 
 
