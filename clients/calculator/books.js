@@ -63,8 +63,9 @@ function repeatedOf(rows) {
   return rows.find((row) => known.has(row.serial) || !known.add(row.serial));
 }
 
+const named = (code, name, row, details = {}) => refusal(code, name, { serial: row.serial, row: row.row, ...details });
+
 function bondRefusal(books, rows) {
-  const named = (code, name, row, details = {}) => refusal(code, name, { serial: row.serial, row: row.row, ...details });
   if (rows.length === 0) return refusal(11, "Empty");
   const repeated = repeatedOf(rows);
   if (repeated !== undefined) return named(13, "Repeated", repeated);
@@ -88,6 +89,30 @@ function numbered(bonds, rows) {
     if (isUnnumbered(serial)) named.add(serial);
     return { ...row, serial };
   });
+}
+
+/**
+ * Parts the rows of a list into those that `withBonds` takes and those that it refuses, each with its refusal.
+ * @returns {{good: any[], refused: any[]}}
+ */
+export function partedBonds(books, rows) {
+  const known = new Set();
+  const [good, refused] = [[], []];
+  for (const row of rows) {
+    const is_named = row.serial !== null && !isUnnumbered(row.serial);
+    const one = is_named && known.has(row.serial) ? named(13, "Repeated", row) : refusalOf(books, row, is_named);
+    if (one === null) good.push(row);
+    else refused.push(one.refusal);
+    if (is_named && one === null) known.add(row.serial);
+  }
+  return { good, refused };
+}
+
+function refusalOf(books, row, is_named) {
+  if (row.coowner === row.owner) return named(14, "SameCoowner", row);
+  if (termsOf(books.rates, row.issued) === undefined) return named(30, "NoRate", row, { month: row.issued });
+  const held = is_named ? books.bonds.get(row.serial) : undefined;
+  return held !== undefined && !sameBond(held, row) ? named(31, "SerialConflict", row) : null;
 }
 
 // Adds bonds, all or none. Returns them as `rows`, and counts those that are new and those that the books have already.

@@ -1,26 +1,27 @@
-// Keeps the inventory, the rates and the month in this browser while the box is ticked. Nothing is written before what is there was read. If
+// Keeps the inventory and the rates in this browser while the box is ticked. Nothing is written before what is there was read. If
 // another tab wrote in the meantime, its changes and this tab's are merged; what can't be read or merged is left there, and the page says so.
 
 import { mergedBooks, NO_BOOKS, sortedBonds, withBonds, withRates } from "./books.js";
-import { byId } from "./elements.js";
+import { byId, write as writeText } from "./elements.js";
 import { readInventory, readRates, writeInventory, writeRates } from "./files.js";
-import { readRecord, replaceRecord } from "./kept_store.js";
+import { hasRecord, readRecord, replaceRecord } from "./kept_store.js";
 import { tell, tellFault } from "./notices.js";
 import { saveFile } from "./saving.js";
-import { monthText, readMonth } from "./spelling.js";
+import { monthText } from "./spelling.js";
 import { changeIfSettled, state } from "./state.js";
 import { TEXTS } from "./texts.js";
 import { ratesText, shippedText } from "./view_rates.js";
 
 const CHANNEL = new BroadcastChannel("savings-bond-calculator");
+const LOOK_MILLISECONDS = 5000;
 // What this tab last read or wrote.
-let base = { version: undefined, books: NO_BOOKS, month: 0 };
+let base = { version: undefined, books: NO_BOOKS };
 let is_on = false;
 let unreadable = null;
 // Reads and writes go one after another.
 let turn = Promise.resolve();
 
-const isWritten = () => state.books === base.books && state.month === base.month;
+const isWritten = () => state.books === base.books;
 
 /** Whether all that the page has is kept. */
 export function isKept() {
@@ -29,7 +30,7 @@ export function isKept() {
 
 function show() {
   byId("keep").checked = is_on;
-  byId("keep-state").textContent = !is_on ? "" : isWritten() ? TEXTS.keep_state.kept : TEXTS.keep_state.waiting;
+  writeText(byId("keep-state"), !is_on ? "" : isWritten() ? TEXTS.keep_state.kept : TEXTS.keep_state.waiting);
   byId("keep-left").hidden = unreadable === null;
 }
 
@@ -54,41 +55,48 @@ function sound({ faults = [], refusal, ...read }) {
   return read;
 }
 
-function booksOf({ inventory, rates, month }) {
-  if (![inventory, rates, month].every((text) => typeof text === "string")) throw new Error(TEXTS.kept_incomplete);
+function booksOf({ inventory, rates }) {
+  if (![inventory, rates].every((text) => typeof text === "string")) throw new Error(TEXTS.kept_incomplete);
   const rated = sound(withRates(NO_BOOKS, sound(readRates(bytesOf(rates))).rows, true)).books;
   const { rows } = sound(readInventory(bytesOf(inventory), Infinity));
   return rows.length === 0 ? rated : sound(withBonds(rated, rows)).books;
 }
 
 // Takes what another tab or an earlier visit kept. Throws the text of what is wrong.
-function take(record, month) {
+function take(record) {
   const found = booksOf(record);
   const merged = state.books === base.books ? found : sound(mergedBooks(base.books, state.books, found)).books;
-  const failure = changeIfSettled({ books: merged, month, is_shipped: writeRates(merged.rates) === shippedText(), is_saved: merged.bonds.size === 0 });
+  const failure = changeIfSettled({ books: merged, is_shipped: writeRates(merged.rates) === shippedText(), is_saved: merged.bonds.size === 0 });
   if (failure !== null) throw new Error(TEXTS.unvalued(failure));
-  base = { version: record.version, books: found, month };
+  base = { version: record.version, books: found };
+}
+
+// What was kept is gone, so the next time that the box is ticked all of it is written.
+function lose() {
+  base = { ...base, version: undefined };
+  stop(TEXTS.keep_ended);
 }
 
 function takeOther(record) {
-  if (record === undefined) return stop(TEXTS.keep_ended);
+  if (record === undefined) return lose();
   try {
-    take(record, state.month);
+    take(record);
   } catch (failure) {
     stop(TEXTS.keep_conflict(failure.message));
   }
 }
 
+// Earlier versions of the page want a month.
 function recordNow() {
   return { version: `${Date.now()} ${Math.random()}`, inventory: writeInventory(sortedBonds(state.books.bonds)), rates: ratesText(), month: monthText(state.month) };
 }
 
 async function write() {
   while (is_on && !(isWritten() && base.version !== undefined)) {
-    const { books, month } = state;
+    const { books } = state;
     const record = recordNow();
     if (await replaceRecord(base.version, record)) {
-      base = { version: record.version, books, month };
+      base = { version: record.version, books };
       CHANNEL.postMessage(record.version);
     } else {
       takeOther(await readRecord());
@@ -100,13 +108,18 @@ async function pull(version) {
   if (is_on && version !== base.version) takeOther(await readRecord());
 }
 
+// Whether what the page says it keeps is still there: the browser's data may have been cleared.
+async function look() {
+  if (is_on && isWritten() && !(await hasRecord())) lose();
+}
+
 // Removes what is kept. What another tab added to it is shown here first.
 async function remove() {
   while (!(await replaceRecord(base.version, null))) {
     const record = await readRecord();
     if (record === undefined) break;
     try {
-      take(record, state.month);
+      take(record);
     } catch (failure) {
       return stop(TEXTS.keep_conflict(failure.message));
     }
@@ -153,7 +166,7 @@ async function takeUp() {
   }
   if (record === undefined) return;
   try {
-    take(record, readMonth(record.month ?? "") ?? state.month);
+    take(record);
     is_on = true;
     if (record.version === undefined) await write();
     if (state.books.bonds.size > 0) tell(TEXTS.taken_up(state.books.bonds.size));
@@ -164,9 +177,13 @@ async function takeUp() {
 }
 
 export function beginKeeping() {
-  base = { ...base, books: state.books, month: state.month };
+  base = { ...base, books: state.books };
   byId("keep").addEventListener("change", toggle);
   byId("keep-save").addEventListener("click", () => saveFile(TEXTS.files.kept, textOf(unreadable), "text/plain"));
   CHANNEL.addEventListener("message", ({ data }) => later(pull, data));
+  const lookIfSeen = () => document.hidden || later(look);
+  for (const name of ["focus", "pageshow"]) addEventListener(name, lookIfSeen);
+  document.addEventListener("visibilitychange", lookIfSeen);
+  setInterval(lookIfSeen, LOOK_MILLISECONDS);
   return later(takeUp);
 }

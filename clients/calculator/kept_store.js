@@ -48,6 +48,11 @@ export async function readRecord() {
   return found ?? earlierRecord();
 }
 
+/** Returns whether a record is kept. */
+export async function hasRecord() {
+  return (await used((database) => resultOf(database.transaction(STORE).objectStore(STORE).getKey(RECORD)))) !== undefined;
+}
+
 /**
  * Writes a record, or removes it if `record` is null, provided that the record there has the version `version`. Returns whether it did. Rejects
  * if the browser refuses; the record there is then as it was.

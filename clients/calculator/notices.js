@@ -24,11 +24,17 @@ export function tellFault(text) {
   show(text, "refused", []);
 }
 
-// The first fault is the one that the counter names. `hints` are said after it.
-export function tellFaults(faults, hints = []) {
+// The first fault is the one that the counter names.
+export function tellFaults(faults) {
   const more = faults.slice(1, MOST_FAULTS).map(TEXTS.fault);
   const rest = faults.length > MOST_FAULTS ? [TEXTS.more_faults(faults.length - MOST_FAULTS)] : [];
-  show(`${TEXTS.nothing_added} ${TEXTS.fault(faults[0])}`, "refused", [...hints, ...more, ...rest]);
+  show(`${TEXTS.nothing_added} ${TEXTS.fault(faults[0])}`, "refused", [...more, ...rest]);
+}
+
+/** Tells of a list some of whose rows have to be mended: what was understood, and what is wrong with each row. */
+export function tellMending(text, wrong, hints = []) {
+  const rest = wrong.length > MOST_FAULTS ? [TEXTS.more_faults(wrong.length - MOST_FAULTS)] : [];
+  show(`${text} ${TEXTS.to_mend(wrong.length)} ${wrong[0]}`, "refused", [...hints, ...wrong.slice(1, MOST_FAULTS), ...rest]);
 }
 
 // What takes the keyboard is scrolled to below the box, and not under it.

@@ -5,6 +5,7 @@
 import { records } from "./csv.js";
 import { isNoSerial, looseDenom, looseIssue, looseSerial, looseSeries, plain } from "./loose.js";
 import { readCustomer } from "./spelling.js";
+import { atOnce } from "./turns.js";
 
 const BAD_VALUE = 72;
 const HEADINGS = {
@@ -28,6 +29,20 @@ const READERS = {
   owner: (text) => (text === "" ? undefined : readCustomer(text)),
   coowner: (text) => (text === "" ? undefined : readCustomer(text)),
 };
+const REMEMBERED = 10_000;
+
+// A reader that remembers: a list has few denominations and issue months.
+function remembering(read) {
+  const known = new Map();
+  return (text) => {
+    if (known.has(text)) return known.get(text);
+    const value = read(text);
+    if (known.size < REMEMBERED) known.set(text, value);
+    return value;
+  };
+}
+
+for (const column of ["series", "denom", "issued", "owner", "coowner"]) READERS[column] = remembering(READERS[column]);
 const has = (column) => (text) => (READERS[column](text ?? "") ?? null) !== null;
 
 // A comma within 1,000 or May 1, 2010 parts no cells.
@@ -143,6 +158,12 @@ function withoutNames(columns, lines) {
   return columns.map((column, place) => (isUseful(column, place) ? column : undefined));
 }
 
+// What the page writes above lines whose columns no headings name. The names of others mean nothing.
+const NAMES = { serial: "Serial", series: "Series", denom: "Denomination", issued: "Issued", owner: "Owner", coowner: "Coowner" };
+
+const quoted = (cell) => (/["\t\n]/.test(cell) ? `"${cell.replaceAll('"', '""')}"` : cell);
+const joined = (cells) => `${cells.map(quoted).join("\t")}\n`;
+
 function readLine(columns, { row, cells }, owner) {
   const values = { row, owner, coowner: undefined, serial: null };
   for (const column of ["serial", "series", "denom", "issued", "owner", "coowner"]) {
@@ -157,22 +178,54 @@ function readLine(columns, { row, cells }, owner) {
 }
 
 /**
- * Reads pasted text. Returns `rows` and `faults` as the readers of files do, and how it was understood: `good` (the bonds without a fault), `heading`
- * (a row or null), `ignored` (the headings or numbers of columns that aren't read), and `left` (the lines that are no bonds). A bond without owner
- * takes `owner`.
+ * Reads pasted text, and yields how far it is. Returns `rows` and `faults` as the readers of files do, and how it was understood: `good` (the bonds without
+ * a fault), `heading` (a row or null), `ignored` (the headings or numbers of columns that aren't read), and `left` (the lines that are no bonds); and `table`,
+ * `top` and `columns`, for `cellsOf`, `mended` and `leftOver`. A bond without owner takes `owner`.
+ * @returns {Generator<number, any>}
  */
-export function readPasted(text, owner) {
+export function* readingPasted(text, owner) {
+  yield 0;
   const table = split(text);
+  yield 0.3;
   const top = topOf(table);
   const rest = table.slice(top + 1);
   const isLeft = (line, place) => isOther(line, rest[place - 1], place === rest.length - 1);
   const lines = rest.filter((line, place) => !isLeft(line, place));
+  yield 0.5;
   const columns = withoutNames(completed(top < 0 ? [] : table[top].cells, lines), lines);
-  const read = lines.map((line) => readLine(columns, line, owner));
+  const read = [];
+  for (const line of lines) {
+    if (read.length % 500 === 0) yield 0.7 + (0.3 * read.length) / lines.length;
+    read.push(readLine(columns, line, owner));
+  }
   const faults = read.filter((one) => one.fault !== undefined).map((one) => one.fault);
   const isIgnored = (place) => columns[place] === undefined && lines.some(({ cells }) => (cells[place] ?? "") !== "");
   const ignored = [...columns.keys()].filter(isIgnored).map((place) => (top < 0 ? String(place + 1) : table[top].cells[place] || String(place + 1)));
   const left = [...table.slice(0, Math.max(top, 0)), ...rest.filter(isLeft)].map(({ row, cells }) => ({ row, text: cells.filter((cell) => cell !== "").join(" ") }));
   const good = read.filter((one) => one.fault === undefined).map((one) => one.values);
-  return { rows: faults.length > 0 ? [] : good, good, faults, heading: top < 0 ? null : table[top].row, ignored, left };
+  return { rows: faults.length > 0 ? [] : good, good, faults, heading: top < 0 ? null : table[top].row, ignored, left, table, top, columns };
+}
+
+/** Reads pasted text at once. */
+export function readPasted(text, owner) {
+  return atOnce(readingPasted(text, owner));
+}
+
+/** The texts of the columns that a row is read by. */
+export function cellsOf({ table, columns }, row) {
+  const { cells } = table.find((line) => line.row === row);
+  return Object.keys(NAMES).filter((column) => columns.includes(column)).map((column) => ({ column, text: cells[columns.indexOf(column)] ?? "" }));
+}
+
+/** The whole text, with another text in a column of a row. */
+export function mended({ table, columns }, row, column, text) {
+  const place = columns.indexOf(column);
+  const changed = (cells) => Array.from({ length: Math.max(cells.length, place + 1) }, (_, at) => (at === place ? text : cells[at] ?? ""));
+  return table.map((line) => joined(line.row === row ? changed(line.cells) : line.cells)).join("");
+}
+
+/** The text of these rows alone, below a line that names their columns. */
+export function leftOver({ table, top, columns }, rows) {
+  const names = top < 0 ? columns.map((column) => NAMES[column] ?? "Other") : table[top].cells;
+  return [names, ...table.filter((line) => rows.has(line.row)).map(({ cells }) => cells)].map(joined).join("");
 }

@@ -12,8 +12,8 @@ export function remarkOn(bond) {
 
 /** Returns how many bonds have a remark in a sentence, or an empty text, and a line for each of the first ones. `nameOf` names a bond. */
 export function remarksOn(bonds, nameOf) {
-  const found = bonds.map((bond) => [bond, remarkOn(bond)]).filter(([, remark]) => remark !== "");
-  const lines = found.slice(0, MOST_LINES).map(([bond, remark]) => `${nameOf(bond)}: ${remark}`);
+  const found = bonds.filter((bond) => doubtsOf(bond).length > 0);
+  const lines = found.slice(0, MOST_LINES).map((bond) => `${nameOf(bond)}: ${remarkOn(bond)}`);
   const rest = found.length > MOST_LINES ? [TEXTS.more_to_check(found.length - MOST_LINES)] : [];
   return { told: found.length === 0 ? "" : TEXTS.to_check(found.length), lines: [...lines, ...rest] };
 }

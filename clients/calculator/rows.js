@@ -22,11 +22,11 @@ function rateInForce(rates, bond, month, answer) {
 
 const orEmpty = (value, text) => (value === null ? "" : text(value));
 
-function rowOf(rates, bond, month, answer) {
+// A row without its serial number: bonds of one denomination and issue month share it.
+function sharedRow(rates, bond, month, answer) {
   const rate = rateInForce(rates, bond, month, answer);
   const [next, final] = [answer.nextAccrual, answer.finalMaturity].map((text) => (text === null ? null : monthOf(text)));
   const texts = {
-    serial: bond.serial,
     series: "EE",
     denom: String(bond.denom),
     issued: sheetMonthText(bond.issued),
@@ -39,20 +39,49 @@ function rowOf(rates, bond, month, answer) {
     note: answer.note,
   };
   const cents = { price: answer.priceCents, interest: answer.interestCents, value: answer.valueCents };
-  const keys = { ...cents, serial: serialOrder(bond.serial), series: 0, denom: bond.denom, issued: bond.issued, next: next ?? -1, final: final ?? -1, rate: rate ?? -1, note: answer.note };
-  return { bond, texts, cents, keys };
+  const keys = { ...cents, series: 0, denom: bond.denom, issued: bond.issued, next: next ?? -1, final: final ?? -1, rate: rate ?? -1, note: answer.note };
+  return { texts, cents, keys };
 }
 
-// The rows of bonds in a month, by one call of the library. Throws the Refused of a bond that has no answer.
+const kindOf = ({ denom, issued }) => issued * 16_384 + denom;
+
+// By kind, which is a denomination and an issue month: the answer for its bonds, by one call of the library, and how many there are. Throws the
+// Refused of the first bond that has no answer.
+function kindsAt(library, rates, bonds, month) {
+  const kinds = new Map();
+  for (const bond of bonds) {
+    const kind = kindOf(bond);
+    const known = kinds.get(kind);
+    if (known === undefined) kinds.set(kind, { bond, count: 1, answer: null });
+    else known.count += 1;
+  }
+  const listed = [...kinds.values()];
+  const answers = library.rows(listed.map(({ bond }) => questionOf(rates, bond, month)));
+  answers.forEach((answer, place) => {
+    if (answer instanceof Error) throw Object.assign(answer, { serial: listed[place].bond.serial });
+    listed[place].answer = answer;
+  });
+  return kinds;
+}
+
+// The rows of bonds in a month. Throws the Refused of a bond that has no answer.
 export function rowsAt(library, rates, bonds, month) {
-  const answers = library.rows(bonds.map((bond) => questionOf(rates, bond, month)));
-  return answers.map((answer, place) => {
-    if (answer instanceof Error) throw Object.assign(answer, { serial: bonds[place].serial });
-    return rowOf(rates, bonds[place], month, answer);
+  const kinds = kindsAt(library, rates, bonds, month);
+  for (const one of kinds.values()) one.row = sharedRow(rates, one.bond, month, one.answer);
+  return bonds.map((bond) => {
+    const { texts, cents, keys } = kinds.get(kindOf(bond)).row;
+    return { bond, texts: { serial: bond.serial, ...texts }, cents, keys: { serial: serialOrder(bond.serial), ...keys } };
   });
 }
 
-// The sums of price, interest and value.
+// The sums of price, interest and value of bonds in a month.
+export function totalsAt(library, rates, bonds, month) {
+  const kinds = [...kindsAt(library, rates, bonds, month).values()];
+  const sum = (name) => kinds.reduce((all, { answer, count }) => all + count * answer[`${name}Cents`], 0);
+  return Object.fromEntries(MONEY.map((name) => [name, sum(name)]));
+}
+
+// The sums of rows.
 export function totalsOf(rows) {
   return Object.fromEntries(MONEY.map((name) => [name, rows.reduce((sum, row) => sum + row.cents[name], 0)]));
 }
@@ -67,7 +96,9 @@ export function sortedRows(rows, column, is_falling) {
 
 // Rows of which a column's text has the words, that have the note (if it isn't null), and whose bond has the owner (if it isn't null).
 export function filteredRows(rows, { words, note, owner }) {
-  const wanted = words.trim().toUpperCase();
+  const typed = words.trim().toUpperCase();
+  // Money is looked for as the files have it.
+  const wanted = /^\$?[0-9][0-9,.]*$/.test(typed) ? typed.replace(/[$,]/g, "") : typed;
   const has = (row) => wanted === "" || COLUMNS.some((column) => row.texts[column].toUpperCase().includes(wanted));
   return rows.filter((row) => (note === null || row.texts.note === note) && (owner === null || row.bond.owner === owner) && has(row));
 }

@@ -1,7 +1,7 @@
 // What the page works on, and its changes. Whoever shows it subscribes; after every change all of it is shown anew.
 
 import { NO_BOOKS, sortedBonds } from "./books.js";
-import { filteredRows, rowsAt, sortedRows, totalsOf } from "./rows.js";
+import { filteredRows, rowsAt, sortedRows, totalsAt } from "./rows.js";
 
 export const state = {
   library: null,
@@ -53,5 +53,5 @@ export function changeIfSettled(changes) {
 
 // The value of all bonds in another month.
 export function totalsIn(month) {
-  return totalsOf(rowsAt(state.library, state.books.rates, sortedBonds(state.books.bonds), month));
+  return totalsAt(state.library, state.books.rates, [...state.books.bonds.values()], month);
 }

@@ -4,7 +4,7 @@
 
 import { element } from "./elements.js";
 import { COLUMNS, MONEY } from "./rows.js";
-import { moneyText } from "./spelling.js";
+import { dollarsText } from "./spelling.js";
 import { TEXTS } from "./texts.js";
 
 const GROUP = 50;
@@ -31,8 +31,14 @@ function write(node, text) {
   if (node.data !== text) node.data = text;
 }
 
+// Dollars as people write them; the files have them as the counter prints them.
+function shownText(row, column) {
+  if (column === "denom") return TEXTS.dollars(row.bond.denom);
+  return column in row.cents ? dollarsText(row.cents[column]) : row.texts[column];
+}
+
 function fill(nodes, row) {
-  COLUMNS.forEach((column, place) => write(nodes[place], row.texts[column]));
+  COLUMNS.forEach((column, place) => write(nodes[place], shownText(row, column)));
   write(nodes[COLUMNS.length], TEXTS.notes[row.texts.note]);
 }
 
@@ -46,7 +52,7 @@ function headings(sort) {
 }
 
 function totalRow(totals) {
-  const text = (column) => (MONEY.includes(column) ? moneyText(totals[column]) : "");
+  const text = (column) => (MONEY.includes(column) ? dollarsText(totals[column]) : "");
   const cells = COLUMNS.slice(1).map((column) => element("td", { role: "cell", class: column, "data-name": TEXTS.columns[column] }, text(column)));
   const name = element("th", { role: "rowheader", scope: "row", class: "serial" }, TEXTS.total_row);
   return element("tr", { role: "row" }, name, ...cells);

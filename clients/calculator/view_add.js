@@ -5,15 +5,18 @@ import { termsOf } from "./books.js";
 import { byId, options, write } from "./elements.js";
 import { INVENTORY, MOST_BYTES, readInventory } from "./files.js";
 import { isNoSerial, looseDenom, looseIssue, looseSerial, plain } from "./loose.js";
-import { tellFault, tellFaults } from "./notices.js";
+import { tellFault } from "./notices.js";
 import { remarkOn } from "./remarks.js";
 import { rowsAt } from "./rows.js";
 import { DENOMINATIONS, dollarsText, readCustomer } from "./spelling.js";
 import { state } from "./state.js";
 import { TEXTS } from "./texts.js";
+import { underBar } from "./turns.js";
 import { beginPasting, understandFile } from "./view_paste.js";
 
 const BAD_VALUE = 72;
+// A file of more bytes is read under a bar.
+const LONG = 40_000;
 
 // By field: the value of what was typed, or null.
 const READERS = {
@@ -80,21 +83,20 @@ function addTyped(event) {
   byId("serial").focus();
 }
 
-// Adds an inventory. A file with faults is read as pasted text too, since a spreadsheet may have written it.
+// Adds an inventory. A file with faults is read as a pasted list, since a spreadsheet or this page's table may have written it.
 function addBytes(bytes) {
   const read = readInventory(bytes);
-  if (read.faults.length > 0 && bytes.length <= MOST_BYTES && understandFile(new TextDecoder().decode(bytes))) {
-    tellFaults(read.faults, [TEXTS.file_understood]);
-    return;
-  }
-  addRows(read, true);
+  const is_list = read.faults.length > 0 && bytes.length <= MOST_BYTES && understandFile(new TextDecoder().decode(bytes));
+  if (!is_list) addRows(read, true);
 }
 
 async function addFile(event) {
   const [file] = event.target.files;
   if (file === undefined) return;
   try {
-    addBytes(new Uint8Array(await file.arrayBuffer()));
+    const bytes = new Uint8Array(await file.arrayBuffer());
+    if (bytes.length < LONG) addBytes(bytes);
+    else await underBar(() => addBytes(bytes));
   } catch (failure) {
     if (!(failure instanceof DOMException)) throw failure;
     tellFault(TEXTS.unreadable(file.name));

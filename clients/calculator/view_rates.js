@@ -6,7 +6,7 @@ import { byId, table } from "./elements.js";
 import { readRates, writeRates } from "./files.js";
 import { tell, tellFault, tellFaults } from "./notices.js";
 import { saveFile } from "./saving.js";
-import { monthText, rateText } from "./spelling.js";
+import { rateText, sheetMonthText } from "./spelling.js";
 import { changeIfSettled, state } from "./state.js";
 import { TEXTS } from "./texts.js";
 
@@ -20,7 +20,7 @@ export function showRates() {
   const { rates } = state.books;
   byId("rates-told").textContent = TEXTS.rates_told(rates.size, state.is_shipped);
   byId("shipped").hidden = state.is_shipped;
-  const rows = [...rates].map(([from, terms]) => [monthText(from), rateText(terms.rate), rateText(terms.extension)]);
+  const rows = [...rates].map(([from, terms]) => [sheetMonthText(from), rateText(terms.rate), rateText(terms.extension)]);
   byId("rate-table").replaceChildren(...table("", TEXTS.rate_columns, rows));
 }
 

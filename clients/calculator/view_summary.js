@@ -4,7 +4,7 @@ import { byId, element } from "./elements.js";
 import { tell, tellFault } from "./notices.js";
 import { totalsOf } from "./rows.js";
 import { looseMonth, plain } from "./loose.js";
-import { dollarsText, monthText, readMonth } from "./spelling.js";
+import { dollarsText, monthText, readMonth, sheetMonthText } from "./spelling.js";
 import { allRows, change, state, totalsIn } from "./state.js";
 import { TEXTS } from "./texts.js";
 
@@ -37,7 +37,7 @@ export function showSummary() {
   if (rows === shown) return;
   shown = rows;
   const totals = totalsOf(rows);
-  byId("month").value = monthText(state.month);
+  byId("month").value = sheetMonthText(state.month);
   byId("total-name").textContent = TEXTS.total_name(rows.length, state.month);
   byId("total").textContent = rows.length === 0 ? "" : dollarsText(totals.value);
   const told = rows.length === 0 ? [] : sums(rows, totals);

@@ -7,8 +7,9 @@ from typing import Any
 
 from browsers import Browser
 
-READ = "return [...document.querySelectorAll('#table tbody tr')].map((row) => [...row.children].map((cell) => (cell.querySelector('.code') ?? cell).textContent));"
-TOTAL = "return [...document.querySelectorAll('#table tfoot tr > *')].map((cell) => cell.textContent);"
+#: Money as the counter prints it: the page writes it with a dollar sign and commas.
+READ = "return [...document.querySelectorAll('#table tbody tr')].map((row) => [...row.children].map((cell) => (cell.querySelector('.code') ?? cell).textContent.replace(/[$,]/g, '')));"
+TOTAL = "return [...document.querySelectorAll('#table tfoot tr > *')].map((cell) => cell.textContent.replace(/[$,]/g, ''));"
 HEADINGS = "return [...document.querySelectorAll('#table thead th')].map((cell) => cell.textContent);"
 WIDTHS = (13, 6, 6, 7, 7, 7, 12, 14, 6, 14, 0)
 RIGHT = (2, 6, 7, 8, 9)

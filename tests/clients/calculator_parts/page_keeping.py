@@ -19,7 +19,6 @@ MANY = """
     const lines = Array.from({ length: 50000 }, (_, place) => `C${place + 1}EE\\t50\\t2010-05`);
     document.querySelector("#pasted").value = lines.join("\\n");
     document.querySelector("#pasted").dispatchEvent(new Event("input"));
-    document.querySelector("#paste-form").requestSubmit();
 """
 EARLIER = {"inventory": HEADER.decode() + "C7EE,50,2010-05,7,\n", "rates": "from,rate,extension\n2010-05,3.40,\n", "month": "2030-06"}
 
@@ -75,6 +74,7 @@ def keeps(browser: Browser, url: str) -> None:
             tick(browser)
         again(browser)
         assert len(page.rows()) == int(is_asked) and is_ticked(browser) == is_asked
+    page.choose_month("2030-06")
     assert page.rows()[0][9] == "50.14", page.rows()
     opened(page, "C2EE")
     is_kept(browser)
@@ -90,7 +90,7 @@ def keeps(browser: Browser, url: str) -> None:
 def kept(words: Namespace, browser: Browser, site: Site) -> None:
     """What the browser keeps, if it is asked to; and nothing else."""
     keeps(browser, site.url)
-    right(f"{browser.name}: bonds, rates and month outlive a reload if the box is ticked, and leave the browser when it isn't")
+    right(f"{browser.name}: bonds and rates outlive a reload if the box is ticked, and leave the browser when it isn't")
     fails_broken(browser, "a page that keeps them all the same", keeps, "store.delete(RECORD)", "store.get(RECORD)")
 
 
@@ -131,6 +131,7 @@ def moves(browser: Browser, url: str) -> None:
     assert browser.run("return localStorage.getItem('savings-bond-calculator')") == "{ no JSON" and record(browser) is None
     browser.run("localStorage.setItem('savings-bond-calculator', arguments[0])", json.dumps(EARLIER))
     again(browser)
+    page.choose_month("2030-06")
     assert [row[0] for row in page.rows()] == ["C7EE"] and page.rows()[0][9] == "50.14"
     is_kept(browser)
     assert serials(inventory(browser)) == ["C7EE"] and browser.run("return localStorage.length") == 0
@@ -189,8 +190,8 @@ def differing(browser: Browser, page: Page, first: str, second: str) -> None:
     opened(page, "C6EE")
     browser.waits_for("Another tab of this page kept other bonds or rates")
     assert not is_ticked(browser) and "C6EE,75" in inventory(browser) and len(page.rows()) == 5
+    browser.run("new BroadcastChannel('savings-bond-calculator').postMessage('other')")
     browser.to_tab(second)
-    browser.run("document.querySelector('#month-on').click()")
     browser.until(lambda: ["C6EE", "75"] in [[row[0], row[2]] for row in page.rows()], "the second tab has what was kept")
     browser.run("document.querySelector('#keep').click()")
     browser.waits_for("Nothing is kept any more")
@@ -207,6 +208,8 @@ def two_tabs(words: Namespace, browser: Browser, site: Site) -> None:
 def keeps_many(browser: Browser, url: str) -> None:
     Page(browser, url)
     browser.run(MANY)
+    browser.until(lambda: "Add these 50,000" in browser.run("return document.querySelector('#paste-add').textContent"), "50,000 bonds are understood", 120)
+    browser.run("document.querySelector('#paste-form').requestSubmit()")
     browser.until(lambda: "50,000 bonds added" in browser.told(), "50,000 bonds are added", 120)
     tick(browser)
     again(browser)

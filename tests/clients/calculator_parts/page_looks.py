@@ -117,7 +117,7 @@ def narrow(words: Namespace, browser: Browser, site: Site) -> None:
         wrong.open_inventory(FILE)
         browser.run("document.querySelector('#table .open').click()")
         wrong_is_seen("a dialog that breaks words and sums", lambda: fits(browser))
-        broken = variant(folder, "cards", ("style.css", "repeat(auto-fill, minmax(7rem, 1fr))", "repeat(auto-fill, minmax(1.8rem, 1fr))"), ("style.css", "  min-width: 0;\n", "  min-width: 0;\n  overflow-wrap: anywhere;\n"))
+        broken = variant(folder, "cards", ("style.css", "repeat(auto-fill, minmax(7.6rem, 1fr))", "repeat(auto-fill, minmax(1.8rem, 1fr))"), ("style.css", "  min-width: 0;\n", "  min-width: 0;\n  overflow-wrap: anywhere;\n"))
         wrong = Page(browser, on_disk(broken))
         wrong.open_inventory(FILE)
         wrong_is_seen("cards that break words and sums", lambda: fits(browser))

@@ -21,7 +21,7 @@ MANY_MONTHS = """
     return arguments[0].map((month) => {
         field.value = month;
         form.requestSubmit();
-        return [...document.querySelectorAll("#table tbody .value")].map((cell) => cell.textContent).join(" ");
+        return [...document.querySelectorAll("#table tbody .value")].map((cell) => cell.textContent.replace(/[$,]/g, "")).join(" ");
     });
 """
 
