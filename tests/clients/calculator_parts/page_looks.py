@@ -254,7 +254,7 @@ def printing(words: Namespace, browser: Browser, site: Site) -> None:
     page.open_inventory(data.inventory_file(bonds))
     page.choose_month("2030-06")
     time.sleep(1)
-    count = reads_on_paper(browser, [bond[0] for bond in bonds], page.total()[9])
+    count = reads_on_paper(browser, [bond[0] for bond in bonds], f"${float(page.total()[9]):,.2f}")
     right(f"{browser.name}: 150 bonds are printed on {count} pages, with headings on each page of rows")
     counts = (1, 5, 11, 20, *range(27, 33))
     last_pages(browser, page, counts)

@@ -68,7 +68,7 @@ def published(words: Namespace, browser: Browser, site: Site) -> None:
         assert count == 8 * len(rows) == 66048, count
         right(f"{browser.name}, module of {bits} bits: {count} of {count} published values, 8,256 at 8 denominations, as the table shows them")
     with tempfile.TemporaryDirectory() as folder:
-        broken = variant(folder, "cent", ("calculator.js", "value: moneyText(answer.valueCents)", "value: moneyText(answer.valueCents + 1)"))
+        broken = variant(folder, "cent", ("calculator.js", "value: answer.valueCents }", "value: answer.valueCents + 1 }"))
         wrong = Page(browser, on_disk(broken))
         wrong.open_rates((expected.PUBLISHED / "rates.csv").read_bytes())
         wrong.open_inventory(file)
