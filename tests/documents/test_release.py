@@ -149,6 +149,19 @@ def test_a_failed_gate_leaves_no_release(owner: Owner) -> None:
     status, said = owner.release("release", "--key", "owner@bank.example")
     assert (status, owner.tags()) == (1, []) and "no verdict on this program" in said, said
     assert not (owner.folder / "release").exists()
+    printed.write_text(printed.read_text().replace(" passed, 1 failed", " passed, 0 failed"))
+    status, said = owner.release("release", "--key", "owner@bank.example")
+    assert (status, owner.is_verified("release")) == (0, True), said
+
+
+def test_a_second_run_takes_the_verdict(owner: Owner) -> None:
+    """Control: without the log it would prove again."""
+    assert owner.release("release", "--key", "owner@bank.example")[0] == 0
+    (owner.folder / "bin/rt").write_text("#!/bin/sh\nexit 1\n")
+    log = ("--log", str(owner.folder / "release.log"))
+    status, said = owner.release("again", "--key", "owner@bank.example", *log)
+    assert (status, owner.is_verified("again")) == (0, True), said
+    assert owner.release("third", "--key", "owner@bank.example")[0] == 1
 
 
 def test_a_changed_package_is_found(owner: Owner) -> None:
