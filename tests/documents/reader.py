@@ -1,0 +1,274 @@
+"""Reads a document, runs its commands as they are written, and compares what they print.
+
+A block between lines of three backticks is one of commands if a line of it begins with `$ `: a
+command, which goes on below if it ends with a backslash or the next lines begin with `> `. The lines
+up to the next command are what it prints on both outputs; a line of three points stands for any lines.
+All commands of a document go to one bash, in a copy of the repository without its crates, with the
+program as ./ee_cli. After a command with an option `--port` that is left running, nothing is done until
+something listens there. A block whose lines begin with `>>> ` is a session of Python. A text in a line
+as `./ee_cli WORDS` prints `TEXT` is run too.
+
+A block behind a comment `<!-- not run: REASON -->` isn't run; one behind `<!-- quoted from FILE -->` has
+to stand in that file. Before a block behind `<!-- goes on from FILE -->` the commands of that document
+are run in the same shell."""
+
+from __future__ import annotations
+
+import contextlib
+import os
+import re
+import select
+import shutil
+import signal
+import subprocess
+import sys
+import tempfile
+import time
+from dataclasses import dataclass
+from pathlib import Path
+
+from tests.conftest import TOP
+
+LEFT_OUT_OF_COPIES = shutil.ignore_patterns(".git", "crates", "ee_cli", "__pycache__", ".*_cache")
+SECONDS, COLUMNS = 600, 100
+MARK = "these were the lines of a command"
+COMMENT = re.compile(r"<!-- (not run: |quoted from |goes on from )(.*\S) *-->")
+NAMED = re.compile(r"`((?:docs|tests|samples|clients|benchmarks|include|crates|\.ci)/[\w./-]*\w)`")
+LINK = re.compile(r"\[[^\]]*\]\(([^)\s]+)\)")
+PRINTS = re.compile(r"`(\./ee_cli [^`]*)` prints `([^`]*)`")
+NOTICE = re.compile(r"\S+: line \d+: +\d+ (Killed|Terminated) ")
+UNMARKED = re.compile(r"(\./ee_cli|curl|sqlite3|rt|cc|cobc|pip) |(clients|tests|benchmarks)/", re.M)
+LIBRARY = Path(os.environ.get("EE_VALUE_LIBRARY", TOP / "clients/value/out/libee_value.so.1"))
+
+
+@dataclass
+class Block:
+    """What stands between two lines of three backticks, with the kind and the words of the comment before it."""
+
+    line: int
+    lines: list[str]
+    kind: str
+    words: str
+
+    def begins(self, mark: str) -> bool:
+        return any(line.startswith(mark) for line in self.lines)
+
+    def commands(self) -> list[tuple[int, str, list[str]]]:
+        """The commands, each with its line and the lines that it prints."""
+        found: list[tuple[int, list[str], list[str]]] = []
+        for number, line in enumerate(self.lines, self.line + 1):
+            if line.startswith("$ "):
+                found.append((number, [line[2:]], []))
+                continue
+            assert found, f"line {number} stands before the first command of its block"
+            if not found[-1][2] and (found[-1][1][-1].endswith("\\") or line.startswith("> ")):
+                found[-1][1].append(line.removeprefix("> "))
+            else:
+                found[-1][2].append(line)
+        return [(number, "\n".join(command), prints) for number, command, prints in found]
+
+
+def blocks_of(text: str) -> list[Block]:
+    found: list[Block] = []
+    block, margin, kind, words = None, "", "", ""
+    for number, line in enumerate(text.split("\n"), 1):
+        if line.lstrip().startswith("```") and block is None:
+            margin = line[: len(line) - len(line.lstrip())]
+            block = Block(number, [], kind, words)
+        elif line.lstrip().startswith("```") and block is not None:
+            found.append(block)
+            block, kind, words = None, "", ""
+        elif block is not None:
+            block.lines.append(line.removeprefix(margin))
+        elif line.strip():
+            comment = COMMENT.fullmatch(line.strip())
+            kind, words = (comment[1].strip(), comment[2]) if comment else ("", "")
+    assert block is None, f"the block of line {block and block.line} has no end"
+    return found
+
+
+def prose_of(text: str) -> str:
+    """The document without its blocks."""
+    return re.sub(r"^ *```.*?^ *```", "", text, flags=re.S | re.M)
+
+
+def slug(heading: str) -> str:
+    return re.sub(r"[^\w\- ]", "", heading.strip().lower()).replace(" ", "-")
+
+
+def check_links(path: Path, text: str) -> None:
+    for target in LINK.findall(prose_of(text)):
+        if re.match(r"\w+:", target):
+            continue
+        name, _, place = target.partition("#")
+        file = path.parent / name if name else path
+        assert file.exists(), f"the link to {target}: there is no such file"
+        if place:
+            headings = re.findall(r"^#+ (.*)$", prose_of(file.read_text()), re.M)
+            known = [slug(heading) for heading in headings]
+            assert place in known, f"the link to {target}: there is no such heading"
+
+
+def check_names(text: str) -> None:
+    for name in NAMED.findall(prose_of(text)):
+        if "/out" not in name and "NAME" not in name:
+            assert (TOP / name).exists(), f"there is no {name}"
+
+
+def check_width(text: str) -> None:
+    """Prose is wrapped; rows of tables, blocks and comments aren't."""
+    for line in prose_of(text).split("\n"):
+        if not line.startswith(("|", "<!--")):
+            assert len(line) <= COLUMNS, f"a line has {len(line)} columns: {line}"
+
+
+class Shell:
+    """A bash in a folder, which is given one command after another, in a network of its own if root runs it."""
+
+    def __init__(self, folder: Path) -> None:
+        words = ["bash", "--noprofile", "--norc"]
+        if os.geteuid() == 0:
+            words = ["unshare", "--net", "sh", "-c", 'ip link set lo up && exec "$@"', "sh", *words]
+        pipe = subprocess.PIPE
+        self.process = subprocess.Popen(
+            words,
+            cwd=folder,
+            stdin=pipe,
+            stdout=pipe,
+            stderr=subprocess.STDOUT,
+            start_new_session=True,
+        )
+        assert self.process.stdin is not None and self.process.stdout is not None
+        self.stdin, self.stdout = self.process.stdin, self.process.stdout
+
+    def is_served(self, port: int) -> bool:
+        lines = Path(f"/proc/{self.process.pid}/net/tcp").read_text().splitlines()
+        return any(f":{port:04X} " in line[:20] and " 0A " in line for line in lines)
+
+    def run(self, command: str) -> str:
+        """What it prints, on both outputs."""
+        port = int((re.search(r"--port (\d+)", command) or ["", "0"])[1])
+        assert not port or not self.is_served(port), f"something listens on port {port} already"
+        with tempfile.NamedTemporaryFile("w", suffix=".sh") as script:
+            script.write(command + "\n")
+            script.flush()
+            self.stdin.write(f"source {script.name} < /dev/null; echo; echo '{MARK}'\n".encode())
+            self.stdin.flush()
+            text = self.read()
+        until = time.time() + SECONDS
+        while port and "&" in command and not self.is_served(port):
+            assert time.time() < until, f"nothing listens on port {port}"
+            time.sleep(0.1)
+        return text
+
+    def read(self) -> str:
+        text, until = b"", time.time() + SECONDS
+        while f"\n{MARK}\n".encode() not in text:
+            ready = select.select([self.stdout], [], [], max(0, until - time.time()))[0]
+            more = os.read(self.stdout.fileno(), 65536) if ready else b""
+            assert more, f"it ends the shell, or doesn't end; it printed: {text.decode()}"
+            text += more
+        return text.replace(f"\n{MARK}\n".encode(), b"\n").decode(errors="replace")
+
+    def close(self) -> None:
+        """Ends it, with all that it has left running."""
+        with contextlib.suppress(ProcessLookupError):
+            os.killpg(self.process.pid, signal.SIGKILL)
+        self.process.communicate()
+
+
+def lines_of(text: str) -> list[str]:
+    lines = [line.rstrip() for line in text.split("\n") if not NOTICE.match(line)]
+    return "\n".join(lines).rstrip("\n").split("\n")
+
+
+def agrees(found: list[str], said: list[str]) -> bool:
+    """Whether these are the lines that are said, where three points are any lines."""
+    if not said:
+        return not found
+    if said[0] == "...":
+        return any(agrees(found[count:], said[1:]) for count in range(len(found) + 1))
+    return bool(found) and found[0] == said[0] and agrees(found[1:], said[1:])
+
+
+def compare(shell: Shell, place: str, command: str, said: list[str]) -> None:
+    found, wanted = lines_of(shell.run(command)), lines_of("\n".join(said))
+    assert agrees(found, wanted), "\n".join([f"{place}: {command}", "it prints:", *found])
+
+
+def run_shell(shell: Shell, block: Block) -> int:
+    commands = block.commands()
+    for number, command, said in commands:
+        compare(shell, f"line {number}", command, said)
+    return len(commands)
+
+
+def run_before(shell: Shell, document: str) -> None:
+    """The commands of the document from which a block goes on."""
+    for block in blocks_of((TOP / document).read_text()):
+        if block.begins("$ ") and not block.kind:
+            run_shell(shell, block)
+
+
+def run_python(folder: Path, block: Block) -> None:
+    """A session of Python, by Python's own module for it."""
+    (folder / "session.txt").write_text("\n".join(block.lines) + "\n")
+    words = "-m doctest -o NORMALIZE_WHITESPACE -o ELLIPSIS session.txt".split()
+    places = {"EE_VALUE_LIBRARY": str(LIBRARY), "PYTHONPATH": str(TOP / "clients/value")}
+    env = {**os.environ, **places}
+    ran = subprocess.run(
+        [sys.executable, *words], cwd=folder, env=env, capture_output=True, text=True
+    )
+    assert ran.returncode == 0, f"line {block.line}: the session of Python\n{ran.stdout}"
+
+
+def check_quoted(block: Block) -> None:
+    text = (TOP / block.words).read_text()
+    assert "\n".join(block.lines) in text, f"line {block.line} doesn't stand so in {block.words}"
+
+
+def copy_of_repository(folder: Path, program: Path) -> None:
+    shutil.copytree(TOP, folder, symlinks=True, ignore=LEFT_OUT_OF_COPIES)
+    (folder / "ee_cli").symlink_to(program)
+
+
+def run_document(path: Path, folder: Path, program: Path) -> int:
+    """How many commands ran. The blocks that don't are printed."""
+    text, ran = path.read_text(), 0
+    check_links(path, text)
+    check_names(text)
+    check_width(text)
+    blocks, claims = blocks_of(text), PRINTS.findall(prose_of(text))
+    if not claims and not any(block.begins("$ ") or block.begins(">>> ") for block in blocks):
+        blocks_are_marked(blocks)
+        return 0
+    copy_of_repository(folder, program)
+    shell = Shell(folder)
+    try:
+        for block in blocks:
+            if block.kind == "not run:" or block.begins(">>> ") and not LIBRARY.exists():
+                print(f"not run: line {block.line}: {block.words or 'the library isn’t built'}")
+            elif block.kind == "quoted from":
+                check_quoted(block)
+            elif block.begins("$ "):
+                if block.kind == "goes on from":
+                    run_before(shell, block.words)
+                ran += run_shell(shell, block)
+            elif block.begins(">>> "):
+                run_python(folder, block)
+            else:
+                blocks_are_marked([block])
+        for command, said in claims:
+            compare(shell, "in a line", command, [said])
+    finally:
+        shell.close()
+    return ran + len(claims)
+
+
+def blocks_are_marked(blocks: list[Block]) -> None:
+    for block in blocks:
+        if block.kind == "quoted from":
+            check_quoted(block)
+        elif block.kind != "not run:":
+            found = UNMARKED.match("\n".join(block.lines))
+            assert found is None, f"line {block.line}: a command without `$ `"

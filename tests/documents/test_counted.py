@@ -1,0 +1,179 @@
+"""Numbers, versions and tables of the documents are those that can be counted.
+
+With WRITE=1 the table of alerts of docs/WATCHING.md is written anew first."""
+
+from __future__ import annotations
+
+import os
+import re
+import subprocess
+from collections.abc import Callable
+from typing import NamedTuple
+
+import pytest
+
+from tests.conftest import TOP
+
+ALERTS = (
+    "<!-- the alerts of samples/watch/alerts.yml: WRITE=1 pytest tests/documents/test_counted.py -->\n",
+    "<!-- the end of the alerts -->",
+)
+
+
+def text(path: str) -> str:
+    return (TOP / path).read_text(encoding="utf-8")
+
+
+def only(path: str, pattern: str) -> str:
+    (found,) = re.findall(pattern, text(path), re.M)[:1]
+    return str(found)
+
+
+def count(path: str, pattern: str) -> str:
+    return str(len(re.findall(pattern, text(path), re.M)))
+
+
+# ---- what is there
+
+
+def alerts() -> str:
+    return count("samples/watch/alerts.yml", r"^  - alert: ")
+
+
+def kinds() -> str:
+    return count("tests/samples/parts/damage.toml", r"^\[\[kind\]\]")
+
+
+def program() -> str:
+    return only("crates/ee_cli_commands/src/rows.rt", r'VERSION: &str = "([\d.]+)"')
+
+
+def store() -> str:
+    line = r'version_line = codes "ee_cli [\d.]+, store version (\d+)"'
+    return only("crates/ee_cli_program/specs/Statuses.antt", line)
+
+
+def client() -> str:
+    return only("clients/python/src/ee_counter_client/version.py", r'"([\d.]+)"')
+
+
+def library() -> str:
+    return only("clients/value/package.json", r'"version": "([\d.]+)"')
+
+
+def messages() -> str:
+    return only("docs/openapi.json", r'"version": "([\d.]+)"')
+
+
+def functions(of: str) -> str:
+    """How many functions of C the page on premises names behind `of`."""
+    listed = rf"(?s)^- (?:\d+) of the \d+ that `{of}` declares: (.*?)\.$"
+    return str(len(re.findall(r"`[^`]+`", only("docs/ASSUMPTIONS.md", listed))))
+
+
+def of_libc() -> str:
+    return functions("libc")
+
+
+def of_os() -> str:
+    return functions("os")
+
+
+def of_both() -> str:
+    return str(int(of_libc()) + int(of_os()))
+
+
+class Fact(NamedTuple):
+    """What a page says, by the group of `pattern`, and what it has to say."""
+
+    page: str
+    pattern: str
+    wanted: Callable[[], str]
+
+
+NEWEST = r"\A(?:(?!## ).*\n)*## ([\d.]+)\n"
+OF_STORE = r"\A(?:(?!## ).*\n)*## [\d.]+\n\n(?:.*\n)*?.*store has version (\d+)"
+FACTS = [
+    Fact("docs/WATCHING.md", r"for the (\d+) alerts", alerts),
+    Fact("docs/CLAIMS.md", r"of (\d+) kinds of damage", kinds),
+    Fact("tests/samples/parts/damage.toml", r"the (\d+) kinds of damage", kinds),
+    Fact("docs/VERSIONS.md", r"^\| the program \| ([\d.]+) \|", program),
+    Fact("docs/VERSIONS.md", r"^\| the store \| (\d+) \|", store),
+    Fact("docs/VERSIONS.md", r"^\| the library of values \| ([\d.]+) \|", library),
+    Fact("docs/VERSIONS.md", r"^\| the Python client \| ([\d.]+) \|", client),
+    Fact("docs/VERSIONS.md", r"^\| messages \| ([\d.]+) \|", messages),
+    Fact("README.md", r"\*\*Status\.\*\* Version ([\d.]+)", program),
+    Fact("CHANGELOG.md", NEWEST, program),
+    Fact("CHANGELOG.md", OF_STORE, store),
+    Fact("packaging/debian/changelog", r"\Aladwenpik \(([\d.]+)-", program),
+    Fact("docs/LIBRARY.md", r"`ee_value-([\d.]+)-py3-none-manylinux_2_5", library),
+    Fact("docs/PYTHON_CLIENT.md", r"ee_counter_client-([\d.]+)-py3", client),
+    Fact("docs/ASSUMPTIONS.md", r"^- (\d+) of the \d+ that `libc` declares", of_libc),
+    Fact("docs/ASSUMPTIONS.md", r"^- (\d+) of the \d+ that `os` declares", of_os),
+    Fact("docs/ASSUMPTIONS.md", r"contracts of (\d+) functions that C defines", of_both),
+]
+
+
+@pytest.mark.parametrize(
+    "fact", FACTS, ids=[f"{fact.page}: {fact.wanted.__name__}" for fact in FACTS]
+)
+def test_fact(fact: Fact) -> None:
+    """A line may end at every space. Control: the number one higher is another one."""
+    pattern, page = fact.pattern.replace(" ", r"\s+"), text(fact.page)
+    said = re.findall(pattern, page, re.M)
+    assert said and set(said) == {fact.wanted()}
+    found = re.search(pattern, page, re.M)
+    assert found is not None
+    higher = re.sub(r"\d+$", lambda digits: str(int(digits[0]) + 1), found[1])
+    changed = page[: found.start(1)] + higher + page[found.end(1) :]
+    assert set(re.findall(pattern, changed, re.M)) != {fact.wanted()}
+
+
+# ---- tables
+
+
+def plain(words: str) -> str:
+    """A text of an alert, with names in the place of Prometheus' labels and values."""
+    words = words.replace("{{ $labels.instance }}: ", "").replace('\\"', '"').replace("|", "\0")
+    words = re.sub(r"\{\{ \$labels\.(\w+) \}\}", lambda label: label[1].upper(), words)
+    return re.sub(r"\{\{ \$value[^}]*\}\}", "N", words).replace("\0", "\\|")
+
+
+def alert_table(rules: str) -> str:
+    """A row for every alert: its name, severity, what it says, after how long, and what to do."""
+    rows = ["", "| Alert | Severity | Says | After | Do |", "|---|---|---|---|---|"]
+    for rule in re.split(r"^  - alert: ", rules, flags=re.M)[1:]:
+        name = rule.split("\n")[0].removeprefix("Ladwenpik")
+        (severity,) = re.findall(r"severity: (\w+)", rule)[:1]
+        wait = re.findall(r"^    for: (\w+)", rule, re.M)
+        (summary,), (action,) = (
+            re.findall(rf'^      {key}: "(.*)"$', rule, re.M)[:1] for key in ("summary", "action")
+        )
+        after = wait[0].replace("m", " min") if wait else "at once"
+        rows.append(f"| {name} | {severity} | {plain(summary)} | {after} | {plain(action)} |")
+    return "\n".join(rows) + "\n\n"
+
+
+def test_table_of_alerts() -> None:
+    rules, page = text("samples/watch/alerts.yml"), text("docs/WATCHING.md")
+    before, mark, rest = page.partition(ALERTS[0])
+    table, end, after = rest.partition(ALERTS[1])
+    assert mark and end
+    if "WRITE" in os.environ:
+        table = alert_table(rules)
+        (TOP / "docs/WATCHING.md").write_text(before + mark + table + end + after)
+    assert table == alert_table(rules)
+    other = rules.replace("alert: LadwenpikSlow", "alert: LadwenpikSlower")
+    assert table != alert_table(other), "control: another alert"
+
+
+def test_marks_of_benchmarks() -> None:
+    ran = subprocess.run([TOP / "benchmarks/all", "--check"], stdout=subprocess.PIPE, text=True)
+    assert ran.returncode == 0, ran.stdout
+
+
+def test_clients_are_named() -> None:
+    page, folders = text("clients/README.md"), [path for path in (TOP / "clients").iterdir()]
+    names = {path.name for path in folders if path.is_dir()} - {"out", "__pycache__"}
+    assert [name for name in names if f"`{name}/`" not in page] == []
+    assert "`none/`" not in page, "control"
