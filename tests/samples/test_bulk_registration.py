@@ -115,12 +115,10 @@ def fault_of(store: Path, file: Path, first: int = FIRST) -> str | None:
 
 # ---- the file, in peace and under kills
 
-counts_of_bonds = pytest.mark.parametrize(
-    "bonds", [5000, pytest.param(100_000, marks=pytest.mark.slow)]
-)
+MANY = pytest.param(100_000, marks=pytest.mark.slow)
 
 
-@counts_of_bonds
+@pytest.mark.parametrize("bonds", [5000, MANY])
 def test_in_peace(program: Path, store: Path, journal: Path, folder: Path, bonds: int) -> None:
     """Run again it sends nothing; with another journal the counter has each bond already."""
     lines = [line(n) for n in range(1, bonds + 1)]
@@ -154,7 +152,7 @@ def has_risen(journal: Path, count: int, ends: Callable[[], bool]) -> bool:
     return False
 
 
-@counts_of_bonds
+@pytest.mark.parametrize("bonds", [20_000, MANY])
 def test_under_kills(program: Path, store: Path, journal: Path, folder: Path, bonds: int) -> None:
     """The server and the client are killed at different places of the file, each while requests are sent."""
     file, port = (
