@@ -70,7 +70,7 @@ def test_phrase(name: str, prose: dict[str, str]) -> None:
 @pytest.mark.parametrize(
     "name, text, said",
     [
-        ("docs/a.md", "In\nprose", "In prose"),
+        ("a.md", "In\nprose", "In prose"),
         ("crates/a.rt", "let a = 1; // told\nfn b() {}", " told"),
         ("crates/a.antt", "a : Set -- told\n", " told"),
         ("tests/a.py", 'a = 1\n# told\n"""Each."""\n', " told Each."),
