@@ -16,7 +16,6 @@ import ee_counter_client as client
 import ee_counter_client.counter as counter_module
 import ee_counter_client.journal as journal_module
 import ee_counter_client.lookups as lookups_module
-import ee_counter_client.spelling as spelling
 import ee_counter_client.way as way
 from ee_counter_client.testing import ENDING, FAULTS, OF_ONE_SENDING
 from tests.clients.desk import DAY, Desk, controls, encrypted, holds_not, listening, within

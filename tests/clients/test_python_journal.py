@@ -9,7 +9,6 @@ import json
 import os
 import random
 import shutil
-import threading
 import time
 import types
 from concurrent.futures import ThreadPoolExecutor

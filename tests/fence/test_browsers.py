@@ -12,7 +12,6 @@ from typing import Iterator
 
 import pytest
 
-from tests.conftest import TOP
 from tests.fence.conftest import MakeSite, blocks
 from tests.fence.site import Site
 from tests.fence.staff import Staff
