@@ -39,6 +39,7 @@ PACKAGES = {
     "pdftotext": "poppler-utils",
     "Xvfb": "xvfb",
     "cobc": "gnucobol3",
+    "soffice": "libreoffice-calc-nogui",
     "clang++": "clang",
     "aarch64-linux-gnu-gcc": "gcc-aarch64-linux-gnu and libc6-dev-arm64-cross",
     "qemu-aarch64": "qemu-user",

@@ -154,7 +154,7 @@ class Chromium:
             one["name"] == "modal" and one["value"]["value"] for one in dialog["properties"]
         )
         buttons = [said(node)[1] for node in given if said(node)[0] == "button"]
-        description = " ".join(dialog["description"]["value"].split())
+        description = " ".join(dialog.get("description", {}).get("value", "").split())
         return said(dialog)[1], description, modal, within, buttons
 
     def rows(self) -> int | None:

@@ -14,6 +14,7 @@ from tests.clients.desk import Desk, TrueCounter
 
 if TYPE_CHECKING:
     from tests.browser.page import Page
+    from tests.clients.calculator import Calculator
 
 DESK = 5
 
@@ -82,3 +83,33 @@ def true(program: Path, folder: Path) -> Iterator[TrueCounter]:
     made = TrueCounter(program, folder)
     yield made
     made.end()
+
+
+@pytest.fixture(scope="module")
+def calculators(
+    tmp_path_factory: pytest.TempPathFactory,
+) -> Iterator[Callable[[str], Calculator]]:
+    """One browser of each name, which the tests of a file share."""
+    from tests.clients.calculator import Calculator
+
+    made: dict[str, Calculator] = {}
+
+    def of(name: str) -> Calculator:
+        if name not in made:
+            made[name] = Calculator(name, tmp_path_factory.mktemp(name))
+        return made[name]
+
+    yield of
+    for one in made.values():
+        one.quit()
+
+
+@pytest.fixture
+def calculator(
+    calculators: Callable[[str], Calculator], browser: str, folder: Path
+) -> Iterator[Calculator]:
+    """A browser for the calculator's page. Each page that a test serves has an address, and so a storage, of its own."""
+    one = calculators(browser)
+    one.begins(folder)
+    yield one
+    one.ends()

@@ -1,0 +1,255 @@
+"""The calculator's page in a browser: the built page on a port of its own, copies of it that are wrong on purpose, and what a person does there."""
+
+from __future__ import annotations
+
+import contextlib
+import functools
+import http.server
+import re
+import shutil
+import tempfile
+import threading
+from pathlib import Path
+from typing import Any, Iterator
+
+import pytest
+from selenium.common.exceptions import WebDriverException
+
+from tests.browser.browser import Browser
+from tests.conftest import TOP
+
+OUT = TOP / "clients/calculator/out"
+#: A file of the page, a text of it, and another one in its place.
+Change = tuple[str, str, str]
+Changes = tuple[Change, ...]
+SIZE = (1280, 900)
+WIDTHS = (13, 6, 6, 7, 7, 7, 12, 14, 6, 14, 0)
+RIGHT = (2, 6, 7, 8, 9)
+#: Money as the counter prints it: the page writes it with a dollar sign and commas.
+ROWS = "return [...document.querySelectorAll('#table tbody tr')].map((row) => [...row.children].map((cell) => (cell.querySelector('.code') ?? cell).textContent.replace(/[$,]/g, '')));"
+
+
+def variants(**changes: Change | Changes) -> pytest.MarkDecorator:
+    """Runs a test over the page as it is, and over each wrong one: then `holds_not(changes)` wants it to fail."""
+    listed: dict[str, Changes] = {"whole": ()}
+    for name, change in changes.items():
+        named = change if isinstance(change[0], tuple) else (change,)
+        listed[name.replace("_", " ")] = named  # type: ignore[assignment]
+    return pytest.mark.parametrize("changes", list(listed.values()), ids=list(listed))
+
+
+def script(old: str, new: str) -> Change:
+    """A change of the page's one script."""
+    return "calculator.js", old, new
+
+
+class Handler(http.server.SimpleHTTPRequestHandler):
+    def log_message(self, *_: object) -> None:
+        pass
+
+    def do_GET(self) -> None:
+        self.server.asked.append(self.path)  # type: ignore[attr-defined]
+        super().do_GET()
+
+    def end_headers(self) -> None:
+        self.send_header("Cache-Control", "no-store")
+        self.send_header("Access-Control-Allow-Origin", "*")
+        super().end_headers()
+
+
+class Site:
+    """A server of a folder. `asked` has the paths that were asked for."""
+
+    def __init__(self, folder: Path = OUT) -> None:
+        self.server = http.server.ThreadingHTTPServer(
+            ("127.0.0.1", 0), functools.partial(Handler, directory=folder)
+        )
+        self.asked: list[str] = []
+        self.server.asked = self.asked  # type: ignore[attr-defined]
+        self.url = f"http://127.0.0.1:{self.server.server_address[1]}/"
+        threading.Thread(target=self.server.serve_forever, daemon=True).start()
+
+    def stop(self) -> None:
+        self.server.shutdown()
+        self.server.server_close()
+
+
+def variant(folder: Path, changes: Changes) -> Path:
+    """A copy of the page in which texts of files are others."""
+    made = Path(tempfile.mkdtemp(dir=folder)) / "page"
+    shutil.copytree(OUT, made)
+    for file, old, new in changes:
+        text = (made / file).read_text()
+        assert old in text, f"{file} has no {old}"
+        (made / file).write_text(text.replace(old, new))
+    return made
+
+
+class Calculator(Browser):
+    """A browser, in which a test opens the page. Each server has a port of its own, and so a storage of its own."""
+
+    def __init__(self, name: str, folder: Path) -> None:
+        super().__init__(name, "about:blank", folder, size=SIZE)
+        self.driver.set_script_timeout(300)
+        self.sites: list[Site] = []
+
+    def begins(self, folder: Path) -> None:
+        """A test begins."""
+        self.folder, self.patience = folder, 60.0
+        self.downloads = folder / "downloads"
+        self.downloads.mkdir()
+        self.engine.downloads(self.downloads)
+
+    def ends(self) -> None:
+        """A test ends: one tab is left."""
+        first, *others = self.driver.window_handles
+        self.driver.switch_to.window(first)
+        for tab in others:
+            self.close_tab(tab)
+        self.open("about:blank")
+        self.resize(*SIZE)
+        while self.sites:
+            self.sites.pop().stop()
+
+    # ---- the page
+
+    def serve(self, changes: Changes = ()) -> str:
+        """Opens the page, or a wrong one. Returns its address."""
+        self.sites.append(Site(variant(self.folder, changes) if changes else OUT))
+        self.visit(self.sites[-1].url)
+        return self.sites[-1].url
+
+    def visit(self, url: str) -> None:
+        self.open(url)
+        self.ready()
+
+    def again(self) -> None:
+        self.reload()
+        self.ready()
+
+    def ready(self) -> None:
+        script = "return document.documentElement.dataset.ready !== undefined"
+        self.until(lambda: self.run(script), "the page starts")
+
+    @contextlib.contextmanager
+    def holds_not(self, changes: Changes) -> Iterator[None]:
+        """What is done within has to fail over a wrong page. Over the page as it is it has to hold."""
+        if not changes:
+            yield
+            return
+        self.patience = 5.0
+        with pytest.raises((AssertionError, WebDriverException)):
+            yield
+
+    def until(self, condition: Any, what: str, patience: float | None = None) -> Any:
+        """Waits until the condition holds, and returns what it gave."""
+        found = []
+
+        def holds() -> Any:
+            found.append(condition())
+            return found[-1]
+
+        super().until(holds, what, patience)
+        return found[-1]
+
+    # ---- what it shows
+
+    def told(self) -> str:
+        return str(self.run("return document.querySelector('#told-text').textContent"))
+
+    def is_told(self, words: str) -> None:
+        self.until(lambda: words in self.told(), f"it is told: {words}")
+
+    def rows(self) -> list[list[str]]:
+        busy = "return document.querySelector('#table').getAttribute('aria-busy') !== 'true'"
+        self.until(lambda: self.run(busy), "all rows are written")
+        found: list[list[str]] = self.run(ROWS)
+        return found
+
+    def serials(self) -> list[str]:
+        return [row[0] for row in self.rows()]
+
+    def texts(self, selector: str) -> list[str]:
+        """The texts of elements, as they are written."""
+        words = "return [...document.querySelectorAll(arguments[0])].map((one) => one.textContent);"
+        found: list[str] = self.run(words, selector)
+        return found
+
+    def total(self) -> list[str]:
+        return [re.sub("[$,]", "", text) for text in self.texts("#table tfoot tr > *")]
+
+    def sheet(self) -> str:
+        """The table's texts, set as the counter prints a sheet."""
+        lines = [self.texts("#table thead th"), *self.rows(), self.total()]
+        return "".join(line_of(cells) for cells in lines)
+
+    # ---- what is done
+
+    def choose_file(self, selector: str, content: bytes) -> str:
+        """Opens a file's bytes by a field of the page. Returns what the page tells."""
+        path = Path(tempfile.mkdtemp(dir=self.folder)) / "file.csv"
+        path.write_bytes(content)
+        self.run("document.querySelector('#told-text').textContent = ''")
+        self.find(selector).send_keys(str(path))
+        return str(self.until(self.told, f"{selector} is read"))
+
+    def open_inventory(self, content: bytes) -> str:
+        return self.choose_file("#inventory-file", content)
+
+    def open_rates(self, content: bytes, alone: bool = True) -> str:
+        self.run("document.querySelector('#alone').checked = arguments[0]", alone)
+        return self.choose_file("#rate-file", content)
+
+    def choose_month(self, text: str) -> None:
+        words = "document.querySelector('#month').value = arguments[0]; document.querySelector('#month-form').requestSubmit()"
+        self.run(words, text)
+
+    def choose_module(self, bits: int) -> None:
+        words = "const field = document.querySelector('#module'); field.value = arguments[0]; field.dispatchEvent(new Event('input'))"
+        self.run(words, str(bits))
+        named = f"the module of {bits} bits"
+        told = "return document.querySelector('#module-told').textContent"
+        self.until(lambda: named in self.run(told), named)
+
+    def remove_all(self) -> None:
+        self.run("window.confirm = () => true; document.querySelector('#remove-all').click()")
+
+    def shows_only(self, rates: bytes, inventory: bytes, month: str) -> None:
+        """Shows an inventory by these rates in a month, and nothing else."""
+        self.remove_all()
+        told = self.open_rates(rates), self.open_inventory(inventory)
+        assert "read" in told[0] and "added" in told[1], told
+        self.choose_month(month)
+
+    def set_field(self, name: str, text: str) -> None:
+        words = "const field = document.querySelector(`#${arguments[0]}`); field.value = arguments[1]; field.dispatchEvent(new Event('input', { bubbles: true }))"
+        self.run(words, name, text)
+
+    def click(self, selector: str) -> None:
+        self.run("document.querySelector(arguments[0]).click()", selector)
+
+    def open_bond(self, serial: str) -> None:
+        words = "const button = [...document.querySelectorAll('#table .open')].find((one) => one.textContent === arguments[0]); button.focus(); button.click();"
+        self.run(words, serial)
+
+    def saved(self, name: str, press: str) -> str:
+        """The text of a file that the page saves as that button is pressed."""
+        path = self.downloads / name
+        path.unlink(missing_ok=True)
+        self.click(press)
+        parts = ("*.part", "*.crdownload")
+        self.until(
+            lambda: path.exists()
+            and path.stat().st_size > 0
+            and not any(list(self.downloads.glob(part)) for part in parts),
+            f"{name} is saved",
+        )
+        return path.read_bytes().decode()
+
+
+def line_of(cells: list[str]) -> str:
+    placed = [
+        text.rjust(width) if place in RIGHT else text.ljust(width)
+        for place, (text, width) in enumerate(zip(cells, WIDTHS, strict=True))
+    ]
+    return " ".join(placed if cells[-1] else placed[:-1]) + "\n"

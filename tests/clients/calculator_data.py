@@ -1,0 +1,276 @@
+"""Random rates, bonds and months, files with each fault, and what the program answers of them."""
+
+from __future__ import annotations
+
+import json
+import random
+import subprocess
+import tempfile
+from concurrent.futures import ThreadPoolExecutor
+from pathlib import Path
+from typing import Iterable, Iterator, NamedTuple
+
+from tests.conftest import MEMORY, TOP
+from tests.shared import exact
+
+#: The terms of each period: a fixed rate and an extension, in hundredths of a percent.
+Rates = dict[int, tuple[int, int]]
+#: Serial, dollars, issue month, owner, co-owner or None.
+Bond = tuple[str, int, int, int, int | None]
+#: The name of a file, its bytes, and what the program says of it.
+Case = tuple[str, bytes, str]
+
+PUBLISHED = TOP / "crates/published_values/data"
+SHIPPED = (TOP / "samples/rates.csv").read_bytes()
+#: The rate periods that the page ships, and the issue months from 2005-05 on that they cover.
+SHIPPED_PERIODS = SHIPPED.count(b"\n") - 1
+SHIPPED_MONTHS = 6 * SHIPPED_PERIODS
+FIRST, LAST_ISSUE, LAST_MONTH = 12 * 2005 + 4, 12 * 2099 + 11, 12 * 2199 + 11
+INVENTORY = b"serial,denom,issued,owner,coowner\n"
+RATES, EXTENDED = b"from,rate\n", b"from,rate,extension\n"
+
+
+def month_text(month: int) -> str:
+    return f"{month // 12}-{month % 12 + 1:02}"
+
+
+def rate_text(hundredths: int) -> str:
+    return f"{hundredths // 100}.{hundredths % 100:02}"
+
+
+def random_rates(dice: random.Random, count: int = 190) -> Rates:
+    """Terms of so many periods; the extension is the fixed rate now and then."""
+    found = {}
+    for period in sorted(dice.sample(range(FIRST, LAST_ISSUE + 1, 6), count)):
+        rate = dice.choice((0, 10, 350, 402, 2000)) if dice.random() < 0.1 else dice.randrange(2001)
+        found[period] = (rate, rate if dice.random() < 0.3 else dice.randrange(2001))
+    return found
+
+
+def rates_file(rates: Rates) -> bytes:
+    lines = [
+        f"{month_text(period)},{rate_text(rate)},{'' if extension == rate else rate_text(extension)}\n"
+        for period, (rate, extension) in rates.items()
+    ]
+    return EXTENDED + "".join(lines).encode()
+
+
+def random_month(dice: random.Random, issued: int) -> int:
+    """A value month, mostly one that some bond's notes turn at."""
+    turns = (-1, 0, 11, 12, 59, 60, 239, 240, 359, 360)
+    month = issued + (dice.choice(turns) if dice.random() < 0.5 else dice.randrange(-12, 400))
+    return min(max(month, FIRST), LAST_MONTH)
+
+
+def random_bonds(
+    dice: random.Random, count: int, owner: int = 7, months: range = range(FIRST, LAST_ISSUE + 1)
+) -> list[Bond]:
+    bonds: dict[str, Bond] = {}
+    while len(bonds) < count:
+        letter, digits = dice.choice("ABCDEFGHIJKLMNOPQRSTUVWXYZ"), dice.randrange(1, 11)
+        serial = f"{letter}{dice.randrange(1, 10 ** digits)}EE"
+        issued = dice.choice(months[:240] if dice.random() < 0.7 else months)
+        coowner = dice.choice((None, owner + 1000))
+        bonds[serial] = (serial, dice.choice(exact.DOLLARS), issued, owner, coowner)
+    return list(bonds.values())
+
+
+#: The issue months that have a rate of those that the page ships.
+KNOWN = range(FIRST, FIRST + SHIPPED_MONTHS)
+
+
+def spelled(dice: random.Random, bond: Bond) -> str:
+    """A line of an inventory, spelled in one of the ways that are read."""
+    serial, dollars, issued, owner, coowner = bond
+    number = serial[1:-2].zfill(dice.randrange(len(serial) - 3, 11))
+    one, two = (dice.choice(("", "-")) for _ in range(2))
+    issue = month_text(issued) if dice.random() < 0.6 else f"{issued % 12 + 1:02}/{issued // 12}"
+    fields = [f"{serial[0]}{one}{number}{two}EE", str(dollars), issue, str(owner)]
+    fields.append("" if coowner is None else str(coowner))
+    return ",".join(f'"{field}"' if dice.random() < 0.1 else field for field in fields)
+
+
+def inventory_file(bonds: Iterable[Bond], dice: random.Random | None = None) -> bytes:
+    if dice is not None:
+        ends = dice.choice(("\n", "\r\n", "\r"))
+        return INVENTORY + "".join(spelled(dice, bond) + ends for bond in bonds).encode()
+    lines = [
+        f"{s},{dollars},{month_text(i)},{owner},{co or ''}\n" for s, dollars, i, owner, co in bonds
+    ]
+    return INVENTORY + "".join(lines).encode()
+
+
+# ---- files with each fault
+
+GOOD = b"L1EE,50,2010-11,7,\n"
+SERIALS = [b"", b"L1", b"L0EE", b"l1EE", b"L1ee", b"LEE", b"L--1EE", b"L12345678901EE", b" L1EE"]
+SERIALS += [b"L00000000000EE", b"L1EE ", b"11EE", b"L1-2EE", b"L1EEE", b"LL1EE", b"\xffL1EE"]
+SERIALS += [b"L\xc2\xb9EE", b"L1EE\x00"]
+DENOMS = b"|25|050|50.00|$50|1,000|1e3|+50| 50|-50|10001".split(b"|")
+MONTHS = b"|2005-04|2100-01|2010-00|2010-13|2010-1|1/2010|10/10|2010/11|11-2010".split(b"|")
+MONTHS += [b"2010-11-01", b"Nov-10", b"20100-1", b"99999-11"]
+OWNERS = b"|0|1000000000|-7|7.0|000000000|seven".split(b"|")
+
+
+def bad_fields() -> Iterator[bytes]:
+    """Lines of an inventory whose first fault is in each column."""
+    yield from (serial + b",50,2010-11,7," for serial in SERIALS)
+    yield from (b'L1EE,"' + denom + b'",2010-11,7,' for denom in DENOMS)
+    yield from (b"L1EE,50," + issued + b",7," for issued in MONTHS)
+    yield from (b"L1EE,50,2010-11," + owner + b"," for owner in OWNERS)
+    yield from (b"L1EE,50,2010-11,7," + coowner for coowner in (b"0", b"x", b" 8", b"0000000008"))
+
+
+#: Each refusal of the reader and of the register, and spellings that are read all the same.
+INVENTORIES: dict[str, bytes] = {
+    **{f"field {n}": INVENTORY + GOOD + line + b"\n" for n, line in enumerate(bad_fields())},
+    "left fault first": INVENTORY + b"x,x,x,x,x\n",
+    "first row first": INVENTORY + GOOD + b"x,50,2010-11,7,\nL2EE,50\n",
+    "no byte": b"",
+    "header alone": INVENTORY,
+    "empty lines": b"\n\r\n\r\r\n" + INVENTORY + b"\n\n" + GOOD + b"\r\r",
+    "other header": b"serial,denom,issued,owner\n" + GOOD,
+    "header in capitals": INVENTORY.upper() + GOOD,
+    "header with spaces": b"serial, denom, issued, owner, coowner\n" + GOOD,
+    "header in quotes": b'"serial","denom",issued,owner,"coowner"\n' + GOOD,
+    "a header of six": b"serial,denom,issued,owner,coowner,x\n" + GOOD,
+    "byte order mark": b"\xef\xbb\xbf" + INVENTORY + GOOD,
+    "two byte order marks": b"\xef\xbb\xbf\xef\xbb\xbf" + INVENTORY + GOOD,
+    "half a byte order mark": b"\xef\xbb" + INVENTORY + GOOD,
+    "four fields": INVENTORY + b"L1EE,50,2010-11,7\n",
+    "six fields": INVENTORY + b"L1EE,50,2010-11,7,,\n",
+    "cut": INVENTORY + GOOD + b"M3EE,10000,2011-02",
+    "a space as a line": INVENTORY + GOOD + b" \n",
+    "quotes as a line": INVENTORY + GOOD + b'""\n',
+    "an open quote": INVENTORY + b'"L1EE,50,2010-11,7,\n',
+    "a quote inside": INVENTORY + b'L"1EE,50,2010-11,7,\n',
+    "bytes after a quote": INVENTORY + b'"L1"EE,50,"2010"-11,7,\n',
+    "doubled quotes": INVENTORY + b'"L1""EE",50,2010-11,7,\n',
+    "a line end in quotes": INVENTORY + b'"L1EE\n",50,2010-11,7,\n' + GOOD,
+    "carriage returns": (INVENTORY + GOOD).replace(b"\n", b"\r"),
+    "no last line end": INVENTORY + GOOD[:-1],
+    "semicolons": (INVENTORY + GOOD).replace(b",", b";"),
+    "a byte 0": INVENTORY + b"L1EE\x00,50,2010-11,7,\n",
+    "no text in the header": b"serial\xff,denom,issued,owner,coowner\n" + GOOD,
+    "1,048,576 bytes": (INVENTORY + GOOD).ljust(1_048_576, b"\n"),
+    "1,048,577 bytes": (INVENTORY + GOOD).ljust(1_048_577, b"\n"),
+    "1,048,577 bytes and no header": b"x" * 1_048_577,
+    "repeated": INVENTORY + GOOD + b"L-01-EE,75,2010-11,7,\n",
+    "same coowner": INVENTORY + GOOD + b"L2EE,50,2010-11,7,7\n",
+    "no rate": INVENTORY + b"L2EE,50,2021-05,7,\n",
+    "same coowner before no rate": INVENTORY + b"L2EE,50,2099-12,7,\nL3EE,50,2010-11,7,7\n",
+    "most of each": INVENTORY + b"Z9999999999EE,10000,2020-12,999999999,999999998\n",
+}
+RATE_FIELDS = b"|20.01|100|3.505|3,50|+3.50|.50|3.|3.5%%|% 3|3 %|3.50 |-0".split(b"|")
+RATE_FILES: dict[str, bytes] = {
+    **{f"rate {n}": RATES + b'2010-05,"' + one + b'"\n' for n, one in enumerate(RATE_FIELDS)},
+    **{
+        f"extension {n}": EXTENDED + b'2010-05,3.40,"' + f + b'"\n'
+        for n, f in enumerate(RATE_FIELDS)
+    },
+    **{
+        f"from {n}": RATES + one + b",3.50\n"
+        for n, one in enumerate(b"|2010|2005-04|2100-05|05-2010|2010-5".split(b"|"))
+    },
+    "spellings": RATES + b"05/2010,3\n2010-11,3.5\n2011-05,03.50%\n2011-11,0%\n2012-05,20.00\n",
+    "no byte": b"",
+    "header alone": EXTENDED,
+    "other header": b"from,rate,extended\n2010-05,3.50,\n",
+    "two fields under three": EXTENDED + b"2010-05,3.50\n",
+    "three fields under two": RATES + b"2010-05,3.50,\n",
+    "not announced": RATES + b"2010-05,3.50\n2010-06,3.50\n",
+    "conflict": RATES + b"2010-05,3.50\n2010-05,3.40\n",
+    "extension conflict": EXTENDED + b"2010-05,3.50,\n2010-05,3.50,3.40\n",
+    "the same twice": EXTENDED + b"2010-05,3.50,\n2010-05,3.5%,3.50\n",
+    "announcement before conflict": RATES + b"2010-05,3.50\n2010-05,3.40\n2010-06,3.50\n",
+    "500 rows": RATES + b"2010-05,3.50\n" * 500,
+    "501 rows": RATES + b"2010-05,3.50\n" * 501,
+    "1,048,577 bytes": (RATES + b"2010-05,3.50\n").ljust(1_048_577, b"\n"),
+}
+
+
+def damaged(dice: random.Random, content: bytes) -> bytes:
+    """A file with a few bytes changed, taken out or doubled."""
+    made = bytearray(content)
+    for _ in range(dice.randrange(1, 4)):
+        at = dice.randrange(len(made))
+        others = (b'"', b",", b"\n", b"\r", b" ", b"0", b"E", b"-", b"\xff", b"\xc3\xa9")
+        made[at : at + 1] = dice.choice((b"", bytes([made[at]]) * 2, dice.choice(others)))
+    return bytes(made)
+
+
+# ---- what the program answers
+
+
+class Store:
+    """A store of its own in memory, under one name of the program."""
+
+    def __init__(self, program: Path, rates: bytes | None = None) -> None:
+        self.program, self.number = program, 0
+        self.folder = tempfile.TemporaryDirectory(dir=MEMORY)
+        self.store = Path(self.folder.name) / "day.db"
+        if rates is not None:
+            self.enter("rates", rates)
+
+    def run(self, *words: str, given: bytes = b"") -> str:
+        """The output, or the text of the fault."""
+        line = [str(self.program), *words, "--db", str(self.store)]
+        done = subprocess.run(line, input=given, capture_output=True)
+        return (done.stdout or done.stderr).decode()
+
+    def enter(self, kind: str, content: bytes) -> str:
+        """Imports a file's bytes. Returns the reply or the fault."""
+        self.number += 1
+        path = Path(self.folder.name) / "file.csv"
+        path.write_bytes(content)
+        return self.run("import", kind, str(path), "--number", str(self.number))
+
+
+def answers(program: Path, kind: str, files: dict[str, bytes]) -> list[Case]:
+    """What the program says to each file, over a store with the shipped rates, or none for files of rates. A file that was refused changed nothing, so its store serves again."""
+
+    def part(names: list[str]) -> list[Case]:
+        found: list[Case] = []
+        store: Store | None = None
+        for name in names:
+            store = store or Store(program, None if kind == "rates" else SHIPPED)
+            found.append((name, files[name], store.enter(kind, files[name])))
+            if found[-1][2].startswith('{"new":'):
+                store = None
+        return found
+
+    names = list(files)
+    with ThreadPoolExecutor(3) as pool:
+        return [case for found in pool.map(part, (names[n::3] for n in range(3))) for case in found]
+
+
+class Sheet(NamedTuple):
+    """A file of rates and one of bonds, and the sheet that the program prints of them for an owner in a month."""
+
+    rates: bytes
+    file: bytes
+    owner: int
+    month: str
+    sheet: str
+
+
+def sheets(program: Path, dice: random.Random, count: int) -> list[Sheet]:
+    """Sheets of random inventories of 1 to 120 bonds each, all of one store."""
+    rates = random_rates(dice, 40)
+    months = range(FIRST, LAST_ISSUE + 1)
+    periods = [month for month in months if month - (month - 4) % 6 in rates]
+    store, used = Store(program, rates_file(rates)), set[str]()
+    found = []
+    for owner in range(1, count + 1):
+        bonds: list[Bond] = []
+        while not bonds:
+            drawn = random_bonds(dice, dice.choice((1, 2, 5, 20, 120)), owner)
+            bonds = [(s, d, dice.choice(periods), o, c) for s, d, _, o, c in drawn if s not in used]
+        used.update(bond[0] for bond in bonds)
+        file = inventory_file(bonds, dice)
+        reply = store.enter("inventory", file)
+        assert json.loads(reply) == {"new": len(bonds), "same": 0}, reply
+        month = month_text(random_month(dice, dice.choice(bonds)[2]))
+        printed = store.run("sheet", str(owner), month)
+        found.append(Sheet(rates_file(rates), file, owner, month, printed))
+    return found

@@ -1,0 +1,328 @@
+"""Both clients beside docs/openapi.json: each message that the Python client and the tellers' page send is one of its, and each example of an answer is read as what it is."""
+
+from __future__ import annotations
+
+import contextlib
+import copy
+import json
+import re
+import shutil
+import subprocess
+from pathlib import Path
+from typing import Any, Callable, Iterator, NamedTuple
+
+import jsonschema
+import pytest
+
+import ee_counter_client as client
+from ee_counter_client import answers, errors, sheets
+from ee_counter_client.spelling import serial_of
+from tests.clients.desk import DAY, Desk
+from tests.conftest import TOP
+
+#: The description.
+Api = dict[str, Any]
+API: Api = json.loads((TOP / "docs/openapi.json").read_text())
+#: What the page asks for; the back office's paths are the Python client's alone.
+OF_PAGE = ["/bonds", "/redeem", "/day/open", "/day/close", "/inventory/{customer}/{month}"]
+OF_PAGE += ["/ticket/{ticket}", "/batch/{day}", "/value/{denom}/{issued}/{month}"]
+#: nginx's reasons after which both clients send the same request again.
+SENT_AGAIN = ("repeated", "rate")
+
+
+class Example(NamedTuple):
+    """An example of an answer, and the fields of the request that it answers."""
+
+    path: str
+    fields: dict[str, Any]
+    status: int
+    text: str
+    value: Any
+    name: str
+
+
+def compact(value: object) -> str:
+    if isinstance(value, str):
+        return value
+    return json.dumps(value, separators=(",", ":"), sort_keys=True)
+
+
+def spelled(fields: dict[str, Any]) -> dict[str, Any]:
+    """Fields as both clients spell them."""
+    more = {"serials": [serial_of(one) for one in fields["serials"]]} if "serials" in fields else {}
+    return {**fields, **more}
+
+
+# ---- the description
+
+
+def fits(api: Api, schema: dict[str, Any], value: object) -> None:
+    whole = {"allOf": [schema], "components": api["components"]}
+    faults = list(jsonschema.Draft202012Validator(whole).iter_errors(value))
+    assert faults == [], value
+
+
+def message_fits(api: Api, method: str, path: str, body: object) -> str:
+    """A message is one of the description. Returns its path there."""
+    for template, item in api["paths"].items():
+        parts = re.fullmatch(re.sub(r"\{(\w+)\}", r"(?P<\1>[^/]+)", template), path)
+        if parts is None or method.lower() not in item:
+            continue
+        operation = item[method.lower()]
+        for parameter in operation["parameters"]:
+            if "$ref" not in parameter:
+                text, schema = parts[parameter["name"]], parameter["schema"]
+                named = resolved(api, schema)
+                is_number = named.get("type") == "integer" or 50 in named.get("enum", [])
+                fits(api, schema, int(text) if is_number else text)
+        assert (body is not None) == ("requestBody" in operation), path
+        if body is not None:
+            fits(api, operation["requestBody"]["content"]["application/json"]["schema"], body)
+        return str(template)
+    raise AssertionError(f"no path of the description has {method} {path}")
+
+
+def resolved(api: Api, part: dict[str, Any]) -> dict[str, Any]:
+    name = part.get("$ref", "").split("/")[-1]
+    found: dict[str, Any] = api["components"]["schemas"][name] if name else part
+    return found
+
+
+def examples_of(api: Api) -> Iterator[Example]:
+    """Each example of an answer."""
+    for path, item in api["paths"].items():
+        for operation in item.values():
+            sent = {}
+            if "requestBody" in operation:
+                sent = operation["requestBody"]["content"]["application/json"]["examples"]
+            for status, response in operation["responses"].items():
+                if "$ref" in response:
+                    response = api["components"]["responses"][response["$ref"].split("/")[-1]]
+                for content in response["content"].values():
+                    for name, one in content.get("examples", {}).items():
+                        asked = dict(sent.get(name, {"value": {}})["value"])
+                        fields = {k: v for k, v in asked.items() if k not in ("desk", "number")}
+                        met = one.get("x-status") or int(status)
+                        value = one["value"]
+                        yield Example(path, spelled(fields), met, compact(value), value, name)
+
+
+def wanted_of(example: Example) -> tuple[str, int | None, str | None]:
+    """The kind, code and name as which an answer is to be read."""
+    value = example.value
+    if example.status == 200:
+        return "reply", None, None
+    if "forbidden" in value or "unavailable" in value:
+        is_final = "forbidden" in value and value["forbidden"] not in SENT_AGAIN
+        return ("forbidden", None, value["forbidden"]) if is_final else ("none", None, None)
+    kind = next(name for name in ("refused", "fault", "unserved") if name in value)
+    return kind, value["code"], value[kind]
+
+
+# ---- the Python client
+
+
+def python_sends(desk: Desk, api: Api) -> None:
+    """Each of its calls sends a message of the description, and it has each path."""
+    desk.journal.unlink(missing_ok=True)
+    with desk.counter(desk=999) as counter:
+        counter.add_rates(
+            [client.Rates("11/2010", "3.5", "4"), {"from": "2010-05", "rate": "3.50%"}]
+        )
+        bonds = [client.Bond("L-5-EE", 50, "2010-11", 7)]
+        bonds += [client.Bond("A9999999999EE", 10000, "10/2010", 999_999_999, 8)]
+        counter.add_bonds(bonds, even_so=True)
+        acts: list[Callable[[], object]] = [lambda: counter.open_day(DAY, even_so=True)]
+        acts += [lambda: counter.redeem(DAY, 7, ["L1EE"]), lambda: counter.close_day(DAY)]
+        for act in acts:
+            with contextlib.suppress(client.Refused):
+                act()
+        counter.inventory(7, "02/2012")
+        counter.ticket(2**63 - 1)
+        counter.batch(DAY)
+        counter.value(75, "10/2010", "2012-02")
+    bodies, templates = iter(desk.gate.bodies), set()
+    for head in desk.gate.heads:
+        method, path, _ = head.decode().splitlines()[0].split(" ")
+        body = json.loads(next(bodies)) if method == "POST" else None
+        templates.add(message_fits(api, method, path, body))
+    assert templates == set(api["paths"])
+
+
+def python_reads(desk: Desk, api: Api) -> None:
+    """Each example is read as what it is."""
+    readers: dict[str, Callable[[str], object]] = {
+        "inventory": sheets.sheet_in,
+        "ticket": answers.ticket_in,
+        "batch": answers.batch_in,
+        "value": answers.row_in,
+    }
+    found = list(examples_of(api))
+    assert len(found) > 50
+    for one in found:
+        path, fields = one.path, one.fields
+        reader = readers.get(path.split("/")[1], lambda text: answers.reply_in(path, fields, text))
+        answer = answers.answer_of(one.status, one.text, reader)
+        kind, code, name = wanted_of(one)
+        if kind == "forbidden":
+            is_mine = isinstance(answer.setup, client.CertificateRefused)
+            assert (name == "certificate") == is_mine and (is_mine or answer.value == name), one
+            continue
+        value = answer.value if isinstance(answer.value, dict) and kind != "reply" else {}
+        assert (answer.kind, value.get("code"), value.get(answer.kind)) == (kind, code, name), one
+
+
+def python_refusals(desk: Desk, api: Api) -> None:
+    """Each refusal of the description has its class, with the names that it gives, and there is no other class."""
+    codes = set()
+    for name, schema in api["components"]["schemas"].items():
+        properties = dict(schema.get("properties", {}))
+        if "refused" not in properties or name in ("NumberReused", "NoRateOfValue"):
+            continue
+        code = properties.pop("code")["const"]
+        properties.pop("refused")
+        codes.add(code)
+        kind = errors.REFUSALS[code]
+        types = {
+            key: int if "integer" in json.dumps(resolved(api, part)) else str
+            for key, part in properties.items()
+        }
+        assert (kind.__name__, dict(kind.keys)) == (name, types)
+        texts = {"month": "2010-06", "serial": "L1EE"}
+        named = {key: 7 if form is int else texts[key] for key, form in types.items()}
+        value = dict(sorted({"code": code, "refused": name, **named}.items()))
+        assert type(errors.refusal_of(value)) is kind and errors.is_known_shape(value)
+    assert codes == set(errors.REFUSALS)
+
+
+# ---- the page
+
+
+def page_does(desk: Desk, api: Api) -> None:
+    """The page's modules, run by Node: they ask for their paths, once each, take each reply, and read each example as what it is."""
+    told = [example for example in examples_of(api) if example.path in OF_PAGE]
+    first: dict[str, Example] = {}
+    for one in told:
+        if one.status == 200:
+            first.setdefault(one.path, one)
+    parts = {
+        "/ticket/{ticket}": [first["/ticket/{ticket}"].value["ticket"]],
+        "/batch/{day}": [first["/batch/{day}"].value["day"]],
+        "/inventory/{customer}/{month}": [7, "2012-02"],
+        "/value/{denom}/{issued}/{month}": [50, "2010-11", "2012-02"],
+    }
+    calls = [
+        {
+            "path": path,
+            "fields": one.fields,
+            "parts": parts.get(path),
+            "answer": {"status": 200, "text": one.text},
+        }
+        for path, one in first.items()
+    ]
+    modules = desk.place / "teller"
+    shutil.copytree(TOP / "clients/teller", modules, dirs_exist_ok=True)
+    (modules / "package.json").write_text('{"type":"module"}')
+    plan = {"modules": modules.as_uri(), "calls": calls, "answers": [one._asdict() for one in told]}
+    words = ["node", "--no-warnings", str(Path(__file__).parent / "api_page.mjs")]
+    ran = subprocess.run(words, input=json.dumps(plan), capture_output=True, text=True)
+    assert ran.returncode == 0, ran.stderr[-800:]
+    found = json.loads(ran.stdout)
+    sent = [message_fits(api, one["method"], one["path"], one["body"]) for one in found["sent"]]
+    assert sorted(sent) == sorted(OF_PAGE)
+    assert all("X-Counter-Client" in one["headers"] for one in found["sent"])
+    assert not {"none", "fault", "refused"} & set(found["kinds"])
+    for one, answer in zip(told, found["answers"], strict=True):
+        kind, code, name = wanted_of(one)
+        if kind == "reply":
+            others = ("none", "refused", "fault", "unserved", "forbidden")
+            assert answer["kind"] not in others, one
+        else:
+            assert (answer["kind"], answer.get("code"), answer.get("name")) == (
+                kind,
+                code,
+                name,
+            ), one
+
+
+# ---- the tests, and a description that is changed by one thing
+
+needs_node = pytest.mark.needs("node")
+CHECKS = [python_sends, python_reads, python_refusals, pytest.param(page_does, marks=needs_node)]
+
+
+@pytest.mark.parametrize("check", CHECKS)
+def test_description(desk: Desk, check: Callable[[Desk, Api], None]) -> None:
+    check(desk, API)
+
+
+def schema(api: Api, name: str) -> Any:
+    return api["components"]["schemas"][name]
+
+
+def renamed(part: dict[str, Any], old: str, new: str) -> None:
+    part["properties"][new] = part["properties"].pop(old)
+    part["required"] = [new if name == old else name for name in part["required"]]
+
+
+def with_key(api: Api, status: str, key: str) -> None:
+    """The first example of an answer to /redeem gets a key more."""
+    responses = api["paths"]["/redeem"]["post"]["responses"]
+    examples = responses[status]["content"]["application/json"]["examples"]
+    next(iter(examples.values()))["value"][key] = 5
+
+
+WRONG: dict[str, tuple[Callable[[Api], object], list[Any]]] = {
+    "a field with another name": (
+        lambda api: renamed(schema(api, "Redemption"), "payee", "customer"),
+        [python_sends, page_does],
+    ),
+    "a field more": (
+        lambda api: schema(api, "DayRequest")["required"].append("teller"),
+        [python_sends, page_does],
+    ),
+    "a path with another name": (
+        lambda api: api["paths"].update({"/pay": api["paths"].pop("/redeem")}),
+        [python_sends],
+    ),
+    "a path more": (
+        lambda api: api["paths"].update({"/tickets": api["paths"]["/day/open"]}),
+        [python_sends],
+    ),
+    "least desk 1000": (
+        lambda api: schema(api, "Desk").update({"minimum": 1000, "maximum": 2000}),
+        [python_sends, page_does],
+    ),
+    "a ticket with a key more": (
+        lambda api: with_key(api, "200", "teller"),
+        [python_reads, page_does],
+    ),
+    "a refusal with a key more": (
+        lambda api: with_key(api, "409", "zone"),
+        [python_reads, page_does],
+    ),
+    "a refusal that names an age": (
+        lambda api: renamed(schema(api, "RateUnsettled"), "month", "age"),
+        [python_refusals],
+    ),
+    "a refusal with another code": (
+        lambda api: schema(api, "DayFull")["properties"]["code"].update({"const": 45}),
+        [python_refusals],
+    ),
+}
+
+
+@pytest.mark.parametrize(
+    "what, check",
+    [
+        pytest.param(what, check, marks=[needs_node] if check is page_does else [])
+        for what, (_, checks) in WRONG.items()
+        for check in checks
+    ],
+)
+def test_changed_description(desk: Desk, what: str, check: Callable[[Desk, Api], None]) -> None:
+    """Control: a description that is changed by one thing is found."""
+    other = copy.deepcopy(API)
+    WRONG[what][0](other)
+    with pytest.raises((AssertionError, KeyError)):
+        check(desk, other)

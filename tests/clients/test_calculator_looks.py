@@ -1,0 +1,386 @@
+"""How the calculator looks and reads: 320 pixels, 200 % zoom, paper, names and contrast, a bond's dialog, and the pictures of docs/pictures."""
+
+from __future__ import annotations
+
+import datetime
+import random
+import subprocess
+import time
+from pathlib import Path
+from typing import Any, Iterable
+
+import pytest
+from selenium.webdriver.common.keys import Keys
+
+from tests.browser.engines import Chromium, said
+from tests.clients.calculator import SIZE, Calculator, Changes, script, variants
+from tests.clients.calculator_data import INVENTORY, KNOWN, inventory_file, random_bonds
+from tests.clients.test_calculator_uses import put
+
+pytestmark = [
+    pytest.mark.browser,
+    pytest.mark.needs("module:selenium", "file:clients/calculator/out/calculator.js"),
+]
+BONDS = """C1204415EE,100,2006-03,7, C1204416EE,100,2006-03,7, K20488EE,75,2010-10,7,8
+L77031EE,50,2010-11,7, L77032EE,50,2010-11,7,8 D9910EE,500,2005-05,7, D9911EE,500,2007-12,7,
+M801EE,1000,2011-08,7, R802EE,200,2011-11,7, V4400127EE,5000,2009-06,7, X300519EE,10000,2011-02,7,"""
+FILE = INVENTORY + "".join(f"{line}\n" for line in BONDS.split()).encode()
+
+# ---- what fits
+
+OVER = """
+    const wide = [...document.querySelectorAll("body *")].filter((one) => one.checkVisibility() && one.getBoundingClientRect().right > innerWidth + 1 && one.closest(".skip") === null);
+    return [document.documentElement.scrollWidth > innerWidth, wide.slice(0, 5).map((one) => one.outerHTML.slice(0, 120))];
+"""
+#: Cells of the table whose text is wider than they are.
+CUT = """
+    const cells = [...document.querySelectorAll("#table tbody th, #table tbody td, #table thead th")].filter((one) => one.checkVisibility());
+    return cells.filter((one) => one.scrollWidth > one.clientWidth + 1).map((one) => `${one.className} ${one.textContent}`);
+"""
+#: Words and sums that are broken over two lines.
+BROKEN = """
+    const texts = [];
+    for (const root of document.querySelectorAll("dialog[open], #understood-rows, #table, #total, #sums, #one-told")) {
+        const walker = document.createTreeWalker(root, NodeFilter.SHOW_TEXT);
+        while (walker.nextNode()) if (walker.currentNode.parentNode.checkVisibility()) texts.push(walker.currentNode);
+    }
+    const lines = (node, start, end) => { const range = document.createRange(); range.setStart(node, start); range.setEnd(node, end); return new Set([...range.getClientRects()].map((box) => Math.round(box.top))).size; };
+    return texts.flatMap((node) => [...node.data.matchAll(/\\S+/g)].filter((word) => lines(node, word.index, word.index + word[0].length) > 1).map((word) => word[0]));
+"""
+SMALL = """
+    const shown = [...document.querySelectorAll("button, input, select, summary")].filter((one) => one.checkVisibility() && one.type !== "checkbox");
+    return shown.filter((one) => one.getBoundingClientRect().height < 24).map((one) => one.outerHTML.slice(0, 120));
+"""
+VALUE_FIRST = """
+    const row = document.querySelector("#table tbody tr"), top = (name) => row.querySelector(`.${name}`).getBoundingClientRect().top;
+    return top("serial") < top("value") && ["denom", "issued", "next", "price"].every((name) => top("value") <= top(name));
+"""
+DETAILS = "for (const one of document.querySelectorAll('details')) one.open = true"
+LONG = "Serial\tDenom\tIssued\tOwner\tCoowner\nW9999999999EE\t10000\tSeptember 2010\t999999999\t999999998\nC1EE\t50\t5/2010\t7\t\n"
+SHORT = "W9999999999EE\t10000\tSeptember 2010\nC1EE\t50\t5/2010\n"
+
+
+def fits(page: Calculator) -> None:
+    """Nothing goes over the edge, no cell is cut, no word and no sum is broken."""
+    assert page.run(BROKEN) == []
+    assert page.run(OVER) == [False, []]
+    assert page.run(CUT) == []
+
+
+def widest(page: Calculator) -> None:
+    """Bonds with the longest texts that a row can have: 1522468.00 at 20 %, and a serial number of 13 characters."""
+    page.remove_all()
+    page.open_rates(b"from,rate\n2005-05,20.00\n")
+    page.open_inventory(
+        INVENTORY + b"W9999999999EE,10000,2005-05,7,8\nM8888888888EE,10000,2005-06,7,\n"
+    )
+    page.choose_month("2035-05")
+
+
+WIDE = ("style.css", "max-width: 84rem;", "min-width: 30rem;")
+CARDS = (
+    (
+        "style.css",
+        "repeat(auto-fill, minmax(7.6rem, 1fr))",
+        "repeat(auto-fill, minmax(1.8rem, 1fr))",
+    ),
+    ("style.css", "  min-width: 0;\n", "  min-width: 0;\n  overflow-wrap: anywhere;\n"),
+)
+
+
+@variants(thirty_letters_wide=WIDE, cards_that_break_words=CARDS)
+def test_narrow(calculator: Calculator, changes: Changes) -> None:
+    """At 320 pixels, at 200 % zoom of 1280, and with letters of twice the size; long faults and the longest rows too."""
+    page = calculator
+    page.serve(changes)
+    page.open_inventory(FILE)
+    page.choose_month("2012-02")
+    with page.holds_not(changes):
+        for width in (320, 360, 640):
+            page.resize(width, 800)
+            page.run(DETAILS)
+            for text in (LONG, SHORT):
+                put(page, text)
+                fits(page)
+            put(page, "")
+            assert page.run(SMALL) == [] and page.run(VALUE_FIRST)
+            page.open_inventory(INVENTORY + b"x" * 200 + b",50,2010-05,7,\n")
+            fits(page)
+        widest(page)
+        for width in (320, 480, 700, 1000, 1060, 1110, 1280):
+            page.resize(width, 900)
+            for column in ("series", "denom", "value"):
+                page.click(f"#table [data-column='{column}']")
+                fits(page)
+        page.run("document.documentElement.style.fontSize = '200%'")
+        fits(page)
+
+
+# ---- a bond's dialog
+
+PARTS = "dialog[open], dialog h2, dialog h3, dialog dt, dialog table, dialog th, dialog svg, dialog button"
+#: Of bond L77031EE in February 2012, with the chart's table open: what a screen reader is given, by role and name.
+AGES = ["Interest is next added", "The penalty ends, 5 years old"]
+AGES += ["It is worth twice its price at least, 20 years old", "Final maturity, 30 years old"]
+CHART = "The value of bond L77031EE from $25.00 in November 2010 to $53.20 in November 2040. The table has every year."
+GIVEN = [
+    *(("dialog", "Bond L77031EE"), ("heading", "Bond L77031EE")),
+    *(("term", name) for name in ("Bond", "Value", "Rate", "Owner")),
+    *(("heading", "What it will be worth"), ("table", "What it will be worth")),
+    *(("columnheader", name) for name in ("When", "Month", "Value")),
+    *(("rowheader", name) for name in AGES),
+    *(("heading", "Its value over 30 years"), ("image", CHART), ("table", "Bond L77031EE")),
+    *(("columnheader", name) for name in ("Month", "Value")),
+    *(("rowheader", f"November {year}") for year in range(2010, 2041)),
+    *(("button", "Close"), ("button", "Remove this bond")),
+]
+OUTSIDE = """
+    const { left, right, top, bottom } = document.activeElement.getBoundingClientRect();
+    return left < 0 || top < 0 || right > innerWidth || bottom > innerHeight || !document.activeElement.matches("dialog *");
+"""
+CHARTED = "return document.querySelector('#bond-figure svg') !== null"
+
+
+def whole_dialog(page: Calculator, serial: str) -> None:
+    """It opens at its title, and nothing is cut or broken; Tab reaches what it has, and shows it."""
+    page.open_bond(serial)
+    page.until(lambda: page.run(CHARTED), "the chart")
+    assert page.run("return document.querySelector('#bond').scrollTop") == 0
+    assert page.has_keyboard("#bond-title")
+    fits(page)
+    page.run("document.querySelector('#bond details').open = true")
+    fits(page)
+    for _ in range(3):
+        page.keys(Keys.TAB)
+        assert not page.run(OUTSIDE)
+    assert page.has_keyboard("#bond-remove")
+    page.keys(Keys.ESCAPE)
+    focused = "return document.activeElement.textContent"
+    page.until(lambda: page.run(focused) == serial, "Escape gives the keyboard back")
+
+
+@variants(
+    opened_at_its_last_button=("index.html", ' tabindex="-1" autofocus', ""),
+    table_without_a_name=script('"aria-labelledby": "ahead-title"', '"data-name": "ahead-title"'),
+    words_and_sums_broken=(
+        ("style.css", "  overflow-wrap: normal;", ""),
+        ("style.css", "dialog .small td:last-child {", ".none {"),
+    ),
+)
+def test_dialogs(calculator: Calculator, changes: Changes) -> None:
+    """In windows from 1440 to 320 pixels; a screen reader is given each part by role and name, and the dialog alone."""
+    page = calculator
+    page.serve(changes)
+    with page.holds_not(changes):
+        for width, height in ((1440, 900), (1024, 768), (768, 1024), (360, 640), (320, 568)):
+            page.resize(width, height)
+            page.remove_all()
+            page.click("#shipped")
+            page.open_inventory(FILE + b"C12EE,50,2012-04,7,\n")
+            page.choose_month("2012-02")
+            for serial in ("L77031EE", "C12EE", "K20488EE"):
+                whole_dialog(page, serial)
+            page.open_bond("L77031EE")
+            shown = [one for one in page.all(PARTS) if one.is_displayed()]
+            assert [(one.aria_role, one.accessible_name) for one in shown] == GIVEN
+            found = page.engine.dialog()
+            if found is not None:
+                assert found[2] and found[4] == ["Close", "Remove this bond"], "modal, and alone"
+            page.run("document.querySelector('#bond').close()")
+            widest(page)
+            whole_dialog(page, "W9999999999EE")
+
+
+# ---- paper
+
+
+def paper(page: Calculator) -> list[str]:
+    """The printed pages as texts."""
+    path = page.folder / "page.pdf"
+    path.write_bytes(page.engine.pdf(colored=True))
+    words = ["pdftotext", "-layout", str(path), "-"]
+    return subprocess.run(words, capture_output=True, text=True, check=True).stdout.split("\f")[:-1]
+
+
+NOT_PRINTED = ["Add a list of bonds", "The value of a bond", "Save the inventory", "Open rates"]
+NOT_PRINTED += ["Filter", "Choose"]
+
+
+@pytest.mark.needs("pdftotext")
+@variants(without_rules_for_paper=("style.css", "@media print", "@media speech"))
+def test_paper(calculator: Calculator, changes: Changes) -> None:
+    """Sums, all rows under headings on each page; no field and no button."""
+    page = calculator
+    page.serve(changes)
+    bonds = random_bonds(random.Random(4), 150, months=KNOWN)
+    page.open_inventory(inventory_file(bonds))
+    page.choose_month("2030-06")
+    time.sleep(1)
+    with page.holds_not(changes):
+        pages = paper(page)
+        text = "\n".join(pages)
+        assert [bond[0] for bond in bonds if bond[0] not in text] == []
+        for words in (
+            f"${float(page.total()[9]):,.2f}",
+            "Value of the inventory",
+            "What is proved",
+        ):
+            assert words in text
+        assert [words for words in NOT_PRINTED if words in text] == []
+        with_rows = [one for one in pages if any(bond[0] in one for bond in bonds)]
+        assert all("Denom" in one and "Final" in one for one in with_rows)
+
+
+TOTAL_ALONE = (
+    (
+        "style.css",
+        "#curve,\n  #about {\n    break-inside: avoid;",
+        "#curve {\n    break-inside: avoid;",
+    ),
+    script("this.foot.prepend(last)", "last"),
+)
+
+
+@pytest.mark.needs("pdftotext")
+@variants(total_alone=TOTAL_ALONE)
+def test_last_pages(calculator: Calculator, changes: Changes) -> None:
+    """Of inventories of different lengths no page begins with the total or has less than four lines, and the first one has the date."""
+    page = calculator
+    page.serve(changes)
+    today = datetime.date.today()
+    with page.holds_not(changes):
+        for count in (1, 5, 11, 20, *range(27, 33)):
+            page.remove_all()
+            lines = "".join(f"C{place + 1}EE,50,2010-05,7,\n" for place in range(count))
+            page.open_inventory(INVENTORY + lines.encode())
+            page.choose_month("2026-11")
+            time.sleep(0.5)
+            pages = [[line for line in text.splitlines() if line.strip()] for text in paper(page)]
+            assert f"Printed {today:%B} {today.day}, {today.year}" in pages[0][2]
+            for printed in pages:
+                has_total = any(line.startswith("Total") for line in printed)
+                has_bonds = any(line.startswith("C") and "EE" in line for line in printed)
+                assert len(printed) > 3 and (has_bonds or not has_total), (count, printed[:4])
+            assert len(page.rows()) == count, "the table has its rows again"
+
+
+# ---- names and contrast
+
+NAMES = """
+    const shown = (one) => one.checkVisibility();
+    const all = (words) => [...document.querySelectorAll(words)];
+    const fields = all("input, select, textarea").filter((one) => one.labels.length === 0 && !one.hasAttribute("aria-label"));
+    const buttons = all("button, a, summary").filter((one) => one.textContent.trim() === "" && shown(one));
+    const levels = all("h1, h2, h3").filter(shown).map((one) => Number(one.tagName[1]));
+    const jumps = levels.filter((level, at) => level - (levels[at - 1] ?? 0) > 1);
+    const ids = all("[id]").map((one) => one.id);
+    const live = all("[aria-live], [role=status], [role=alert], output").map((one) => one.id);
+    const ordered = all("[tabindex]").filter((one) => one.tabIndex > 0);
+    const svgs = all("svg").filter((one) => one.getAttribute("role") !== "img" || !one.getAttribute("aria-label"));
+    const untold = all("[data-text]").filter((one) => one.textContent === "" || one.textContent === "undefined");
+    const none = [fields, buttons, jumps, ordered, svgs, untold].map((one) => one.length);
+    return [none, levels.filter((level) => level === 1).length, ids.length - new Set(ids).size, live, document.documentElement.lang];
+"""
+WANTED = [[0] * 6, 1, 0, ["told-text", "one-told"], "en"]
+POOR = """
+    const parts = (text) => text.match(/[0-9.]+/g).map(Number);
+    const straight = (c) => (c <= 0.04045 ? c / 12.92 : ((c + 0.055) / 1.055) ** 2.4);
+    const light = (text) => { const [r, g, b] = parts(text).map((c) => straight(c / 255)); return 0.2126 * r + 0.7152 * g + 0.0722 * b; };
+    const ground = (one) => { for (let at = one; at !== null; at = at.parentElement) { const color = getComputedStyle(at).backgroundColor; if (parts(color)[3] !== 0) return color; } return "rgb(255, 255, 255)"; };
+    const has_text = (one) => [...one.childNodes].some((node) => node.nodeType === 3 && node.data.trim() !== "") || one.matches("input");
+    const seen = [...document.querySelectorAll("body *")].filter((one) => one.checkVisibility() && has_text(one) && one.closest(".skip, option, noscript") === null);
+    const ratio = (one) => {
+        const style = getComputedStyle(one);
+        const [more, less] = [light(one.namespaceURI.includes("svg") ? style.fill : style.color), light(ground(one))].sort((x, y) => y - x);
+        return (more + 0.05) / (less + 0.05);
+    };
+    return [seen.length, seen.filter((one) => ratio(one) < 4.5).map((one) => `${one.tagName} ${one.getAttribute("class")} ${one.textContent.slice(0, 30)}`)];
+"""
+
+
+def reads_well(page: Calculator) -> None:
+    """Each field, button and drawing has a name, headings are in order, there are two live regions, and each text has a contrast of 4.5 to 1."""
+    assert page.run(NAMES) == WANTED
+    count, poor = page.run(POOR)
+    assert count > 50 and poor == []
+
+
+def test_reading(calculator: Calculator) -> None:
+    """On a dark ground too, and in Chromium what a screen reader is given: the bonds and the chart's values as tables."""
+    page = calculator
+    page.serve()
+    page.open_inventory(FILE)
+    page.choose_month("2012-02")
+    page.until(lambda: page.all("#curve-figure svg") != [], "the chart")
+    page.run(DETAILS)
+    reads_well(page)
+    page.open_inventory(b"x\n")
+    reads_well(page)
+    page.open_bond("L77031EE")
+    reads_well(page)
+    page.run("document.querySelector('#bond').close()")
+    if isinstance(page.engine, Chromium):
+        screen_reader(page, page.engine)
+    page.engine.dark(True)
+    reads_well(page)
+    page.engine.dark(False)
+    page.run("document.querySelector('#told-text').style.color = '#999999'")
+    assert page.run(POOR)[1] != [], "control: a pale text"
+    page.run("document.querySelector('label[for=serial]').remove()")
+    assert page.run(NAMES) != WANTED, "control: a field without a label"
+
+
+def roles_of(engine: Chromium) -> list[Any]:
+    return [said(node)[0] for node in engine.tree().values() if not node["ignored"]]
+
+
+def screen_reader(page: Calculator, engine: Chromium) -> None:
+    roles, bonds = roles_of(engine), FILE.count(b"\n") - 1
+    assert roles.count("columnheader") >= 11 + 2 and roles.count("table") >= 2
+    assert roles.count("rowheader") >= bonds + 1 + 31
+    assert {"banner", "main", "region"} <= set(roles) and {"image", "img"} & set(roles)
+    page.resize(320, 800)
+    page.run("scrollTo(0, 0)")
+    assert roles_of(engine).count("rowheader") >= bonds + 1, "rows in a narrow window too"
+    page.resize(*SIZE)
+
+
+# ---- the pictures of docs/pictures
+
+
+def few_colors(paths: Iterable[Path]) -> None:
+    """48 colors are enough for letters and lines."""
+    from PIL import Image
+
+    for path in paths:
+        picture = Image.open(path).convert("RGB").quantize(48, dither=Image.Dither.NONE)
+        picture.save(path, optimize=True)
+
+
+@pytest.mark.needs("module:PIL", "pdftoppm")
+def test_pictures(calculator: Calculator, pictures: Path | None) -> None:
+    """By Chromium, if $PICTURES names their folder."""
+    if pictures is None or calculator.name != "chromium":
+        pytest.skip("PICTURES names no folder")
+    page, folder = calculator, pictures
+    page.serve()
+    page.open_inventory(FILE)
+    page.choose_month("2012-02")
+    page.run("document.querySelector('#told-close').click(); document.activeElement.blur()")
+
+    def takes(name: str, width: int, height: int, scroll: str = "scrollTo(0, 0)") -> None:
+        page.resize(width, height)
+        page.run(scroll)
+        time.sleep(0.6)
+        page.picture(folder / name)
+
+    takes("calculator.png", 1160, 1640)
+    page.click("#table .open")
+    takes("calculator-bond.png", 820, 880)
+    page.run("document.querySelector('#bond').close(); document.activeElement.blur()")
+    takes("calculator-phone.png", 320, 900, "document.querySelector('#shown').scrollIntoView()")
+    page.resize(*SIZE)
+    (page.folder / "page.pdf").write_bytes(page.engine.pdf(colored=True))
+    words = ["pdftoppm", "-r", "70", "-png", "-singlefile", str(page.folder / "page.pdf")]
+    subprocess.run([*words, str(pictures / "calculator-print")], check=True)
+    few_colors(pictures.glob("calculator*.png"))

@@ -1,0 +1,647 @@
+"""How the calculator is used: typing and pasting, sorting and filtering, what a bond will be worth, offline, by the keyboard alone, and nothing asked of elsewhere."""
+
+from __future__ import annotations
+
+import csv
+import random
+from typing import Any, Callable
+
+import pytest
+from selenium.webdriver.common.keys import Keys
+
+from tests.clients import calculator_lists as lists
+from tests.clients.calculator import Calculator, Changes, Site, script, variants
+from tests.clients.calculator_data import (
+    INVENTORY,
+    KNOWN,
+    PUBLISHED,
+    SHIPPED,
+    inventory_file,
+    random_bonds,
+    random_rates,
+    rates_file,
+)
+from tests.clients.calculator_lists import LETTERS
+from tests.conftest import TOP
+
+pytestmark = [
+    pytest.mark.browser,
+    pytest.mark.needs("module:selenium", "file:clients/calculator/out/calculator.js"),
+]
+#: A 50-dollar bond at 3.40 % is worth 48.90 at 239 months, 50.00 at 240 and 50.14 at 241, by hand.
+BY_HAND = b"from,rate,extension\n2010-05,3.40,\n"
+LISTED = "#told-list li"
+
+
+# ---- typing
+
+
+def type_bond(page: Calculator, serial: str, denom: str, issued: str) -> None:
+    """Types a bond, from the field of the serial number on."""
+    page.run(
+        "for (const name of ['serial', 'issued']) document.querySelector(`#${name}`).value = ''"
+    )
+    page.run("document.querySelector('#serial').focus()")
+    page.keys(*serial)
+    page.run("document.querySelector('#denom').value = arguments[0]", denom)
+    page.run("document.querySelector('#issued').focus()")
+    page.keys(*issued, Keys.ENTER)
+
+
+MISTYPED = [
+    ("12EE", "50", "2010-05", "The column serial has “12EE”", "serial"),
+    ("C13EE", "50", "5/10", "The column issued has “5/10”", "issued"),
+    ("C13EE", "50", "5/2/2010", "The column issued has “5/2/2010”", "issued"),
+    ("C12EE", "75", "2010-05", "(code 31, SerialConflict)", None),
+    ("C13EE", "50", "2021-05", "(code 30, NoRate)", None),
+]
+
+
+@variants(
+    another_denomination=script("sameBond(books.bonds.get(row.serial), row)", "sameBond(row, row)")
+)
+def test_typing(calculator: Calculator, changes: Changes) -> None:
+    """Typed bonds are read by the counter's spellings; a fault takes the keyboard to its field; a bond is never there twice, and needs no serial number."""
+    page = calculator
+    page.serve(changes)
+    with page.holds_not(changes):
+        type_bond(page, "C-0012-EE", "50", "05/2010")
+        page.is_told("1 bond added")
+        assert [row[0] + row[3] for row in page.rows()] == ["C12EE05/2010"]
+        for serial, issued in (("C12EE", "2010-05"), ("c12ee", "5/2010"), ("C 12 EE", "May 2010")):
+            type_bond(page, serial, "50", issued)
+            page.is_told("1 bond already there")
+            page.run("document.querySelector('#told-text').textContent = ''")
+        for serial, denom, issued, wanted, field in MISTYPED:
+            type_bond(page, serial, denom, issued)
+            page.is_told(wanted)
+            if field is not None:
+                assert page.has_keyboard(f"#{field}[aria-invalid=true]")
+        assert len(page.rows()) == 1
+        for count in (1, 2):
+            type_bond(page, "", "50", "2010-05")
+            page.is_told(f"1 bond added. {count + 1} in all")
+        assert page.serials() == ["C12EE", "#1", "#2"]
+        saved = page.saved("inventory.csv", "#save-inventory").encode()
+        assert saved.endswith(b"#1,50,2010-05,1,\n#2,50,2010-05,1,\n")
+        assert "0 bonds added. 3 bonds already there" in page.open_inventory(saved)
+        added = page.open_inventory(INVENTORY + b"#2,75,2010-05,1,\n")
+        assert "1 bond added. 4 in all" in added
+        wanted_rows = [("#1", "50"), ("#2", "50"), ("#3", "75")]
+        assert [(row[0], row[2]) for row in page.rows()][1:] == wanted_rows
+
+
+# ---- pasting
+
+TREASURY_DIRECT = """Savings Bond Calculator
+Serial #\tSeries\tDenom\tIssue Date\tNext Accrual\tFinal Maturity\tIssue Price\tInterest\tInterest Rate\tValue\tNote
+L15EE\tEE\t$50\t05/2010\t12/2026\t05/2040\t$25.00\t$7.00\t1.40%\t$32.00\t
+NA\tEE\t$1,000\t11/2010\t12/2026\t11/2040\t$500.00\t$7.00\t1.40%\t$507.00\t
+Totals for 2 Bonds\t\t\t\t\t\t$525.00\t$14.00\t\t$539.00
+"""
+NAMES = "Row 1 names the columns."
+#: What is pasted; the serial number (or none), dollars and month of each bond; and what the page says about the rest.
+PASTES = [
+    ("L1EE\t50\t2010-05\nK2EE\t75\t05/2011\n", "L1EE 50 2010-05, K2EE 75 2011-05", ""),
+    ("Issue date\tSerial number\tDenomination\n2010-05\tL3EE\t50\n", "L3EE 50 2010-05", NAMES),
+    ("serial,denom,issued,owner,coowner\nL4EE,50,2010-05,7,8\n", "L4EE 50 2010-05", NAMES),
+    ("L5EE 50 2010-05\r\n\r\n  K6EE   75  05/2011  \r\n", "L5EE 50 2010-05, K6EE 75 2011-05", ""),
+    ('"L7EE"\t" 50 "\t2010-05', "L7EE 50 2010-05", ""),
+    ("L8EE;50;2010-05;7", "L8EE 50 2010-05", ""),
+    (
+        "l10ee\t$50\tMay 2010\nM 11 EE\t1,000\t5/2010\nL-12-EE\t50.00\t2010-05-01\nTotal\t$1,100.00\n",
+        "L10EE 50 2010-05, M11EE 1000 2010-05, L12EE 50 2010-05",
+        "Row 4 is no bond: “Total $1,100.00”",
+    ),
+    (
+        'Bonds of May\n\nIssue Date,Face Value,Serial No.\n"May 1, 2010","$1,000.00",M13EE\n05/01/10,"10,000",X14EE\n,"$11,000.00",\n',
+        "M13EE 1000 2010-05, X14EE 10000 2010-05",
+        "Row 1 is no bond: “Bonds of May”|Row 2 names the columns.|Row 5 is no bond: “$11,000.00”",
+    ),
+    (
+        TREASURY_DIRECT,
+        "L15EE 50 2010-05, none 1000 2010-11",
+        "Row 1 is no bond: “Savings Bond Calculator”|Row 2 names the columns.|Row 5 is no bond: “Totals for 2 Bonds $525.00 $14.00 $539.00”|Not used: the columns Next Accrual, Final Maturity, Issue Price, Interest, Interest Rate, Value.",
+    ),
+    ("May-10\t$50.00\n1-Nov-2010\t 75 USD\n", "none 50 2010-05, none 75 2010-11", ""),
+    (
+        "1\tL16EE\t2010-05-01 00:00:00\t$ 50\n2\tK17EE\t2010-11-01 00:00:00\t75.\n",
+        "L16EE 50 2010-05, K17EE 75 2010-11",
+        "Not used: the column 1.",
+    ),
+    (
+        "Owner\tDenomination\tIssued\nMary\t$50\tSaturday, May 01, 2010\n",
+        "none 50 2010-05",
+        f"{NAMES}|Not used: the column Owner.",
+    ),
+    (
+        "Serial\tPrice\tFace\tDate\nC20EE\t$50.00\t$100\tMay 2010\n",
+        "C20EE 100 2010-05",
+        f"{NAMES}|Not used: the column Price.",
+    ),
+    (
+        "Maturity\tDate issued\tFace amt\n05/2040\t05/2010\t100\n",
+        "none 100 2010-05",
+        f"{NAMES}|Not used: the column Maturity.",
+    ),
+    ("$50.00\t$100\t5/2040\t5/2010\tC21EE\n", "C21EE 100 2010-05", "Not used: the columns 1, 3."),
+    ("C22EE\t100\t2010-05\t50\n", "C22EE 100 2010-05", "Not used: the column 4."),
+    ("l 18 ee $50 May 2010\nM19EE 1,000 May 1, 2010", "L18EE 50 2010-05, M19EE 1000 2010-05", ""),
+]
+PASTE_FAULTS = {
+    "C9EE\t$60\t2010-05": "(row 1 code 72)",
+    "Serial\tDenom\tIssued\nC9EE\t50\t2010-05\nC10EE\t50\t5/10": "(row 3 code 72)",
+    "C9EE\t50": "The column issued has nothing",
+    "C9EE\t$50\t########": "The column issued has “########”",
+    "C9EE\t$100\t5/2010\t$50\nX9EE\t$610,000\t5/2010\t$5,000": "The column denom has “$610,000”",
+    "C9EE\t50\t05/02/2010": "The column issued has “05/02/2010”",
+    "C9EE\t1,0000\t2010-05": "The column denom has “1,0000”",
+    "Serial\tSeries\tDenom\tIssued\nC9EE\tI\t50\t2010-05": "must be EE: this page values no other",
+    "C9EE\t50\t2010-05\nC-9-EE\t50\t2010-05": "(code 13, Repeated)",
+}
+PREVIEW = "return [...document.querySelectorAll('#understood-rows tbody tr')].map((row) => [...row.children].slice(1, 4).map((cell) => cell.textContent));"
+NOTES = "#understood-notes li"
+PASTE = "document.querySelector('#paste-form').closest('details').open = true; document.querySelector('#pasted').value = arguments[0]; document.querySelector('#pasted').dispatchEvent(new InputEvent('input', { inputType: 'insertFromPaste' }))"
+
+
+def put(page: Calculator, text: str) -> str:
+    """Puts a text into the field as pasting does. Returns what the page tells."""
+    page.run(PASTE, text)
+    return page.told()
+
+
+def add_pasted(page: Calculator) -> str:
+    page.run("document.querySelector('#paste-form').requestSubmit()")
+    return page.told()
+
+
+def as_shown(bonds: str) -> list[list[str]]:
+    """What the page shows of bonds as they are written in PASTES."""
+    names = "January February March April May June July August September October November December"
+    found = [bond.split() for bond in bonds.split(", ")]
+    return [
+        [serial, f"${int(dollars):,}", f"{names.split()[int(issued[5:]) - 1]} {issued[:4]}"]
+        for serial, dollars, issued in found
+    ]
+
+
+@variants(
+    added_without_showing=script(
+        "return understand();", "{ understand(); addRows(shown.read); return undefined; }"
+    )
+)
+def test_pasting(calculator: Calculator, changes: Changes) -> None:
+    """Columns of a spreadsheet, in the spellings that spreadsheets write: what the page understands is shown before it is added."""
+    page, count = calculator, 0
+    page.serve(changes)
+    with page.holds_not(changes):
+        for text, bonds, said in PASTES:
+            told, wanted = put(page, text), as_shown(bonds)
+            assert told.startswith(f"{len(wanted)} bond") and "understood" in told, text
+            assert page.run(PREVIEW) == wanted, text
+            assert set(page.texts(NOTES)) == {line for line in said.split("|") if line}, text
+            assert len(page.rows()) == count, "nothing is added before it is shown"
+            button = "Add this bond" if len(wanted) == 1 else f"Add these {len(wanted)} bonds"
+            assert page.texts("#paste-add") == [button]
+            assert add_pasted(page).startswith(f"{len(wanted)} bond"), text
+            count += len(wanted)
+            shown = [[row[2], f"{row[3][3:]}-{row[3][:2]}"] for row in page.rows()]
+            assert len(shown) == count, text
+            assert all(bond.split()[1:] in shown for bond in bonds.split(", ")), text
+            assert page.value("#pasted") == "" and not page.is_shown("#understood")
+        for text, fault in PASTE_FAULTS.items():
+            told = put(page, text)
+            assert fault in told, text
+            assert len(page.rows()) == count
+        page.run("document.querySelector('#pasted').value = 'C30EE 50 2010-05'")
+        assert "1 bond understood" in add_pasted(page) and len(page.rows()) == count
+        # A CSV file that a spreadsheet wrote.
+        file = b'\xef\xbb\xbf"Serial","Denomination","Issue date"\r\nM23EE,"$1,000.00 ",May-10\r\n'
+        assert "1 bond understood" in page.open_inventory(file)
+        assert page.run(PREVIEW) == [["M23EE", "$1,000", "May 2010"]]
+        assert "read the file as a list of a spreadsheet" in page.texts("#told-list")[0]
+        assert add_pasted(page).startswith("1 bond added") and len(page.rows()) == count + 1
+
+
+@variants(no_cents_of_a_denomination=script(r"(?:\.0{0,2})?(?: ?USD", "(?: ?USD"))
+def test_pasted_tables(calculator: Calculator, changes: Changes) -> None:
+    """Tables of TreasuryDirect's calculator, pasted into the page: what it shows, and what it adds."""
+    page, dice = calculator, random.Random(3)
+    page.serve(changes)
+    with page.holds_not(changes):
+        cents: lists.Made = ("C20EE\t$100.00\tMay 2010\n", [("C20EE", 100, 12 * 2010 + 4)])
+        for text, bonds in [cents, *(lists.table(dice) for _ in range(10))]:
+            page.remove_all()
+            assert put(page, text).startswith(f"{len(bonds)} bond"), text
+            add_pasted(page)
+            shown = [
+                (row[0] if row[0][0] != "#" else "", int(row[2]), row[3]) for row in page.rows()
+            ]
+            wanted = [(serial, dollars, lists.month(issued)) for serial, dollars, issued in bonds]
+            assert sorted(shown) == sorted(wanted), text
+
+
+# ---- remarks
+
+SOLD = "Paper bonds were sold until December 2011."
+FACTS = "return [...document.querySelectorAll('#bond-facts dt')].map((one) => `${one.textContent}: ${one.nextSibling.textContent}`);"
+
+
+def bond_line(serial: str, dollars: int, issued: str = "2011-12") -> bytes:
+    return f"{serial},{dollars},{issued},7,\n".encode()
+
+
+def begins(dollars: int) -> str:
+    return f"Serial numbers of ${dollars:,} bonds begin with {LETTERS[dollars]}."
+
+
+@variants(
+    letter_of_others=script('500: "D"', '500: "M"'),
+    a_month_late=script("12 * 2011 + 11", "12 * 2012"),
+)
+def test_remarks(calculator: Calculator, changes: Changes) -> None:
+    """A serial number's letter, and an issue month, that no paper bond has: the page says so as it is opened, typed and pasted, and adds the bond all the same."""
+    page = calculator
+    page.serve(changes)
+    with page.holds_not(changes):
+        fitting = [bond_line(f"{letter}1EE", dollars) for dollars, letter in LETTERS.items()]
+        assert page.open_inventory(INVENTORY + b"".join(fitting)) == "8 bonds added. 8 in all."
+        assert page.texts(LISTED) == []
+        letters = list(LETTERS.values())
+        wrong = [
+            (f"{letters[(place + step) % 8]}{100 * place + step + 1}EE", dollars)
+            for place, dollars in enumerate(LETTERS)
+            for step in range(1, 8)
+        ]
+        for part in (wrong[:20], wrong[20:40], wrong[40:]):
+            lines = b"".join(bond_line(serial, dollars) for serial, dollars in part)
+            told = page.open_inventory(INVENTORY + lines)
+            assert told.startswith(f"{len(part)} bonds added.")
+            assert told.endswith(f"Compare {len(part)} bonds with the paper.")
+            wanted = [f"Bond {serial}: {begins(dollars)}" for serial, dollars in part]
+            assert page.texts(LISTED) == wanted
+        remarked_as_typed(page, 8 + 56)
+        remarked_in_lists(page)
+
+
+def remarked_as_typed(page: Calculator, count: int) -> None:
+    """A typed bond has its remark as it is typed; its dialog has the remark too."""
+    page.choose_month("2026-11")
+    for name, text in (("denom", "50"), ("issued", "Apr 2012"), ("serial", "c-12-ee")):
+        page.set_field(name, text)
+    words = f"{begins(50)} {SOLD}"
+    assert page.texts("#one-words")[0].endswith(words) and page.texts("#one-value")[0] != ""
+    page.run("document.querySelector('#type-form').requestSubmit()")
+    wanted = f"1 bond added. {count + 1} in all. Compare 1 bond with the paper."
+    assert page.told() == wanted and page.texts(LISTED) == [f"Bond C12EE: {words}"]
+    assert page.texts("#one-words")[0].endswith(SOLD), "the next bond has no serial number yet"
+    assert "begin with" not in page.texts("#one-words")[0]
+    page.open_bond("C12EE")
+    assert page.run(FACTS)[-1] == f"To check: {words}"
+    page.run("document.querySelector('#bond').close()")
+    page.open_bond("L1EE")
+    assert not [line for line in page.run(FACTS) if line.startswith("To check")]
+    page.run("document.querySelector('#bond').close()")
+    page.set_field("issued", "Dec 2011")
+    assert not page.texts("#one-words")[0].endswith(SOLD)
+
+
+def remarked_in_lists(page: Calculator) -> None:
+    """A pasted list has its remarks by row before it is added; of many bonds the first 20 are listed."""
+    page.remove_all()
+    text = "Serial\tDenom\tIssued\nL1EE\t50\t12/2011\nL2EE\t75\t12/2011\n\t50\t1/2012\n"
+    assert put(page, text).endswith("Compare 2 bonds with the paper.")
+    assert page.texts(NOTES) == [f"Row 3: {begins(75)}", f"Row 4: {SOLD}", NAMES]
+    assert add_pasted(page) == "3 bonds added. 3 in all. Compare 2 bonds with the paper."
+    assert page.texts(LISTED) == [f"Bond L2EE: {begins(75)}", f"Bond #1: {SOLD}"]
+    lines = b"".join(bond_line(f"C{place + 10}EE", 50, "2010-05") for place in range(23))
+    page.open_inventory(INVENTORY + lines)
+    listed = page.texts(LISTED)
+    assert len(listed) == 21 and listed[-1] == "Compare 3 more with the paper."
+
+
+# ---- sorting, and what is worked out
+
+
+def number(text: str) -> float:
+    return float(text.rstrip("%") or -1)
+
+
+def month(text: str) -> tuple[str, str]:
+    return (text[3:], text[:2]) if text else ("", "")
+
+
+KEYS: dict[str, Callable[[list[str]], Any]] = {
+    "serial": lambda row: (row[0][0], int(row[0][1:-2])),
+    "denom": lambda row: int(row[2]),
+    "issued": lambda row: month(row[3]),
+    "next": lambda row: month(row[4]),
+    "final": lambda row: month(row[5]),
+    "price": lambda row: number(row[6]),
+    "interest": lambda row: number(row[7]),
+    "rate": lambda row: number(row[8]),
+    "value": lambda row: number(row[9]),
+    "note": lambda row: row[10],
+}
+
+
+@variants(one_way_alone=script("is_falling ? -1 : 1", "is_falling ? 1 : 1"))
+def test_sorting(calculator: Calculator, changes: Changes) -> None:
+    """By each column both ways, and by each note: the totals are those of the rows that are shown."""
+    page, dice = calculator, random.Random(5)
+    page.serve(changes)
+    bonds = random_bonds(dice, 100)
+    page.shows_only(rates_file(random_rates(dice)), inventory_file(bonds), "2030-01")
+    rows = page.rows()
+    with page.holds_not(changes):
+        for column, key in KEYS.items():
+            orders = ["ascending", "descending"]
+            for order in reversed(orders) if column == "serial" else orders:
+                page.click(f"#table [data-column='{column}']")
+                found = [key(row) for row in page.rows()]
+                assert found == sorted(found, reverse=order == "descending"), (column, order)
+                assert page.all(f"#table th.{column}[aria-sort={order}]") != []
+        page.click("#table [data-column='serial']")
+        for note in ("NI", "NE", "P5", "MA", "plain"):
+            page.set_field("note", note)
+            shown = [row for row in rows if row[10] == ("" if note == "plain" else note)]
+            assert page.serials() == [row[0] for row in shown]
+            cents = round(sum(number(row[9]) for row in shown) * 100)
+            assert page.total()[9] == f"{cents // 100}.{cents % 100:02}", note
+
+
+def units() -> dict[tuple[str, str], int]:
+    """The published cents of a 25-dollar unit by issue month and month."""
+    with open(PUBLISHED / "published-values.csv", newline="") as file:
+        return {
+            (it["issued"], it["redeemed"]): int(it["unit_cents"]) for it in csv.DictReader(file)
+        }
+
+
+ABOVE = "const top = (one) => one.getBoundingClientRect().top; const [first, ...others] = document.querySelectorAll('main > section'); return first.id === 'one' && others.every((one) => !one.checkVisibility() || top(one) > top(first)) && document.querySelector('#one-words').getBoundingClientRect().bottom < innerHeight;"
+
+
+@variants(
+    only_when_a_bond_is_added=script(
+        'addEventListener("input", showOne)', 'addEventListener("reset", showOne)'
+    )
+)
+def test_value_at_once(calculator: Calculator, changes: Changes) -> None:
+    """The published values of three bonds are shown as they are typed, above everything else, and nothing is pressed."""
+    page, published = calculator, units()
+    page.serve(changes)
+    page.choose_month("2012-02")
+    with page.holds_not(changes):
+        assert page.texts("#one-value") == [""]
+        assert "Choose a denomination" in page.texts("#one-words")[0]
+        for denom, issued, text in (
+            (500, "2010-05", "May 2010"),
+            (50, "2006-03", "3/2006"),
+            (10000, "2005-05", "2005-05-01"),
+        ):
+            page.set_field("denom", str(denom))
+            page.set_field("issued", text)
+            cents = published[issued, "2012-02"] * denom // 25
+            words = page.texts("#one-words")[0]
+            assert page.texts("#one-value") == [f"${cents // 100:,}.{cents % 100:02}"]
+            assert f"A ${denom:,} bond issued in" in words and "in February 2012" in words
+        page.choose_month("Nov 2011")
+        cents = published["2005-05", "2011-11"] * 400
+        assert page.texts("#one-value") == [f"${cents / 100:,.2f}"]
+        page.set_field("issued", "May 2021")
+        assert page.texts("#one-value") == [""]
+        assert "There is no rate for bonds issued in May 2021" in page.texts("#one-words")[0]
+        page.set_field("issued", "May 2011")
+        assert "Note NE: under 12 months" in page.texts("#one-words")[0] and page.rows() == []
+        for width, height in ((1440, 900), (1024, 768), (768, 1024), (360, 640)):
+            page.resize(width, height)
+            page.run("document.querySelector('#told-close').click(); scrollTo(0, 0)")
+            assert page.run(ABOVE), f"it is above everything else in {width} by {height}"
+
+
+SUMS = "return Object.fromEntries([...document.querySelectorAll('#sums dt')].map((one) => [one.textContent, one.nextSibling.textContent]));"
+
+
+@variants(
+    year_that_begins_in_January=script(
+        "Math.floor(state.month / 12) - 1", "Math.floor(state.month / 12)"
+    )
+)
+def test_interest_of_the_year(calculator: Calculator, changes: Changes) -> None:
+    """What the published values say, for a bond that wasn't issued in December too."""
+    page, published = calculator, units()
+    page.serve(changes)
+    page.open_inventory(
+        INVENTORY + b"C1EE,500,2010-05,7,\nC2EE,50,2006-03,7,\nC3EE,100,2012-01,7,\n"
+    )
+    with page.holds_not(changes):
+        for month, december, said in (
+            ("2012-02", "2011-12", "from January to February"),
+            ("2011-12", "2010-12", "from January to December"),
+            ("2012-01", "2011-12", "in January"),
+        ):
+            page.choose_month(month)
+            cents = sum(
+                (published.get((issued, month), 1250) - published.get((issued, december), 1250))
+                * dollars
+                // 25
+                for issued, dollars in (("2010-05", 500), ("2006-03", 50))
+            )
+            shown = page.run(SUMS)[f"Interest of {month[:4]}"]
+            assert shown == f"${cents / 100:,.2f}, {said}"
+
+
+def clock_of(time: str) -> Changes:
+    """A device whose clock says so."""
+    real = f"const Real = Date; window.Date = class extends Real {{ constructor(...given) {{ super(...(given.length === 0 ? [{time!r}] : given)); }} }};"
+    begin = "  var __create = Object.create;"
+    return (script(begin, f"{real}\n{begin}"),)
+
+
+@variants(any_clock_taken=script("!== said)", "=== null)"))
+def test_clocks(calculator: Calculator, changes: Changes) -> None:
+    """A device whose clock is wrong: the page says so, and bonds are valued."""
+    page, last = calculator, SHIPPED.decode().splitlines()[-1].partition(",")[0]
+    with page.holds_not(changes):
+        for clock, said, month in (
+            ("1970-01-01T12:00:00", "January 1970", last),
+            ("2004-03-01T12:00:00", "March 2004", last),
+            ("2205-07-01T12:00:00", "July 2205", "2199-12"),
+        ):
+            page.serve((*changes, *clock_of(clock)))
+            assert f"clock says {said}, which can't be right" in page.told()
+            assert page.value("#month") == f"{month[5:]}/{month[:4]}"
+            assert "1 bond added" in page.open_inventory(INVENTORY + bond_line("C1EE", 50))
+        page.serve((*changes, *clock_of("2026-11-28T12:00:00")))
+        assert (page.told(), page.value("#month")) == ("", "11/2026")
+
+
+AHEAD = "return [...document.querySelectorAll('#bond-ahead tbody tr')].map((row) => [...row.children].slice(1).map((cell) => cell.textContent));"
+POINTS = "return [...document.querySelectorAll(`${arguments[0]} tbody tr`)].map((row) => [...row.children].map((cell) => cell.textContent))"
+
+
+@variants(doubled_a_month_late=script("DOUBLES = 240", "DOUBLES = 241"))
+def test_ahead(calculator: Calculator, changes: Changes) -> None:
+    """What a bond will be worth, against values worked out by hand; the charts' 31 yearly values as tables."""
+    page = calculator
+    page.serve(changes)
+    page.shows_only(BY_HAND, INVENTORY + b"C1EE,50,2010-05,7,8\n", "2014-06")
+    with page.holds_not(changes):
+        page.open_bond("C1EE")
+        found = page.run(AHEAD)
+        assert [row[0] for row in found] == ["July 2014", "May 2015", "May 2030", "May 2040"]
+        assert found[2][1] == "$50.00"
+        points = page.run(POINTS, "#bond-figure")
+        assert len(points) == 31 and points[0] == ["May 2010", "$25.00"]
+        assert points[20] == ["May 2030", "$50.00"]
+        label = page.find("#bond-figure svg").get_attribute("aria-label")
+        assert "from $25.00 in May 2010" in str(label)
+        page.keys(Keys.ESCAPE)
+        page.until(lambda: page.has_keyboard("#table .open"), "Escape gives the keyboard back")
+        for at, value in (("2030-04", "48.90"), ("2030-06", "50.14")):
+            page.choose_month(at)
+            assert page.rows()[0][9] == value
+        is_whole = lambda: len(page.run(POINTS, "#curve-figure")) == 31
+        page.until(is_whole, "the inventory's curve")
+        assert page.run(POINTS, "#curve-figure") == points
+
+
+# ---- offline, fenced and fast
+
+
+@variants(
+    worker_that_keeps_nothing=(
+        "sw.js",
+        "event.respondWith(answer(event.request))",
+        "event.respondWith(fetch(event.request))",
+    )
+)
+def test_offline(calculator: Calculator, changes: Changes) -> None:
+    """With its server gone the page opens again, and values the bonds of samples/."""
+    page = calculator
+    url = page.serve(changes)
+    controlled = "return navigator.serviceWorker.controller !== null"
+    page.until(lambda: page.run(controlled), "the service worker has the page", 15)
+    page.sites.pop().stop()
+    with page.holds_not(changes):
+        page.visit(url)
+        told = page.open_inventory((TOP / "samples/inventory.csv").read_bytes())
+        assert "3 bonds added" in told
+        page.choose_month("2026-11")
+        assert page.total()[9] == "10262.51"
+
+
+ATTEMPTS = """
+    const [other] = given;
+    const fetched = await fetch(other).then(() => "passed", () => "stopped");
+    const evaluated = await new Promise((resolve) => { const script = document.createElement("script"); script.textContent = "window.ran = true"; document.head.append(script); setTimeout(() => resolve(window.wrappedJSObject?.ran ?? window.ran ? "passed" : "stopped"), 50); });
+    const drawn = await new Promise((resolve) => { const image = new Image(); image.onload = () => resolve("passed"); image.onerror = () => resolve("stopped"); image.src = other + "icon.svg"; });
+    return [fetched, evaluated, drawn];
+"""
+LOADED = "return performance.getEntriesByType('resource').map((entry) => entry.name)"
+STORED = "return document.cookie.length + Object.keys(localStorage).length + Object.keys(sessionStorage).length"
+
+
+@variants(without_the_policy=("index.html", 'http-equiv="Content-Security-Policy"', 'name="none"'))
+def test_fences(calculator: Calculator, changes: Changes) -> None:
+    """Only files of the page are loaded, no cookie and nothing kept; the page's policy stops a request elsewhere, a script and a picture of elsewhere."""
+    page, other = calculator, Site()
+    page.sites.append(other)
+    url = page.serve(changes)
+    page.open_inventory((TOP / "samples/inventory.csv").read_bytes())
+    names = page.run(LOADED)
+    assert names and all(name.startswith(url) for name in names)
+    assert page.run(STORED) == 0
+    with page.holds_not(changes):
+        assert page.run_module(ATTEMPTS, other.url) == ["stopped"] * 3 and other.asked == []
+
+
+FRAMES = """
+    await new Promise((resolve) => setTimeout(resolve, 1000));
+    const frames = [];
+    document.querySelector("#table").scrollIntoView();
+    for (let count = 0; count < 200; count++) {
+        const begun = performance.now();
+        scrollBy(0, 800);
+        await new Promise(requestAnimationFrame);
+        frames.push(performance.now() - begun);
+    }
+    frames.sort((one, other) => one - other);
+    return [scrollY, frames[100]];
+"""
+
+
+def test_speed(calculator: Calculator, dice: random.Random) -> None:
+    """10,000 bonds are opened, and scrolled through by frames of less than 100 ms."""
+    page = calculator
+    page.serve()
+    bonds = random_bonds(dice, 10_000, months=KNOWN)
+    assert "10,000 bonds added" in page.open_inventory(inventory_file(bonds))
+    scrolled, median = page.run_module(FRAMES)
+    assert scrolled > 100_000 and median < 100
+
+
+# ---- the keyboard alone
+
+CONTROLS = """
+    const shown = (one) => one.checkVisibility() && one.closest("details:not([open])") === null;
+    const all = [...document.querySelectorAll("main a, main button, main input, main select, main textarea, main summary")];
+    return all.filter((one) => (one.matches("summary") || shown(one)) && !one.matches(".open, .skip")).map((one) => one.id || one.dataset.column || one.dataset.text || one.textContent);
+"""
+FOCUSED = "const one = document.activeElement; const { outlineStyle, outlineWidth } = getComputedStyle(one); return one === document.body ? ['', ''] : [one.id || one.dataset.column || one.dataset.text || one.textContent, `${outlineStyle} ${outlineWidth}`];"
+
+
+def all_reached(page: Calculator) -> None:
+    """Tab reaches each control, and each has an outline."""
+    wanted, reached = set(page.run(CONTROLS)), set()
+    page.run("document.querySelector('.skip').focus()")
+    for _ in range(len(wanted) + 15):
+        page.keys(Keys.TAB)
+        name, outline = page.run(FOCUSED)
+        if name in ("", "skip"):
+            break
+        reached.add(name)
+        assert outline == "solid 3px", name
+    assert wanted - reached == set() and len(wanted) > 20
+
+
+def test_keyboard(calculator: Calculator) -> None:
+    """A whole use with the keyboard alone: bonds, a month, the order, a bond's dialog, what is saved."""
+    page = calculator
+    page.serve()
+    page.keys(Keys.TAB)
+    assert page.has_keyboard(".skip"), "the first Tab offers to skip"
+    page.keys(Keys.ENTER)
+    assert page.tab_to("#denom") <= 2
+    page.keys(*"$500", Keys.TAB, *"May 2010", Keys.TAB)
+    for serial in ("C-12-EE", "C13EE"):
+        page.keys(*serial, Keys.ENTER)
+        page.is_told("1 bond added")
+        assert page.has_keyboard("#serial")
+    page.tab_to("#month")
+    page.run("document.activeElement.select()")
+    page.keys(*"2012-02", Keys.ENTER)
+    # Two 500-dollar bonds of May 2010 in February 2012: 40 units of the published 1277 cents.
+    assert [row[2] for row in page.rows()] == ["500", "500"] and page.total()[9] == "510.80"
+    page.tab_to("#table [data-column='value']")
+    page.keys(Keys.ENTER)
+    assert page.has_keyboard("#table [data-column='value']")
+    assert page.all("#table th.value[aria-sort=ascending]") != []
+    page.tab_to("#table .open")
+    page.keys(Keys.DOWN)
+    second = "return document.activeElement.textContent"
+    assert page.run(second) == "C13EE"
+    page.keys(Keys.ENTER)
+    assert page.run("return document.querySelector('#bond').open")
+    assert "C13EE" in page.texts("#bond-title")[0]
+    page.keys(Keys.ESCAPE)
+    page.until(lambda: page.run(second) == "C13EE", "Escape gives the keyboard back")
+    page.tab_to("#save-inventory", back=True)
+    saved = page.downloads / "inventory.csv"
+    page.keys(Keys.ENTER)
+    wanted = INVENTORY + b"C12EE,500,2010-05,1,\nC13EE,500,2010-05,1,\n"
+    page.until(lambda: saved.exists() and saved.read_bytes() == wanted, "the inventory is saved")
+    all_reached(page)
+    page.run("document.querySelector('#print').tabIndex = -1")
+    with pytest.raises(AssertionError):  # control
+        all_reached(page)

@@ -1,0 +1,190 @@
+"""The calculator's table beside the published values and the program's own sheets, replies and exports, byte for byte."""
+
+from __future__ import annotations
+
+import csv
+import random
+import re
+import shutil
+from pathlib import Path
+
+import pytest
+
+from tests.clients.calculator import Calculator, Changes, Site, script, variant, variants
+from tests.clients.calculator_data import (
+    INVENTORIES,
+    INVENTORY,
+    KNOWN,
+    PUBLISHED,
+    RATE_FILES,
+    SHIPPED,
+    Sheet,
+    Store,
+    answers,
+    inventory_file,
+    random_bonds,
+    sheets,
+)
+from tests.conftest import TOP
+from tests.shared import exact
+
+pytestmark = [
+    pytest.mark.browser,
+    pytest.mark.needs("module:selenium", "file:clients/calculator/out/calculator.js"),
+]
+MANY_MONTHS = """
+    const field = document.querySelector("#month"), form = document.querySelector("#month-form");
+    return arguments[0].map((month) => {
+        field.value = month;
+        form.requestSubmit();
+        return [...document.querySelectorAll("#table tbody .value")].map((cell) => cell.textContent.replace(/[$,]/g, "")).join(" ");
+    });
+"""
+
+
+@variants(a_cent_more=script("value: answer.valueCents }", "value: answer.valueCents + 1 }"))
+def test_published_values(calculator: Calculator, changes: Changes) -> None:
+    """Each of them at each denomination, by each module, as the table shows it."""
+    with open(PUBLISHED / "published-values.csv", newline="") as file:
+        units = {
+            (it["issued"], it["redeemed"]): int(it["unit_cents"]) for it in csv.DictReader(file)
+        }
+    issues = sorted({issued for issued, _ in units})
+    months = sorted({month for _, month in units})
+    bonds = [(issued, dollars) for issued in issues for dollars in exact.DOLLARS]
+    lines = [f"C{n}EE,{dollars},{issued},7,\n" for n, (issued, dollars) in enumerate(bonds, 1)]
+    calculator.serve(changes)
+    calculator.open_rates((PUBLISHED / "rates.csv").read_bytes())
+    assert "1,024 bonds added" in calculator.open_inventory(INVENTORY + "".join(lines).encode())
+    with calculator.holds_not(changes):
+        for bits in (64, 32):
+            calculator.choose_module(bits)
+            count = 0
+            for month, shown in zip(months, calculator.run(MANY_MONTHS, months), strict=True):
+                for (issued, dollars), text in zip(bonds, shown.split(), strict=True):
+                    unit = units.get((issued, month))
+                    if unit is not None:
+                        cents = unit * dollars // 25
+                        assert text == f"{cents // 100}.{cents % 100:02}", (issued, month, dollars)
+                        count += 1
+            assert count == 66048
+
+
+def same_sheets(calculator: Calculator, listed: list[Sheet]) -> None:
+    for one in listed:
+        calculator.shows_only(one.rates, one.file, one.month)
+        assert calculator.sheet() == one.sheet
+
+
+@variants(
+    extension_a_month_late=script("EXTENDED_FROM = 240", "EXTENDED_FROM = 241"),
+    another_note=script('["", "NI", "NE", "P5", "MA"]', '["", "NI", "NE", "P6", "MA"]'),
+)
+def test_sheets(calculator: Calculator, program: Path, changes: Changes) -> None:
+    """Random inventories beside the command `sheet`, by each module; some also as the page saves them."""
+    dice = random.Random(7)
+    listed = sheets(program, dice, 40)
+    calculator.serve(changes)
+    with calculator.holds_not(changes):
+        for bits, part in ((64, listed[:20]), (32, listed[20:])):
+            calculator.choose_module(bits)
+            same_sheets(calculator, part)
+        saved = calculator.saved(f"sheet-{listed[-1].month}.txt", "#save-sheet")
+        assert saved == listed[-1].sheet
+
+
+def test_from_a_disk(calculator: Calculator, program: Path, dice: random.Random) -> None:
+    """The page opened from a file, by each module. Control: a page whose script a disk doesn't give."""
+    folder = variant(calculator.folder, ())
+    calculator.visit((folder / "index.html").as_uri())
+    for bits in (64, 32):
+        calculator.choose_module(bits)
+        same_sheets(calculator, sheets(program, dice, 4))
+    assert calculator.saved("inventory.csv", "#save-inventory").encode().startswith(INVENTORY)
+    # Chromium loads no module from a disk. Firefox does, so there the script is missing.
+    module, missing = 'src="calculator.js" type="module"', 'src="missing.js" defer'
+    other = module if calculator.name == "chromium" else missing
+    changes = (("index.html", '<script src="calculator.js" defer>', f"<script {other}>"),)
+    with calculator.holds_not(changes):
+        calculator.visit((variant(calculator.folder, changes) / "index.html").as_uri())
+
+
+def names(told: str, answer: str) -> bool:
+    """The page names the fault or refusal that the program names, with its row, code and serial number. Returns False if it reads the file as a list of a spreadsheet, and adds nothing yet."""
+    fault = re.fullmatch(r"file: (row [0-9]+ code [0-9]+)\n", answer)
+    code = re.search(r'"code":([0-9]+),.*"refused":"([A-Za-z]+)"', answer)
+    if fault:
+        assert f"({fault[1]})" in told or "understood" in told, (told, answer)
+        return f"({fault[1]})" in told
+    elif code:
+        assert f"(code {code[1]}, {code[2]})" in told, (told, answer)
+        assert all(name in told for name in re.findall(r'"serial":"([A-Z0-9]+)"', answer))
+    else:
+        counts = re.fullmatch(r'\{"new":([0-9]+),"same":([0-9]+)\}\n', answer)
+        assert counts and re.match(rf"{counts[1]} bonds? added|[0-9]+ rates? read", told), told
+    return True
+
+
+@variants(a_space_before_a_customer=script("/^[0-9]{1,9}$/", "/^ ?[0-9]{1,9}$/"))
+def test_refusals(calculator: Calculator, program: Path, changes: Changes) -> None:
+    """Each file that is refused or read, as the page tells it."""
+    calculator.serve(changes)
+    with calculator.holds_not(changes):
+        for _, file, answer in answers(program, "rates", RATE_FILES) if not changes else ():
+            calculator.remove_all()
+            assert names(calculator.open_rates(file), answer)
+        calculator.open_rates(SHIPPED)
+        columns = ("serial", "denom", "issued", "owner", "coowner")
+        named = 0
+        for name, file, answer in answers(program, "inventory", INVENTORIES):
+            calculator.remove_all()
+            told = calculator.open_inventory(file)
+            if not names(told, answer):
+                assert calculator.rows() == [], "nothing is added yet"
+                continue
+            named += 1
+            if name.startswith("field ") and answer.startswith("file:"):
+                assert any(f"The column {column} has" in told for column in columns), told
+        print(f"{named} of {len(INVENTORIES)} are named as the program does")
+        assert named > len(INVENTORIES) / 2
+
+
+def test_round_trip(calculator: Calculator, program: Path, dice: random.Random) -> None:
+    """An inventory that the program exported, opened, saved and imported again: the same bonds."""
+    store, bonds = Store(program, SHIPPED), random_bonds(dice, 300, months=KNOWN)
+    assert store.enter("inventory", inventory_file(bonds, dice)) == '{"new":300,"same":0}\n'
+    exported = store.run("export", "7")
+    calculator.serve()
+    assert "300 bonds added" in calculator.open_inventory(exported.encode())
+    saved = calculator.saved("inventory.csv", "#save-inventory")
+    assert saved == exported
+    assert store.enter("inventory", saved.encode()) == '{"new":0,"same":300}\n'
+    assert "0 bonds added. 300 bonds already there" in calculator.open_inventory(saved.encode())
+    changed = saved.replace(bonds[0][0], "Y9876543210EE", 1)
+    assert store.enter("inventory", changed.encode()) == '{"new":1,"same":299}\n', "control"
+
+
+FIVE_LINES = """<!doctype html>
+<p id="told"></p>
+<script type="module">
+import { load } from "./ee-value.js";
+const value = await load();
+document.querySelector("#told").textContent = value.cents(50, "2010-05", "2015-05", "3.50");
+</script>
+"""
+
+
+@pytest.mark.parametrize("month", ["2015-05", "2015-06"])
+def test_web_page_of_five_lines(calculator: Calculator, month: str) -> None:
+    """ee-value.js in a web page, which loads the module beside it. Another month is the control."""
+    folder = calculator.folder / "five"
+    (folder / "out").mkdir(parents=True)
+    shutil.copy(TOP / "clients/value/ee-value.js", folder)
+    shutil.copy(TOP / "clients/value/out/ee_value.wasm", folder / "out")
+    (folder / "index.html").write_text(FIVE_LINES.replace("2015-05", month))
+    site = Site(folder)
+    calculator.sites.append(site)
+    calculator.open(site.url)
+    calculator.until(lambda: calculator.texts("#told")[0], "the page shows a value")
+    cents = exact.cents(50, 201005, int(month.replace("-", "")), 350, 350)
+    assert calculator.texts("#told") == [str(cents)]
