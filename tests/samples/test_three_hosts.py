@@ -13,7 +13,7 @@ import subprocess
 import threading
 import time
 from pathlib import Path
-from typing import Callable, Iterator
+from typing import Any, Callable, Iterator
 
 import pytest
 
@@ -39,6 +39,9 @@ NETWORK, PROGRAM, BONDS = "/run/netns/counter", "/run/ee_cli", 12_000
 MOUNTED = f"mkdir -p {MOUNT} && glusterfs --volfile-server=localhost --volfile-id={VOLUME} {MOUNT}"
 PLAIN = f"umount -l {MOUNT}; {MOUNTED} && exec nsenter --net={NETWORK} {PROGRAM} serve --db {MOUNT}/day.db --port {PORT}"
 BY_SCRIPT = [str(SAMPLES / "serve_replicated"), VOLUME, MOUNT, PROGRAM, str(PORT), USER, NETWORK]
+BOOT = f"mount --make-rprivate / && mount -t tmpfs run /run && ip netns add counter && ip -n counter link set lo up && mount --bind {{folder}}/glusterd /var/lib/glusterd && mount --bind {{folder}}/log /var/log/glusterfs && install -m 755 {{program}} {PROGRAM} && glusterd -N & exec sleep infinity"
+NOTHING = subprocess.DEVNULL
+QUIET: dict[str, Any] = {"stdin": NOTHING, "stdout": NOTHING, "text": True}
 MARK = os.getpid() % 10_000
 NET = f"10.78.{MARK % 250}"
 #: What a start may say while the store isn't to be had.
@@ -80,23 +83,10 @@ class Host:
             done("ip", "-n", self.space, *words.split())
 
     def boot(self) -> None:
-        lines = [
-            "mount --make-rprivate /",
-            "mount -t tmpfs run /run",
-            "ip netns add counter",
-            "ip -n counter link set lo up",
-            f"mount --bind {self.folder}/glusterd /var/lib/glusterd",
-            f"mount --bind {self.folder}/log /var/log/glusterfs",
-            f"install -m 755 {self.program} {PROGRAM}",
-            "glusterd -N & exec sleep infinity",
-        ]
         words = f"ip netns exec {self.space} unshare --mount --pid --fork --mount-proc --kill-child"
+        boot = BOOT.format(folder=self.folder, program=self.program)
         self.outer = subprocess.Popen(
-            [*words.split(), "sh", "-c", " && ".join(lines)],
-            stdin=subprocess.DEVNULL,
-            stdout=subprocess.DEVNULL,
-            stderr=subprocess.DEVNULL,
-            start_new_session=True,
+            [*words.split(), "sh", "-c", boot], start_new_session=True, **QUIET
         )
         children = Path(f"/proc/{self.outer.pid}/task/{self.outer.pid}/children")
 
@@ -131,13 +121,8 @@ class Host:
 
     def start(self, *words: str) -> None:
         """The counter by the sample's script, or by these words."""
-        self.server = subprocess.Popen(
-            self.words(*(words or BY_SCRIPT)),
-            stdin=subprocess.DEVNULL,
-            stdout=subprocess.DEVNULL,
-            stderr=subprocess.PIPE,
-            text=True,
-        )
+        command = self.words(*(words or BY_SCRIPT))
+        self.server = subprocess.Popen(command, stderr=subprocess.PIPE, **QUIET)
 
     def end_of_server(self) -> str | None:
         """What the counter said as it ended; None while it runs."""
