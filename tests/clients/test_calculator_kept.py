@@ -2,6 +2,7 @@
 
 from __future__ import annotations
 
+import datetime
 import json
 from typing import Any
 
@@ -9,6 +10,7 @@ import pytest
 
 from tests.clients.calculator import Calculator, Changes, script, variants
 from tests.clients.calculator_data import INVENTORY
+from tests.clients.test_calculator_uses import add_pasted, put
 
 pytestmark = [
     pytest.mark.browser,
@@ -65,9 +67,12 @@ class Kept:
         self.at.click("#keep")
         self.is_written()
 
+    def is_said(self) -> bool:
+        """Whether the page says that it keeps the bonds."""
+        return self.at.texts("#keep-state")[0].startswith("Kept")
+
     def is_written(self) -> None:
-        words = "return document.querySelector('#keep-state')?.textContent ?? 'Kept'"
-        self.at.until(lambda: self.at.run(words).startswith("Kept"), "the inventory is kept")
+        self.at.until(self.is_said, "the inventory is kept")
 
     def adds(self, *serials: str) -> None:
         lines = "".join(f"{serial},50,2010-05,7,\n" for serial in serials)
@@ -265,3 +270,71 @@ def test_full(kept: Kept, changes: Changes) -> None:
         assert not kept.is_ticked() and kept.serials() == ["C1EE"] and len(page.rows()) == 2
         page.again()
         assert page.serials() == ["C1EE"]
+
+
+#: Empties the storage, as a person does who clears the browser's data.
+CLEAR = """
+    const request = indexedDB.deleteDatabase("savings-bond-calculator");
+    await new Promise((resolve, reject) => { request.onsuccess = resolve; request.onblocked = reject; });
+    return true;
+"""
+ASKED = "return !window.dispatchEvent(new Event('beforeunload', { cancelable: true }))"
+
+
+@variants(
+    forgotten_version=script(
+        "base = { ...base, version: void 0 };\n    stop(TEXTS.keep_ended)",
+        "stop(TEXTS.keep_ended)",
+    )
+)
+def test_kept_again_in_two_tabs(kept: Kept, changes: Changes) -> None:
+    """Two tabs keep; one ends the keeping, and the other ticks the box again."""
+    page = kept.at
+    url = page.serve(changes)
+    with page.holds_not(changes):
+        kept.adds("L1EE")
+        kept.tick()
+        first = page.new_tab()
+        page.visit(url)
+        assert page.serials() == ["L1EE"]
+        kept.keeps_nothing()
+        page.driver.switch_to.window(first)
+        page.until(lambda: not kept.is_said(), "the other tab says that nothing is kept")
+        kept.tick()
+        assert kept.serials() == ["L1EE"]
+        page.again()
+        assert page.serials() == ["L1EE"]
+
+
+@variants(never_looked=script("!await hasRecord()", "false"))
+def test_cleared_data(kept: Kept, changes: Changes) -> None:
+    """The browser's data is cleared: the page says that nothing is kept, asks as it is closed, and can keep again."""
+    page = kept.at
+    page.serve(changes)
+    put(page, "L1EE 50 2010-05")
+    add_pasted(page)
+    kept.tick()
+    assert not page.run(ASKED)
+    with page.holds_not(changes):
+        for wakes in ("dispatchEvent(new Event('focus'))", ""):
+            assert page.run_module(CLEAR) is True
+            page.run(wakes)
+            page.until(lambda: not kept.is_said(), "the page sees that nothing is kept", 15)
+            assert "the browser's data was cleared" in page.told() and page.run(ASKED)
+            kept.tick()
+            assert kept.record() is not None and not page.run(ASKED)
+        page.again()
+        assert page.serials() == ["L1EE"]
+
+
+def test_month_begins_with_today(kept: Kept) -> None:
+    """Kept bonds are shown in this month, and not in that of the earlier visit."""
+    page = kept.at
+    page.serve()
+    kept.adds("L1EE")
+    page.choose_month("01/2030")
+    assert page.value("#month") == "01/2030"
+    kept.tick()
+    page.again()
+    now = datetime.date.today()
+    assert (page.serials(), page.value("#month")) == (["L1EE"], f"{now.month:02}/{now.year}")
