@@ -149,14 +149,6 @@ def test_unlogged_within_a_minute(today: World) -> None:
         next(steps, None)
 
 
-def test_systemd_takes_the_units(world: World) -> None:
-    units = [f"/etc/systemd/system/counter-watch.{kind}" for kind in ("service", "timer")]
-    assert (
-        "counter-watch"
-        not in world.machine.on("systemd-analyze", "verify", "--man=no", *units).stdout
-    )
-
-
 # ---- the check
 
 
