@@ -17,7 +17,7 @@ STAMP = PROGRAM.with_suffix(".stamp")
 LIBRARY = TOP / "clients" / "value" / "out"
 #: What clients/value/build makes, and packages take.
 LIBRARY_FILES = ("libee_value.a", "libee_value.so.1")
-#: The file beside the library that holds the checksums of its sources, and of what was built.
+#: The file next to the library that holds the checksums of its sources, and of what was built.
 LIBRARY_SOURCES = LIBRARY / "libee_value.sources"
 #: The crates of the program and of the library.
 CRATES = ("ee_cli", "ee_value_c")

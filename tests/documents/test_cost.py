@@ -24,7 +24,7 @@ for seconds, folder, words in {processes}:
 print({printed!r}, end="")
 sys.exit({status})
 """
-MARK = "<!-- the cost: .ci/cost --page docs/GATE.md .ci/run --from-nothing -->"
+MARK = "<!-- the cost: .ci/cost --page .ci/README.md .ci/run --from-nothing -->"
 PAGE = f"Before.\n{MARK}\nold\n<!-- the end of the cost -->\nAfter.\n"
 CHECK = "/kit/bin/rattle check --crate-name"
 #: The seconds, the folder and the words of a process for every part.

@@ -13,7 +13,7 @@ MOST, LONG = 30, 25
 LATER = {f"docs/{name}.md" for name in ("ASSUMPTIONS", "CLAIMS", "HEADLINE", "PROMISES")}
 PAGES = sorted(
     str(path.relative_to(TOP))
-    for place in ("*.md", "docs/*.md", "samples/**/*.md", "packaging/*.md")
+    for place in ("*.md", "*/*.md", ".ci/*.md", "samples/*/*.md")
     for path in TOP.glob(place)
 )
 

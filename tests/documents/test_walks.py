@@ -1,4 +1,4 @@
-"""The walks of docs/CONTRIBUTING.md name just the files that a search of the repository finds.
+"""The walks of CONTRIBUTING.md name just the files that a search of the repository finds.
 
 A walk is a table behind a comment `<!-- walk: WORDS -->`, where WORDS is a regular expression; `walk,
 with proofs` searches proofs too. `{blue_moon}` stands for that word in its spellings. Wrong bodies,
@@ -15,8 +15,8 @@ import pytest
 from tests.conftest import TOP
 from tests.documents.test_commands import files
 
-WALKS = "docs/CONTRIBUTING.md"
-LEFT_OUT = (WALKS, "docs/DECISIONS.md", "docs/BENCHMARKS.md")
+WALKS = "CONTRIBUTING.md"
+LEFT_OUT = (WALKS, "docs/DECISIONS.md", "benchmarks/README.md")
 COMMENT = re.compile(r"<!-- walk(, with proofs)?: (.*\S) -->")
 LINES = ("**Version:** ", "**Limits:** ")
 

@@ -1,7 +1,7 @@
 """The least stack with which every command does its work: large bodies, deep JSON, long lists, many bonds.
 
 What is said with 8,192 KiB is what the rules give, and half of that is enough. TABLE=1 measures the
-least stack of each, in KiB, for docs/BENCHMARKS.md."""
+least stack of each, in KiB, for benchmarks/README.md."""
 
 from __future__ import annotations
 
