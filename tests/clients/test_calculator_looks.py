@@ -365,7 +365,7 @@ def test_pictures(calculator: Calculator, pictures: Path | None) -> None:
     page, folder = calculator, pictures
     page.serve()
     page.open_inventory(FILE)
-    page.choose_month("2012-02")
+    page.choose_month("2026-11")
     page.run("document.querySelector('#told-close').click(); document.activeElement.blur()")
 
     def takes(name: str, width: int, height: int, scroll: str = "scrollTo(0, 0)") -> None:
