@@ -1,4 +1,4 @@
-"""Registration in bulk by the client's command, as samples/bulk has it: each bond is entered once, and nothing else is taken for done."""
+"""Registration in bulk by the client's command, as docs/BULK.md has it: each bond is entered once, and nothing else is taken for done."""
 
 from __future__ import annotations
 

@@ -1,4 +1,4 @@
-"""The archive of a desk's requests: samples/restore/README.md, "The format of an archive"."""
+"""The archive of a desk's requests: docs/FORMATS.md, "The archive of requests"."""
 from __future__ import annotations
 
 import datetime
