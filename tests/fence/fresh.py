@@ -16,6 +16,10 @@ MIRROR = "http://deb.debian.org/debian"
 #: What the packages need, what a bank has beside them, and the shells in which completion is tried.
 INCLUDED = "systemd,systemd-sysv,logrotate,nftables,nginx-light,libnginx-mod-http-js,easy-rsa,apache2-utils,python3,curl,man-db,bash-completion,zsh,sqlite3,openssl,iproute2,btrfs-progs,faketime,procps,prometheus,prometheus-node-exporter"
 DEVICES = ["null", "zero", "full", "random", "urandom", "tty"]
+PATH = "/usr/sbin:/usr/bin:/sbin:/bin"
+SYSTEMD = "systemd --system --unit=multi-user.target --log-target=journal --show-status=no"
+UNSHARE = "unshare --mount --pid --fork --uts --ipc --net --cgroup --kill-child"
+ENTER = "--mount --pid --net --uts --ipc --cgroup --root --wd"
 #: What is asked of a machine that isn't up, or that does what it shouldn't.
 WAIT = 120
 
@@ -44,34 +48,22 @@ def bootstrap(folder: str, suite: str = SUITE, included: str = INCLUDED) -> str:
 # Within the namespaces, until systemd is process 1.
 
 
+def mount(kind: str, at: str, options: str = "") -> None:
+    done("mount", "-t", kind, *(("-o", options) if options else ()), kind, at)
+
+
 def make_root(base: str, memory: str, root: str) -> None:
     done("mount", "--make-rprivate", "/")
-    done("mount", "-t", "tmpfs", "-o", "mode=755", "memory", memory)
+    mount("tmpfs", memory, "mode=755")
     for name in ("upper", "work"):
         os.mkdir(f"{memory}/{name}")
     os.mkdir(root)
-    done(
-        "mount",
-        "-t",
-        "overlay",
-        "-o",
-        f"lowerdir={base},upperdir={memory}/upper,workdir={memory}/work",
-        "overlay",
-        root,
-    )
-    done("mount", "-t", "proc", "proc", f"{root}/proc")
-    done("mount", "-t", "sysfs", "sysfs", f"{root}/sys")
-    done("mount", "-t", "cgroup2", "cgroup2", f"{root}/sys/fs/cgroup")
+    mount("overlay", root, f"lowerdir={base},upperdir={memory}/upper,workdir={memory}/work")
+    mount("proc", f"{root}/proc")
+    mount("sysfs", f"{root}/sys")
+    mount("cgroup2", f"{root}/sys/fs/cgroup")
     for path in ("dev", "run", "tmp"):
-        done(
-            "mount",
-            "-t",
-            "tmpfs",
-            "-o",
-            "mode=755" if path != "tmp" else "mode=1777",
-            path,
-            f"{root}/{path}",
-        )
+        mount("tmpfs", f"{root}/{path}", "mode=1777" if path == "tmp" else "mode=755")
     for name in DEVICES:
         open(f"{root}/dev/{name}", "w").close()
         done("mount", "--bind", f"/dev/{name}", f"{root}/dev/{name}")
@@ -79,9 +71,7 @@ def make_root(base: str, memory: str, root: str) -> None:
     os.mknod(f"{root}/dev/console", stat.S_IFCHR | 0o600, os.makedev(1, 3))
     for name in ("shm", "pts"):
         os.mkdir(f"{root}/dev/{name}")
-    done(
-        "mount", "-t", "devpts", "-o", "newinstance,ptmxmode=666,gid=5", "devpts", f"{root}/dev/pts"
-    )
+    mount("devpts", f"{root}/dev/pts", "newinstance,ptmxmode=666,gid=5")
     os.symlink("pts/ptmx", f"{root}/dev/ptmx")
     with open(f"{root}/etc/machine-id", "w") as file:
         file.write("0123456789abcdef0123456789abcdef\n")
@@ -97,17 +87,8 @@ def inside(base: str, memory: str) -> NoReturn:
     os.chroot("/")
     os.chdir("/")
     done("umount", "-l", "/before")
-    os.execve(
-        "/usr/lib/systemd/systemd",
-        [
-            "systemd",
-            "--system",
-            "--unit=multi-user.target",
-            "--log-target=journal",
-            "--show-status=no",
-        ],
-        {"container": "namespaces", "PATH": "/usr/sbin:/usr/bin:/sbin:/bin"},
-    )
+    env = {"container": "namespaces", "PATH": PATH}
+    os.execve("/usr/lib/systemd/systemd", SYSTEMD.split(), env)
 
 
 # Outside.
@@ -119,21 +100,7 @@ class Fresh:
     def __init__(self, base: str, folder: str) -> None:
         self.group = make_group()
         self.told = f"{folder}.told"
-        words = [
-            "unshare",
-            "--mount",
-            "--pid",
-            "--fork",
-            "--uts",
-            "--ipc",
-            "--net",
-            "--cgroup",
-            "--kill-child",
-            sys.executable,
-            os.path.abspath(__file__),
-            base,
-            folder,
-        ]
+        words = [*UNSHARE.split(), sys.executable, os.path.abspath(__file__), base, folder]
         enter = ["sh", "-c", 'echo $$ > "$0/cgroup.procs" && exec "$@"', self.group, *words]
         self.outer = subprocess.Popen(
             enter, stdout=subprocess.DEVNULL, stderr=open(self.told, "w"), start_new_session=True
@@ -169,28 +136,11 @@ class Fresh:
 
     def words(self, *words: str | Path) -> list[str | Path]:
         """The words by which a command is run on the machine."""
-        return [
-            "nsenter",
-            "-t",
-            str(self.process),
-            "--mount",
-            "--pid",
-            "--net",
-            "--uts",
-            "--ipc",
-            "--cgroup",
-            "--root",
-            "--wd",
-            *words,
-        ]
+        return ["nsenter", "-t", str(self.process), *ENTER.split(), *words]
 
     def on(self, *words: str | Path, **more: Any) -> subprocess.CompletedProcess[str]:
-        env = {
-            "PATH": "/usr/sbin:/usr/bin:/sbin:/bin",
-            "LC_ALL": "C.UTF-8",
-            "DEBIAN_FRONTEND": "noninteractive",
-            "HOME": "/root",
-        }
+        env = {"PATH": PATH, "LC_ALL": "C.UTF-8", "HOME": "/root"}
+        env["DEBIAN_FRONTEND"] = "noninteractive"
         return run(*self.words(*words), env=env, **more)
 
     def shell(self, text: str) -> str:

@@ -74,17 +74,7 @@ def day_in_future(w: World) -> Iterator[None]:
 @trouble("ManyRefusals")
 def many_refusals(w: World) -> Iterator[None]:
     for _ in range(40):
-        w.ask(
-            "POST",
-            "/redeem",
-            {
-                "desk": 1,
-                "number": w.next_number(),
-                "day": w.today,
-                "payee": 7,
-                "serials": ["Z999EE"],
-            },
-        )
+        w.ask("POST", "/redeem", w.redemption_of("Z999EE", desk=1))
     yield
 
 
@@ -245,17 +235,7 @@ def port_taken(w: World) -> Iterator[None]:
 def unanswered(w: World) -> Iterator[None]:
     w.machine.follow("systemctl stop counter.service")
     for _ in range(20):
-        w.ask(
-            "POST",
-            "/redeem",
-            {
-                "desk": 2,
-                "number": w.next_number(),
-                "day": w.today,
-                "payee": 7,
-                "serials": ["Z997EE"],
-            },
-        )
+        w.ask("POST", "/redeem", w.redemption_of("Z997EE", desk=2))
     yield
     started(w)
 

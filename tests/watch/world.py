@@ -18,6 +18,8 @@ from tests.shared.counter_calls import Answer, bond, get, post, read_answer
 from tests.conftest import TOP
 from tests.watch.machine import Machine
 
+#: The body of a request.
+Body = dict[str, Any]
 STORE = "/var/lib/counter/day.db"
 USERS = {"anna": "teller", "bert": "supervisor", "cleo": "office"}
 STAFF = "/etc/counter/staff"
@@ -81,16 +83,10 @@ class World:
     def make_store(self) -> None:
         """Rates and bonds, as the bank's first import brings them."""
         rates = [{"from": "2010-05", "rate": "2.00"}, {"from": "2010-11", "rate": "3.50"}]
+        parts = [range(first, min(first + 500, BONDS)) for first in range(0, BONDS, 500)]
         bonds = [
-            post(
-                "/bonds",
-                {
-                    "number": 2 + first // 500,
-                    "bonds": [bond(turn) for turn in range(first, min(first + 500, BONDS))],
-                },
-                b"",
-            )
-            for first in range(0, BONDS, 500)
+            post("/bonds", {"number": 2 + nth, "bonds": [bond(turn) for turn in part]}, b"")
+            for nth, part in enumerate(parts)
         ]
         with open(f"{self.machine.root}/tmp/first", "wb") as file:
             file.write(b"".join([post("/rates", {"number": 1, "rates": rates}, b""), *bonds]))
@@ -275,24 +271,19 @@ class World:
             "POST", "/day/close", {"desk": 9, "number": self.next_number(), "day": day}, "bert"
         )
 
-    def redemption(self, turn: int, day: str, payee: int = 7) -> dict[str, Any]:
-        return {
-            "desk": 1,
-            "number": self.next_number(),
-            "day": day,
-            "payee": payee,
-            "serials": [bond(turn)["serial"]],
-        }
+    def redemption_of(self, serial: str, day: str = "", payee: int = 7, desk: int = 1) -> Body:
+        """A new request for a bond, today."""
+        named: Body = {"desk": desk, "number": self.next_number(), "day": day or self.today}
+        return named | {"payee": payee, "serials": [serial]}
+
+    def redemption(self, turn: int, day: str) -> Body:
+        return self.redemption_of(bond(turn)["serial"], day)
 
     def pay(self, count: int, day: str) -> None:
         """Pays the next bonds, one on a ticket, at the counter's own socket: quicker than by nginx."""
         for _ in range(count):
-            status, body = self.ask_counter(post("/redeem", self.redemption(self.bond, day))) or (
-                0,
-                "no answer",
-            )
-            if status != 200:
-                raise AssertionError(body)
+            answer = self.ask_counter(post("/redeem", self.redemption(self.bond, day)))
+            assert answer is not None and answer[0] == 200, answer
             self.bond += 1
 
     @contextlib.contextmanager
