@@ -122,16 +122,9 @@ class Day:
         """counter-restore over a store and all sources, or those that are named."""
         given = [self.archive, self.log] if sources is None else sources
         named = [word for path in given for word in ("--from", path)]
-        command = [
-            RESTORE / "counter-restore",
-            store or self.store,
-            *named,
-            "--archive",
-            self.archive,
-            "--room",
-            self.room,
-        ]
-        return run(*command, "--program", self.program, *words, **more)
+        ours = ("--archive", self.archive, "--room", self.room, "--program", self.program)
+        command = RESTORE / "counter-restore", store or self.store
+        return run(*command, *named, *ours, *words, **more)
 
     def guard(self, *folders: Path, store: Path | None = None, **settings: object) -> Ran:
         environment = {

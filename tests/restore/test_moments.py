@@ -50,18 +50,9 @@ class Machine:
     """`serve` with an archiver over a disk of btrfs, a log of requests, and a second machine that pulls both."""
 
     def __init__(self, program: Path, folder: Path) -> None:
-        self.program, self.folder, self.count, self.at, self.lock = (
-            program,
-            folder,
-            0,
-            0.0,
-            threading.Lock(),
-        )
-        self.disk, self.archive, self.second = (
-            folder / "books",
-            folder / "archives" / "counter",
-            folder / "second",
-        )
+        self.program, self.folder, self.lock = program, folder, threading.Lock()
+        self.count, self.at, self.disk = 0, 0.0, folder / "books"
+        self.archive, self.second = folder / "archives" / "counter", folder / "second"
         self.log, self.followed = folder / "requests.log", folder / "followed" / "requests.log"
         for path in (self.disk, self.archive, self.second, self.followed.parent):
             path.mkdir(parents=True)
@@ -100,14 +91,8 @@ class Machine:
         if answer is not None and answer[0] in (200, 409):
             with self.lock, open(self.log, "a") as log:
                 self.at += 0.001
-                log.write(
-                    entry_of(
-                        message.replace(b"Connection: close\r\n", b""),
-                        answer[1],
-                        self.at,
-                        str(answer[0]),
-                    )
-                )
+                sent = message.replace(b"Connection: close\r\n", b"")
+                log.write(entry_of(sent, answer[1], self.at, str(answer[0])))
         return answer
 
     def lose(self) -> None:
@@ -200,17 +185,9 @@ def restore(machine: Machine, way: int, earlier: Path | None) -> None:
         wait_for_all(machine)
         sources = [machine.second, machine.followed]
         shutil.rmtree(machine.archive)
-    named = [word for path in sources for word in ("--from", path)]
-    ran = run(
-        RESTORE / "counter-restore",
-        machine.store,
-        *named,
-        "--archive",
-        machine.archive,
-        "--program",
-        machine.program,
-        "--yes",
-    )
+    named: list[object] = [word for path in sources for word in ("--from", path)]
+    named += ["--archive", machine.archive, "--program", machine.program, "--yes"]
+    ran = run(RESTORE / "counter-restore", machine.store, *named)
     assert ran.returncode == 0, ran.stdout + ran.stderr
     assert run(RESTORE / "guard", machine.store, machine.archive).returncode == 0
 

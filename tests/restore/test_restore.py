@@ -550,7 +550,7 @@ ROWS = {
     "`tickets N to M are missing`": "test_missing_tickets",
     "`a reply differs`": "test_differing_reply",
     "`requests are known to be missing`": "test_known_to_be_missing",
-    "a file that `sqlite3` or": "test_log_of_sqlite",
+    "a file that `sqlite3` or": "test_changed_store",
     "`Nothing is missing`": "test_nothing_missing",
     "the clock of the machine": "test_clock_set_back",
 }
@@ -563,7 +563,8 @@ def test_rows_of_the_page() -> None:
     for line in rows_there:
         assert any(line.startswith(f"| {begins}") for begins in ROWS), line
     assert len(rows_there) == len(ROWS)
-    tests = "".join(path.read_text() for path in Path(__file__).parent.glob("test_*.py"))
+    files = [*TOP.glob("tests/restore/test_*.py"), TOP / "tests/samples/test_take_over.py"]
+    tests = "".join(path.read_text() for path in files)
     for name in ROWS.values():
         test, _, case = name.partition("[")
         assert f"def {test}(" in tests and (not case or f"({case}, " in tests), name
