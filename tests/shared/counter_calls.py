@@ -1,24 +1,19 @@
-"""What the scripts of tests/ share: verdicts, other programs, messages and answers, servers, and a load whose answers the rules give."""
+"""What the tests share: messages and answers, servers, and a load whose answers the rules give."""
+
 from __future__ import annotations
 
-import contextlib, json, os, re, signal, socket, sqlite3, subprocess, sys, threading, time
+import contextlib
+import json
+import os
+import re
+import socket
+import sqlite3
+import subprocess
+import threading
+import time
 from pathlib import Path
-from typing import Any, AnyStr, Callable, IO, Iterable, Iterator, NoReturn, Sequence
+from typing import IO, Any, AnyStr, Callable, Iterable, Iterator, NoReturn, Sequence
 
-
-def stop(*_: object) -> NoReturn:
-    """A script that is stopped cleans up as one that ends."""
-    sys.exit("stopped")
-
-
-def forget_stop() -> None:
-    """A process that a script forks ends at once when it is stopped, as the workers of a pool have to."""
-    if signal.getsignal(signal.SIGTERM) is stop:
-        signal.signal(signal.SIGTERM, signal.SIG_DFL)
-
-
-signal.signal(signal.SIGTERM, stop)
-os.register_at_fork(after_in_child=forget_stop)
 
 #: The status and the body of an answer.
 Answer = tuple[int, str]
@@ -43,35 +38,13 @@ BONDS = [
 
 
 def wrong(what: str, found: object = "") -> NoReturn:
-    sys.exit(f"WRONG: {what}\n{found}")
-
-
-def right_or_end(is_right: object, what: str, found: object = "") -> None:
-    """The same as `right`, for what is tested many times: only what is wrong is printed."""
-    if not is_right:
-        wrong(what, found)
+    raise AssertionError(f"{what}\n{found}")
 
 
 def right(is_right: object, what: str, found: object = "") -> None:
-    right_or_end(is_right, what, found)
+    if not is_right:
+        wrong(what, found)
     print(f"right: {what}", flush=True)
-
-
-def in_own(kind: str, *options: str) -> None:
-    """Run this script again in a namespace of its own of a kind that `unshare` knows: mount, net."""
-    if os.environ.get("TEST_NAMESPACE") != kind:
-        os.environ["TEST_NAMESPACE"] = kind
-        os.execvp(
-            "unshare",
-            [
-                "unshare",
-                f"--{kind}",
-                *options,
-                sys.executable,
-                os.path.abspath(sys.argv[0]),
-                *sys.argv[1:],
-            ],
-        )
 
 
 def run(*words: str | Path, **more: Any) -> subprocess.CompletedProcess[str]:
@@ -232,7 +205,7 @@ def wait_for(port: int, seconds: int = 60) -> None:
         if ask(port, get("/ticket/1")) is not None:
             return
         time.sleep(0.05)
-    sys.exit("the server doesn't listen")
+    raise AssertionError("the server doesn't listen")
 
 
 @contextlib.contextmanager
@@ -263,9 +236,8 @@ def apply(
         )
         found = split_answers(ran.stdout)
         if len(found) != len(part):
-            sys.exit(
-                f"WRONG: {len(found)} answers to {len(part)} messages, status {ran.returncode}, {ran.stderr.decode().strip()}"
-            )
+            said = ran.stderr.decode().strip()
+            raise AssertionError(f"{len(found)} answers, status {ran.returncode}, {said}")
         answers += found
     return answers
 
@@ -344,7 +316,7 @@ class Load:
         for thread in self.threads:
             thread.join()
         if self.wrong:
-            sys.exit(f"WRONG: {self.wrong}")
+            raise AssertionError(f"{self.wrong}")
 
     def run(self, desk: int) -> None:
         try:
@@ -472,14 +444,3 @@ def fault_of_books(store: str | Path, replies: dict[Name, str]) -> str | None:
     if [ticket for ticket, _ in held] != list(range(1, len(held) + 1)):
         return "the tickets aren't numbered one after the other"
     return None
-
-
-def median(values: Sequence[float]) -> float:
-    values = sorted(values)
-    return values[len(values) // 2]
-
-
-def milliseconds(values: Sequence[float]) -> str:
-    return (
-        f"{median(values) * 1000:.0f} milliseconds in the middle, {max(values) * 1000:.0f} at most"
-    )

@@ -1,7 +1,8 @@
 """Commands over a store, and whether what one told is right: a connection by `apply` or `serve`, an import, an export, a sheet."""
 from __future__ import annotations
 
-import subprocess, time
+import subprocess
+import time
 import socket as sockets
 from typing import Any
 

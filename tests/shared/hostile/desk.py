@@ -2,7 +2,8 @@
 tests/shared/exact.py. It shares nothing with the program."""
 from __future__ import annotations
 
-import copy, json
+import copy
+import json
 from typing import Any, Iterable, Mapping, Sequence, TypedDict
 
 from .. import exact

@@ -5,7 +5,9 @@ there may be anything; and the length is between the synced one and those that w
 made is there for sure once its folder was synced."""
 from __future__ import annotations
 
-import dataclasses, random, struct
+import dataclasses
+import random
+import struct
 from typing import Callable, Iterable, Iterator
 
 HEAD = struct.Struct("=IIQQ")

@@ -1,7 +1,8 @@
 """How a stream is split into messages, by the rules of docs/FORMATS.md, 'Framing': line by line over all bytes, and not as they come."""
 from __future__ import annotations
 
-import dataclasses, re
+import dataclasses
+import re
 
 MOST_HEAD, MOST_FIELDS, MOST_BODY, MOST_MESSAGES = 16_384, 32, 1_048_576, 1_000
 FAULTS = {60: "BadHead", 61: "HeadTooLong", 62: "BodyTooLong", 63: "BadLength", 68: "Truncated"}

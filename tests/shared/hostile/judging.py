@@ -1,7 +1,8 @@
 """Whether a run under faults is right: what it answered is followed by the desk's rules, with the books that may stand after each answer."""
 from __future__ import annotations
 
-import dataclasses, hashlib
+import dataclasses
+import hashlib
 from typing import Iterable
 
 from . import counter, desk, framing, store, talk

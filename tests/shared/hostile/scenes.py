@@ -1,7 +1,8 @@
 """What the scripts run over: stores in the states that a file can be in, and the commands that meet them."""
 from __future__ import annotations
 
-import dataclasses, os
+import dataclasses
+import os
 
 from . import commands, desk, judging, store, talk
 from .program import Program

@@ -1,7 +1,8 @@
 """Values as docs/FORMATS.md spells them: what a text stands for, or None, and how each is printed. Months are counted from year 0, days from 1970-01-01."""
 from __future__ import annotations
 
-import datetime, re
+import datetime
+import re
 
 #: The letter of a serial from 1 to 26, and its number.
 Serial = tuple[int, int]

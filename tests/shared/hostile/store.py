@@ -1,7 +1,9 @@
 """Stores on disk: their rows, read by SQLite; and stores of version 1, made by the statements of that version."""
 from __future__ import annotations
 
-import os, shutil, sqlite3
+import os
+import shutil
+import sqlite3
 from typing import Any, Mapping
 
 from . import talk

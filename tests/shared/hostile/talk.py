@@ -2,7 +2,8 @@
 worked by hand. Their little language is told in its talk.rt."""
 from __future__ import annotations
 
-import os, re
+import os
+import re
 from typing import Any, Iterator
 
 from ..counter_calls import TOP
