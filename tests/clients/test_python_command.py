@@ -1,13 +1,10 @@
-"""The Python client's command and its fake counter: help, statuses, a day through nginx with a certificate, the documented commands, and the program's bytes."""
+"""The Python client's command and its fake counter: help, statuses, a day through nginx with a certificate, and the program's bytes."""
 
 from __future__ import annotations
 
 import http.client
 import json
 import re
-import socket
-import subprocess
-import time
 from pathlib import Path
 from typing import Any, ContextManager, Iterator
 from unittest import mock
@@ -146,65 +143,6 @@ def through(site: Site, gate: Gate, folder: Path) -> None:
     status, out, told = run(*payment)
     assert status == 0 and json.loads(out)["ticket"] == 2, told
     assert run("ticket", "3")[0] == 1, "it was paid once"
-
-
-# ---- the document
-
-
-def commands_of(text: str) -> list[tuple[str, list[str]]]:
-    """Each command of a document's blocks, with what it prints."""
-    found: list[tuple[str, list[str]]] = []
-    for block in re.findall(r"^```\n(\$ .*?)^```$", text, re.M | re.S):
-        for line in block.splitlines():
-            if line.startswith("$ "):
-                found.append((line[2:], []))
-            else:
-                found[-1][1].append(line)
-    return found
-
-
-def test_document(program: Path, folder: Path) -> None:
-    """The commands of docs/COUNTER_CLIENT.md, run as written in one shell, in a folder that has the repository's files by links."""
-    for name in ("clients", "samples"):
-        (folder / name).symlink_to(TOP / name)
-    (folder / "ee_cli").symlink_to(program)
-    text = (TOP / "docs/COUNTER_CLIENT.md").read_text()
-    port = int(re.findall(r"serve .*--port (\d+)", text)[0])
-    with socket.socket() as trial:
-        assert trial.connect_ex(("127.0.0.1", port)) != 0, f"port {port} is in use"
-    lines = commands_of(text)
-    assert len(lines) > 15
-    shell = subprocess.Popen(
-        ["bash"],
-        stdin=subprocess.PIPE,
-        stdout=subprocess.PIPE,
-        stderr=subprocess.STDOUT,
-        text=True,
-        cwd=folder,
-    )
-    assert shell.stdin and shell.stdout
-    try:
-        for line, wanted in lines:
-            shell.stdin.write(f"{line}\necho END OF IT\n")
-            shell.stdin.flush()
-            found = [one.rstrip("\n") for one in iter(shell.stdout.readline, "END OF IT\n")]
-            texts = [re.sub("^request [0-9]+ ", "request N ", one) for one in found]
-            assert texts == [re.sub("^request [0-9]+ ", "request N ", one) for one in wanted], line
-            if line.endswith("&"):
-                listens(port)
-    finally:
-        shell.stdin.write("kill $(jobs -p)\n")
-        shell.stdin.close()
-        shell.wait(timeout=60)
-
-
-def listens(port: int) -> None:
-    for _ in range(300):
-        with socket.socket() as trial:
-            if trial.connect_ex(("127.0.0.1", port)) == 0:
-                return
-        time.sleep(0.1)
-    raise AssertionError(f"nothing listens on port {port}")
 
 
 # ---- the fake counter beside the program
