@@ -157,6 +157,15 @@ def test_through_a_link_and_from_another_folder(tree: Tree, folder: Path) -> Non
         assert (done.stdout, done.returncode) == ("first\n", 0), done.stderr
 
 
+@pytest.mark.root
+def test_another_user_may_run_it(tree: Tree) -> None:
+    """One who may not write beside the program: a source that is newer and the same is no reason to fail."""
+    subprocess.run(["chmod", "-R", "a+rX", str(tree.top), str(tree.kit)], check=True)
+    (tree.top / "crates/ee_cli/src/lib.rt").touch()
+    done = tree.run("setpriv", "--reuid=65534", "--clear-groups")
+    assert (done.returncode, done.stdout, done.stderr, tree.calls()) == (0, "first\n", "", 0)
+
+
 def test_the_readme_names_the_toolchain() -> None:
     assert f"`{WANTED}`" in (TOP / "README.md").read_text()
 
