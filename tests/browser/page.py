@@ -43,6 +43,13 @@ RESTS = """
     new MutationObserver(() => window.rests.push([button.hasAttribute("aria-disabled"), performance.now()])).observe(button, { attributeFilter: ["aria-disabled"] });
 """
 
+#: Keeps each step that the page says of a request, also one that is in sight for half a second alone.
+STEPS = """
+    const progress = document.getElementById("progress-text");
+    window.steps = [];
+    new MutationObserver(() => window.steps.push(progress.textContent)).observe(progress, { childList: true });
+"""
+
 
 def dollars(cents: int) -> str:
     return f"${cents // 100:,}.{cents % 100:02}"
@@ -91,6 +98,14 @@ class Page(Browser):
             self.waits_for(one, "#notices")
         self.settled()
         return self.text("#notices")
+
+    def watch_steps(self) -> None:
+        """From here on, for `has_said`."""
+        self.run(STEPS)
+
+    def has_said(self, words: str) -> None:
+        steps = "return window.steps.some((step) => step.includes(arguments[0]))"
+        self.until(lambda: self.run(steps, words), f"the page says: {words}")
 
     # ---- views
 

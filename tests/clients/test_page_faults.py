@@ -143,16 +143,15 @@ def test_silent_counter(bank: Bank, new_page: NewPage) -> None:
     bank.begin([7], day=None)
     page = new_page()
     bank.gate.faults = ["silent"]
+    page.watch_steps()
     page.open_day(DAY)
     begun = time.monotonic()
     page.waits_for("sent, waiting for the reply", "#progress")
     acts = [button for button in page.all("fieldset.acts button") if button.is_displayed()]
     assert acts and not any(button.is_enabled() for button in acts)
-    page.waits_for("no response within 40 seconds", "#progress")
-    # At once: the pause lasts half a second.
-    page.run("document.getElementById('send-now').click()")
+    page.has_said("no response within 40 seconds")
     page.waits_for("February 6, 2012 is open.")
-    assert time.monotonic() - begun < 50 and EARLIER in page.text()
+    assert time.monotonic() - begun < 60 and EARLIER in page.text()
 
 
 # ---- an answer to one sending

@@ -84,12 +84,6 @@ def test_walk_in(bank: Bank, page: Page) -> None:
 # ---- what goes wrong between
 
 FAULTS = ("lost answer", "killed after", "failed after", "lost request", "other page")
-#: Keeps each step that the page says of a request, also one that is in sight for half a second alone.
-STEPS = """
-    const progress = document.getElementById("progress-text");
-    window.steps = [];
-    new MutationObserver(() => window.steps.push(progress.textContent)).observe(progress, { childList: true });
-"""
 #: The first pause doesn't end, so the page is loaded again in the middle of it.
 HELD = "const real = window.setTimeout; window.setTimeout = (act, wait, ...more) => (wait === 500 ? 0 : real(act, wait, ...more));"
 SAYS = (
@@ -110,12 +104,11 @@ def test_walk_in_interrupted(bank: Bank, page: Page, reloads: bool) -> None:
         type_two(page, owner)
         walk_in(page, owner)
         bank.gate.passes, bank.gate.faults = place, [fault, *["lost request"] * reloads]
-        page.run(STEPS)
+        page.watch_steps()
         if reloads:
             page.run(HELD)
         page.press("#confirm-yes")
-        says = SAYS[place].format(owner)
-        page.until(lambda: any(says in step for step in page.run("return window.steps")), says)
+        page.has_said(SAYS[place].format(owner))
         if reloads:
             page.reload()
         page.is_paid(ticket, TWO)
