@@ -2,11 +2,15 @@
 
 from __future__ import annotations
 
-import importlib.util
+import functools
 import os
 import random
 import shutil
+import subprocess
+import sys
 import tempfile
+from importlib.abc import MetaPathFinder
+from importlib.machinery import PathFinder
 from pathlib import Path
 from typing import Iterator
 
@@ -52,6 +56,37 @@ MAKES = {
     "clients/calculator/out/calculator.js": "clients/calculator/build",
     "crates/ee_cli_value_alone/out/ee_cli_value_alone": "./ee_cli value",
 }
+#: Python's modules, with Debian's packages.
+MODULES = {
+    "PIL": "python3-pil",
+    "cryptography": "python3-cryptography",
+    "hypothesis": "python3-hypothesis",
+    "jsonschema": "python3-jsonschema",
+    "selenium": "python3-selenium",
+}
+
+#: Commands that can be there and not work, for lack of leave to trace or of headers.
+TRIED = {"strace": "strace -o /dev/null true", "cc": "cc -x c -c -o /dev/null /dev/null"}
+
+
+@functools.cache
+def works(command: str) -> bool:
+    """Whether a command is there, and does the least of its work."""
+    words = TRIED.get(command, "true").split()
+    there = shutil.which(command) is not None
+    return there and subprocess.run(words, capture_output=True).returncode == 0
+
+
+class Lacking(MetaPathFinder):
+    """Is asked last for a module: skips the file of tests that imports one that isn't there."""
+
+    def find_spec(self, name: str, path: object = None, target: object = None) -> None:
+        if name in MODULES:
+            why = f"needs Python's module {name} (Debian's {MODULES[name]})"
+            pytest.skip(why, allow_module_level=True)
+
+
+sys.meta_path.append(Lacking())
 
 
 def missing(item: pytest.Item) -> list[str]:
@@ -69,11 +104,11 @@ def missing(item: pytest.Item) -> list[str]:
         found.append("root")
     for name in dict.fromkeys(names):
         kind, _, rest = name.rpartition(":")
-        if kind == "module" and importlib.util.find_spec(rest) is None:
-            found.append(f"Python's module {rest}")
+        if kind == "module" and PathFinder.find_spec(rest) is None:
+            found.append(f"Python's module {rest} (Debian's {MODULES.get(rest, rest)})")
         elif kind == "file" and not (TOP / rest).exists():
             found.append(f"{rest} ({MAKES[rest]} makes it)" if rest in MAKES else rest)
-        elif not kind and shutil.which(rest) is None:
+        elif not kind and not works(rest):
             found.append(f"{rest} (Debian's {wanted.get(rest, rest)})")
     return found
 
@@ -97,7 +132,7 @@ def program() -> Path:
 @pytest.fixture(scope="session")
 def hostile(program: Path) -> Iterator[Program]:
     """The program under a library in C that makes its calls on files and memory fail."""
-    if shutil.which("cc") is None:
+    if not works("cc"):
         pytest.skip("needs cc (Debian's gcc and libc6-dev)")
     with tempfile.TemporaryDirectory(prefix="hostile.", dir=MEMORY) as made:
         yield Program(str(program), made)

@@ -22,7 +22,19 @@ def collected(*files: str) -> set[str]:
 def lacking(rows: list[dict[str, str]]) -> list[str]:
     files = sorted({row["test"].partition("::")[0] for row in rows})
     known = collected(*files)
-    return [row["test"] for row in rows if row["test"] not in known]
+    skipped = {file for file in files if not any(name.startswith(f"{file}::") for name in known)}
+    return [
+        row["test"]
+        for row in rows
+        if row["test"] not in known and not is_written(row["test"], skipped)
+    ]
+
+
+def is_written(test: str, skipped: set[str]) -> bool:
+    """Whether a test is in a file that is skipped here, since a module of Python is missing."""
+    file, _, name = test.partition("::")
+    text = (TOP / file).read_text() if file in skipped and (TOP / file).exists() else ""
+    return f"def {name.partition('[')[0]}(" in text
 
 
 def test_every_fault_has_its_test() -> None:

@@ -9,15 +9,13 @@ import os
 from typing import Iterator
 
 import pytest
+from hypothesis import HealthCheck, Phase, given, note, seed, settings
+from hypothesis import strategies as st
 
-hypothesis = pytest.importorskip("hypothesis")
-from hypothesis import HealthCheck, Phase, given, seed, settings  # noqa: E402
-from hypothesis import strategies as st  # noqa: E402
-
-from tests.connections import streams  # noqa: E402
-from tests.shared.counter_calls import RATES  # noqa: E402
-from tests.shared.hostile import counter, desk, framing, judging, store, talk  # noqa: E402
-from tests.shared.hostile.program import Program  # noqa: E402
+from tests.connections import streams
+from tests.shared.counter_calls import RATES
+from tests.shared.hostile import counter, desk, framing, judging, store, talk
+from tests.shared.hostile.program import Program
 
 SEED = int(os.environ.get("SEED", int.from_bytes(os.urandom(4), "big")))
 STREAMS = int(os.environ.get("STREAMS", "200"))
@@ -68,7 +66,7 @@ def search(program: Program, most: int, plant: Plant = None, shrinks: bool = Tru
         path, books = begun(program, plant)
         for _ in range(data.draw(st.integers(1, 4), label="connections")):
             sent = streams.stream(data.draw, books)
-            hypothesis.note(f"sent: {sent!r}")
+            note(f"sent: {sent!r}")
             compare(program, path, books, sent, plant)
         judging.shows_books([books], store.rows(path), "after the streams")
         assert store.is_whole(path)

@@ -15,6 +15,7 @@ are run in the same shell."""
 from __future__ import annotations
 
 import contextlib
+import functools
 import os
 import re
 import select
@@ -122,12 +123,20 @@ def check_width(text: str) -> None:
             assert len(line) <= COLUMNS, f"a line has {len(line)} columns: {line}"
 
 
+@functools.cache
+def has_networks() -> bool:
+    """Whether this user may make a network, and has `ip` for it."""
+    words = ["unshare", "--net", "ip", "link", "set", "lo", "up"]
+    both = shutil.which("unshare") and shutil.which("ip")
+    return bool(both) and subprocess.run(words, capture_output=True).returncode == 0
+
+
 class Shell:
-    """A bash in a folder, which is given one command after another, in a network of its own if root runs it."""
+    """A bash in a folder, which is given one command after another, in a network of its own if that can be had."""
 
     def __init__(self, folder: Path) -> None:
         words = ["bash", "--noprofile", "--norc"]
-        if os.geteuid() == 0:
+        if has_networks():
             words = ["unshare", "--net", "sh", "-c", 'ip link set lo up && exec "$@"', "sh", *words]
         pipe = subprocess.PIPE
         self.process = subprocess.Popen(

@@ -18,12 +18,12 @@ from collections.abc import Callable, Iterator
 from pathlib import Path
 from typing import Any
 
+import jsonschema
 import pytest
 
 from tests.conftest import TOP
 from tests.shared.counter_calls import free_port, matched
 
-jsonschema = pytest.importorskip("jsonschema", reason="needs Debian's python3-jsonschema")
 DESCRIPTION: dict[str, Any] = json.loads((TOP / "docs/openapi.json").read_text())
 COMPONENTS: dict[str, Any] = DESCRIPTION["components"]
 STATUS_OF = {"BadMessage": 400, "NoRoute": 404, "BadMethod": 405, "TooLarge": 413, "Unserved": 503}
