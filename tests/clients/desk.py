@@ -83,10 +83,11 @@ class Desk:
         words.setdefault("desk", 3)
         return client.Counter(self.journal, self.gate.address, **words)
 
-    def known(self, **words: Any) -> client.Counter:
+    def known(self, patience: float = 300, **words: Any) -> client.Counter:
         """One that has had a good exchange."""
         counter = self.counter(**words)
         counter.ticket(1)
+        counter.patience = patience
         return counter
 
     @contextlib.contextmanager

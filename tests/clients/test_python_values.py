@@ -217,8 +217,9 @@ def test_quoted_signs(desk: Desk, caplog: pytest.LogCaptureFixture, part: Part) 
             call()
         found.append(raised.value)
 
-    with client.Counter(journal, desk.gate.address, desk=3, patience=0.3) as counter:
+    with client.Counter(journal, desk.gate.address, desk=3) as counter:
         counter.ticket(1)
+        counter.patience = 0.3
         fails(client.JournalInUse, lambda: client.Counter(journal, desk=3))
         fails(client.BadFile, lambda: client.register(counter, bad))
         fails(client.BadFile, lambda: client.register(counter, desk.place / sign))
