@@ -1,4 +1,5 @@
-"""Reads the contracts of crates: the clauses of functions, ghost members, constants and types in .rt files, and the definitions of specs/. `.ci/clauses` and `.ci/plant` use it."""
+"""Reads the contracts of crates: the clauses of functions, ghost members, constants and types in
+.rt files, and the definitions of specs/. `.ci/clauses` and `.ci/plant` use it."""
 from __future__ import annotations
 
 import re
@@ -122,7 +123,8 @@ def antt_end(text: str, at: int) -> int:
 
 
 def imports_of(line: str) -> Iterator[tuple[str, str]]:
-    """The names that a `use` line brings in, each with its path: `use a.b.{c, d as e}`, `use a.b`, `use a.b as c`."""
+    """The names that a `use` line brings in, each with its path: `use a.b.{c, d as e}`, `use
+    a.b`, `use a.b as c`."""
     found = re.fullmatch(r"use ([^\s{}]+?)(?:\.\{(.*)\})?(?: as (\S+))?", " ".join(line.split()))
     if not found:
         raise Unread(0, f"an import: {line}")
@@ -136,7 +138,8 @@ def imports_of(line: str) -> Iterator[tuple[str, str]]:
 
 
 def cited(text: str, imported: dict[str, str]) -> frozenset[tuple[str, str]]:
-    """The imported names of a text. A name `a.b` of a module `a` means `b` there; an operator is known by its parts."""
+    """The imported names of a text. A name `a.b` of a module `a` means `b` there; an operator is
+    known by its parts."""
     parts: dict[str, set[str]] = defaultdict(set)
     for name, path in imported.items():
         for part in name.split("◌") if "◌" in name else [name]:
@@ -273,7 +276,8 @@ class Rust:
         }
 
     def items_until(self, end: str, module: str, owner: str, open_to_all: bool) -> list[Clause]:
-        """Reads items up to `end`, which is taken. Returns the ghost members and types among them."""
+        """Reads items up to `end`, which is taken. Returns the ghost members and types among
+        them."""
         members: list[Clause] = []
         while (word := self.peek()) != end:
             begin = self.at
@@ -464,7 +468,8 @@ class Rust:
             yield Clause(kind, name, self.antt())
 
     def body(self, module: str, owner: str) -> list[Clause]:
-        """Passes over a function's body. Closures in it may have clauses, and functions may be in it."""
+        """Passes over a function's body. Closures in it may have clauses, and functions may be
+        in it."""
         inside: list[Clause] = []
         self.skip()
         begin, depth = self.at, 0
@@ -491,7 +496,8 @@ class Rust:
 
 
 def clause_words(text: str) -> Iterator[int]:
-    """Where words `requires` and `ensures` stand with a brace behind them, outside comments and texts, whatever stands round them."""
+    """Where words `requires` and `ensures` stand with a brace behind them, outside comments and
+    texts, whatever stands round them."""
     for found in re.finditer(r"\b(requires|ensures)\*?(\s+\w+)?\s*\{", text):
         line = text[text.rfind("\n", 0, found.start()) + 1 : found.start()]
         if "//" not in line and line.count('"') % 2 == 0:
@@ -505,7 +511,8 @@ BEGINS = re.compile(
 
 
 def chunks(text: str) -> Iterator[tuple[int, str]]:
-    """The parts of an antt file that begin at the left margin, without comments. A part ends where its brackets are closed, or later."""
+    """The parts of an antt file that begin at the left margin, without comments. A part ends
+    where its brackets are closed, or later."""
     kept, at = [], 0
     while found := ANTT.search(text, at):
         kept.append(text[at : found.start()])
@@ -528,7 +535,8 @@ def chunks(text: str) -> Iterator[tuple[int, str]]:
 
 
 def parts_of(text: str) -> Iterator[tuple[int, str, str]]:
-    """The parts of an antt file: the line, the heads of the blocks `module _ .. where` round it, and the text."""
+    """The parts of an antt file: the line, the heads of the blocks `module _ .. where` round it,
+    and the text."""
     for line, chunk in chunks(text):
         found = re.match(r"module _ (.*) where\n", chunk)
         if not found:
@@ -541,7 +549,8 @@ def parts_of(text: str) -> Iterator[tuple[int, str, str]]:
 def read_definitions(
     crate: str, file: str, text: str
 ) -> tuple[list[Item], dict[str, str], list[str]]:
-    """The definitions of a file of specs/, the paths that it passes on, and what couldn't be read."""
+    """The definitions of a file of specs/, the paths that it passes on, and what couldn't be
+    read."""
     module = "::".join(
         [crate, *[part for part in Path(file).with_suffix("").parts[3:] if part != "Lib"]]
     )

@@ -1,4 +1,5 @@
-"""What all tests share: the built program, a folder in memory, dice with a seed, and what a marker needs."""
+"""What all tests share: the built program, a folder in memory, dice with a seed, and what a
+marker needs."""
 
 from __future__ import annotations
 

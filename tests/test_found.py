@@ -1,4 +1,5 @@
-"""found.toml names a test for every wrong program, removed guard and control; each of these tests exists."""
+"""found.toml names a test for every wrong program, removed guard and control; each of these
+tests exists."""
 
 from __future__ import annotations
 

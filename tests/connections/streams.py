@@ -1,4 +1,5 @@
-"""Random days at the counter as strategies of hypothesis, and harm to their fields, heads and bytes.
+"""Random days at the counter as strategies of hypothesis, and harm to their fields, heads and
+bytes.
 
 What they draw knows nothing of what is right: framing.py, decoding.py and desk.py say that."""
 
@@ -89,7 +90,8 @@ def harmed(draw: Draw, value: Any) -> Any:
 
 
 def text_of(draw: Draw, value: Any) -> str:
-    """A JSON text of the value: often a compact one, else with spaces, escapes and a repeated key."""
+    """A JSON text of the value: often a compact one, else with spaces, escapes and a repeated
+    key."""
     spaced = draw(pick([None, None, (" , ", "\n:\t")]))
     text = json.dumps(value, separators=spaced or (",", ":"))
     if spaced and text.startswith('{"number"'):

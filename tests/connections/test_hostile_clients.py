@@ -1,4 +1,5 @@
-"""Clients that do harm to `serve`, and faults of its device: each a server over a copy of one store.
+"""Clients that do harm to `serve`, and faults of its device: each a server over a copy of one
+store.
 
 In the store a day is open, and customer 7 has three bonds."""
 
@@ -198,7 +199,8 @@ def calls_to_open(store: Store, call: str) -> int:
 @strace
 @pytest.mark.parametrize("call, more", [("fdatasync", 1), ("fdatasync", 2), ("pwrite64", 1)])
 def test_failing_device(store: Store, call: str, more: int) -> None:
-    """A request whose sync or write fails is answered 503, the program ends, and it is paid once."""
+    """A request whose sync or write fails is answered 503, the program ends, and it is paid
+    once."""
     at = calls_to_open(store, call) + more
     other = Store(store.program, Path(shutil.copy(store.path, store.path.with_name("other.db"))))
     store.serve(None, failing(call, at))

@@ -1,4 +1,5 @@
-"""Connections to `serve`, one after another, leave its memory as it was. CONNECTIONS names how many."""
+"""Connections to `serve`, one after another, leave its memory as it was. CONNECTIONS names how
+many."""
 
 from __future__ import annotations
 

@@ -1,7 +1,8 @@
 """Random streams get the bytes that the rules give, apart from the program.
 
-framing.py splits a stream, decoding.py says what a message asks for, desk.py what the desk answers,
-with the values of exact.py. A failure prints its smallest streams. STREAMS names how many are tried."""
+framing.py splits a stream, decoding.py says what a message asks for, desk.py what the desk
+answers, with the values of exact.py. A failure prints its smallest streams. STREAMS names how
+many are tried."""
 
 from __future__ import annotations
 
@@ -89,7 +90,8 @@ def test_random_streams(hostile: Program) -> None:
     ],
 )
 def test_changed_answer_is_found(hostile: Program, plant: str) -> None:
-    """Control: programs that answer another cent, status, header, or codes 90 to 98 for 60 to 68."""
+    """Control: programs that answer another cent, status, header, or codes 90 to 98 for 60 to
+    68."""
     with pytest.raises(AssertionError):
         search(hostile, 2000, plant, shrinks=False)
 
@@ -108,7 +110,8 @@ def cuts() -> Iterator[bytes]:
 
 
 def limits() -> Iterator[bytes]:
-    """1,000 messages and then the end, one less, one more, and other bytes; heads and bodies at their limits."""
+    """1,000 messages and then the end, one less, one more, and other bytes; heads and bodies at
+    their limits."""
     post = b"POST /rates HTTP/1.1\r\nContent-Length: %d\r\n\r\n"
     head = b"GET /ticket/1 HTTP/1.1\r\na:%s\r\n\r\n"
     room, most = framing.MOST_HEAD - len(head) + 2, framing.MOST_BODY

@@ -1,16 +1,16 @@
 """Reads a document, runs its commands as they are written, and compares what they print.
 
 A block between lines of three backticks is one of commands if a line of it begins with `$ `: a
-command, which goes on below if it ends with a backslash or the next lines begin with `> `. The lines
-up to the next command are what it prints on both outputs; a line of three points stands for any lines.
-All commands of a document go to one bash, in a copy of the repository without its crates, with the
-program as ./ee_cli. After a command with an option `--port` that is left running, nothing is done until
-something listens there. A block whose lines begin with `>>> ` is a session of Python. A text in a line
-as `./ee_cli WORDS` prints `TEXT` is run too.
+command, which goes on below if it ends with a backslash or the next lines begin with `> `. The
+lines up to the next command are what it prints on both outputs; a line of three points stands for
+any lines. All commands of a document go to one bash, in a copy of the repository without its
+crates, with the program as ./ee_cli. After a command with an option `--port` that is left running,
+nothing is done until something listens there. A block whose lines begin with `>>> ` is a session of
+Python. A text in a line as `./ee_cli WORDS` prints `TEXT` is run too.
 
-A block behind a comment `<!-- not run: REASON -->` isn't run; one behind `<!-- quoted from FILE -->` has
-to stand in that file. Before a block behind `<!-- goes on from FILE -->` the commands of that document
-are run in the same shell."""
+A block behind a comment `<!-- not run: REASON -->` isn't run; one behind `<!-- quoted from FILE
+-->` has to stand in that file. Before a block behind `<!-- goes on from FILE -->` the commands
+of that document are run in the same shell."""
 
 from __future__ import annotations
 
@@ -44,7 +44,8 @@ LIBRARY = Path(os.environ.get("EE_VALUE_LIBRARY", TOP / "clients/value/out/libee
 
 @dataclass
 class Block:
-    """What stands between two lines of three backticks, with the kind and the words of the comment before it."""
+    """What stands between two lines of three backticks, with the kind and the words of the
+    comment before it."""
 
     line: int
     lines: list[str]
@@ -132,7 +133,8 @@ def has_networks() -> bool:
 
 
 class Shell:
-    """A bash in a folder, which is given one command after another, in a network of its own if that can be had."""
+    """A bash in a folder, which is given one command after another, in a network of its own if
+    that can be had."""
 
     def __init__(self, folder: Path) -> None:
         words = ["bash", "--noprofile", "--norc"]

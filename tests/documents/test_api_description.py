@@ -1,8 +1,8 @@
 """The program answers as docs/openapi.json describes it, byte for byte.
 
-The schemas are right, every example is one of its schema, and every code has an example or says why there
-is none. The examples are sent in their order (`x-step`) to a store, and the status, the headers and every
-byte of the body compared."""
+The schemas are right, every example is one of its schema, and every code has an example or says
+why there is none. The examples are sent in their order (`x-step`) to a store, and the status,
+the headers and every byte of the body compared."""
 
 from __future__ import annotations
 
@@ -233,7 +233,8 @@ def fill_a_day(server: Server) -> None:
 
 
 def without_memory(program: Path, store: Path, step: Step) -> bytes:
-    """The answer of a process whose memory ends while it reads what the message asks for, which is tried."""
+    """The answer of a process whose memory ends while it reads what the message asks for, which
+    is tried."""
     for more in range(0, 64 << 20, 256 << 10):
         server = Server(program, store)
         server.connect().close()

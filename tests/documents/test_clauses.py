@@ -1,7 +1,7 @@
 """`.ci/clauses` finds every clause, definition and constant that changed, and nothing else.
 
-The changes and what is said of them are in clauses.toml: status 1 for a contract that may be weaker, 0
-for comments, spaces, bodies and added `ensures`, 2 for what can't be read."""
+The changes and what is said of them are in clauses.toml: status 1 for a contract that may be
+weaker, 0 for comments, spaces, bodies and added `ensures`, 2 for what can't be read."""
 
 from __future__ import annotations
 
@@ -68,7 +68,8 @@ def test_edit(top: Path, edit: dict[str, Any]) -> None:
 
 
 def test_moves(top: Path) -> None:
-    """Files that are moved to another crate with their definitions change nothing; a clause on the way does."""
+    """Files that are moved to another crate with their definitions change nothing; a clause on
+    the way does."""
     for old, new in MOVED.items():
         git(top, "mv", f"crates/{old}", f"crates/{new}")
     for file in (top / "crates").glob("*/specs/*.antt"):

@@ -1,4 +1,5 @@
-"""The commands of the documents print what is written, and links, headings and named files are there."""
+"""The commands of the documents print what is written, and links, headings and named files are
+there."""
 
 from __future__ import annotations
 

@@ -1,7 +1,8 @@
 """`.ci/cost` gives every part of the gate and every crate its own processor time.
 
-A stub in the place of rt starts processes with the words and folders of rt's checks, each of which takes
-a known time of the processor. The tables are put between the marks of a page, and of nothing else."""
+A stub in the place of rt starts processes with the words and folders of rt's checks, each of
+which takes a known time of the processor. The tables are put between the marks of a page, and of
+nothing else."""
 
 from __future__ import annotations
 
@@ -14,7 +15,8 @@ import pytest
 
 from tests.conftest import TOP
 
-#: Starts processes, one after another: SECONDS FOLDER WORDS .. of each. A process works for its seconds, and stays a while to be seen.
+#: Starts processes, one after another: SECONDS FOLDER WORDS .. of each. A process works for its
+#: seconds, and stays a while to be seen.
 STUB = """
 import os, subprocess, sys
 WORK = "import sys, time\\nwhile time.process_time() < float(sys.argv[1]): pass\\ntime.sleep(1)"
@@ -107,7 +109,8 @@ def test_parts(gate: Gate) -> None:
 
 
 def test_tests_of_the_program(gate: Gate) -> None:
-    """What .ci/tests starts belongs to the tests. Without a check the status is 2, and the page is as it was."""
+    """What .ci/tests starts belongs to the tests. Without a check the status is 2, and the page
+    is as it was."""
     status, said = gate.cost(FIRST, name=".ci/tests")
     assert status == 2 and "the tests over the built program" in said and not cells_of(said, "one ")
     assert gate.page.read_text() == PAGE

@@ -1,8 +1,9 @@
-"""`./ee_cli` proves, builds and answers, through stops and faults, over a toolchain that proves nothing.
+"""`./ee_cli` proves, builds and answers, through stops and faults, over a toolchain that proves
+nothing.
 
-A case has a folder of its own, with `ee_cli`, crates.txt, a source in every crate, and a command `rt` that
-writes down how it is called and makes what the real one makes: libraries, and programs that print their
-words. If it is held, it waits in its first crate until the case lets it go."""
+A case has a folder of its own, with `ee_cli`, crates.txt, a source in every crate, and a command
+`rt` that writes down how it is called and makes what the real one makes: libraries, and programs
+that print their words. If it is held, it waits in its first crate until the case lets it go."""
 
 from __future__ import annotations
 
@@ -152,7 +153,8 @@ def test_without_the_toolchain(case: Case) -> None:
 
 
 def test_value_first(case: Case) -> None:
-    """A value comes from the small program; any other line waits for the whole one, which then has values too."""
+    """A value comes from the small program; any other line waits for the whole one, which then
+    has values too."""
     status, out, err = case.call(VALUE)
     assert (status, out) == answer(SMALL, VALUE), err
     calls = case.calls()
@@ -183,7 +185,8 @@ def test_other_words_first(case: Case) -> None:
 
 
 def test_changed_sources(case: Case) -> None:
-    """A source that has changed is proved, also while it is proved; one that is written as it was isn't."""
+    """A source that has changed is proved, also while it is proved; one that is written as it
+    was isn't."""
     case.call("sheet")
     case.calls()
     time.sleep(0.1)
@@ -237,7 +240,8 @@ def test_stopped(case: Case, number: int, wanted: int) -> None:
 
 
 def test_calls_at_once(case: Case) -> None:
-    """Two of three calls say that they wait; all have their answers, and each crate is proved once."""
+    """Two of three calls say that they wait; all have their answers, and each crate is proved
+    once."""
     calls = [case.begin_held("sheet"), case.begin(VALUE), case.begin("sheet")]
     for call in calls[1:]:
         wait_until(lambda call=call: "waiting for it" in call.said(), "it says that it waits")  # type: ignore[misc]

@@ -1,4 +1,5 @@
-"""`./ee_cli` over a toolchain that proves nothing: what it notices, and what a usual call costs. first_call has the rest."""
+"""`./ee_cli` over a toolchain that proves nothing: what it notices, and what a usual call costs.
+first_call has the rest."""
 
 from __future__ import annotations
 
@@ -81,7 +82,8 @@ def test_a_usual_call_says_nothing(tree: Tree) -> None:
 
 @pytest.mark.needs("strace")
 def test_a_usual_call_starts_one_process(tree: Tree, folder: Path) -> None:
-    """bash, find, and the program, which is a script here. The toolchain, whose call takes long, isn't asked."""
+    """bash, find, and the program, which is a script here. The toolchain, whose call takes long,
+    isn't asked."""
 
     def programs() -> list[str]:
         trace = folder / "trace"
@@ -159,7 +161,8 @@ def test_through_a_link_and_from_another_folder(tree: Tree, folder: Path) -> Non
 
 @pytest.mark.root
 def test_another_user_may_run_it(tree: Tree) -> None:
-    """One who may not write beside the program: a source that is newer and the same is no reason to fail."""
+    """One who may not write beside the program: a source that is newer and the same is no reason
+    to fail."""
     subprocess.run(["chmod", "-R", "a+rX", str(tree.top), str(tree.kit)], check=True)
     (tree.top / "crates/ee_cli/src/lib.rt").touch()
     done = tree.run("setpriv", "--reuid=65534", "--clear-groups")

@@ -34,7 +34,8 @@ ROOMS = (
 
 
 def prose_of(name: str, text: str) -> str:
-    """The sentences of a file: all of a document, and the comments of code. A line break is a space."""
+    """The sentences of a file: all of a document, and the comments of code. A line break is a
+    space."""
     ending = os.path.splitext(name)[1]
     if ending not in PROSE:
         found = re.findall(

@@ -1,4 +1,5 @@
-"""The scenes over which calls fail: stores in every state that a file can be in, and the commands that meet them."""
+"""The scenes over which calls fail: stores in every state that a file can be in, and the
+commands that meet them."""
 
 from __future__ import annotations
 

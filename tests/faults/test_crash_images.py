@@ -1,14 +1,16 @@
 """What a crash may leave of a store at every point between two calls opens rightly.
 
 Every write, change of length and sync of the two files is recorded while a new store is made and a
-day worked in it, while a store is opened whose log was not written back, and while stores of version
-1 are migrated. Of every point there are images in which the unsynced steps are lost, kept, or torn
-(tests/shared/hostile/disk.py). Those in which all is lost or kept are tried always, and IMAGES others
-by chance, 100 if it isn't set; and some images are opened by a run that is recorded in its turn.
+day worked in it, while a store is opened whose log was not written back, and while stores of
+version 1 are migrated. Of every point there are images in which the unsynced steps are lost, kept,
+or torn (tests/shared/hostile/disk.py). Those in which all is lost or kept are tried always, and
+IMAGES others by chance, 100 if it isn't set; and some images are opened by a run that is recorded
+in its turn.
 
-An image is right if the program shows the books after just those requests that were answered before
-the point, or after one more; if the same requests then have their one reply each, byte for byte; and
-if the rows are those of the day. An answered number is also given to another act, which is refused."""
+An image is right if the program shows the books after just those requests that were answered
+before the point, or after one more; if the same requests then have their one reply each, byte
+for byte; and if the rows are those of the day. An answered number is also given to another act,
+which is refused."""
 
 from __future__ import annotations
 
@@ -69,7 +71,8 @@ class Run:
             yield at, device, answers_in(said)
 
     def images(self, dice: random.Random, most: int) -> Iterator[tuple[disk.Image, int]]:
-        """Images, and how many answers were said: those that are always tried, and others by chance."""
+        """Images, and how many answers were said: those that are always tried, and others by
+        chance."""
         more: list[tuple[disk.Image, int]] = []
         for _, device, answered in self.points():
             sure, others = device.images(dice)
@@ -115,7 +118,8 @@ def clashes(messages: list[framing.Message]) -> bytes:
 
 
 def try_image(run: Run, image: disk.Image, answered: int, by_clashes: bool) -> None:
-    """The next command shows books that may stand, and refuses other acts; then the stream again."""
+    """The next command shows books that may stand, and refuses other acts; then the stream
+    again."""
     path = run.program.place(f"image{os.getpid()}")
     lay(path, image)
     many = judging.distinct(run.allowed(answered))

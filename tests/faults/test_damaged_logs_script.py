@@ -1,4 +1,5 @@
-"""The script `damaged_logs`, until its cases are tests of pytest: a damaged log is refused, and what a stop leaves is opened."""
+"""The script `damaged_logs`, until its cases are tests of pytest: a damaged log is refused, and
+what a stop leaves is opened."""
 
 from __future__ import annotations
 

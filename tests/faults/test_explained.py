@@ -1,8 +1,9 @@
-"""What the program says after a wrong use: explained.toml and uses.py have the texts, written by hand.
+"""What the program says after a wrong use: explained.toml and uses.py have the texts, written by
+hand.
 
-Without --explain a line says its first line alone. With it a second one says where the fault arose,
-why, and what to do (docs/STATUSES.md); status and output stay the same. clap's own texts have more
-lines anyway. A wrong message is answered, with nothing on standard error."""
+Without --explain a line says its first line alone. With it a second one says where the fault
+arose, why, and what to do (docs/STATUSES.md); status and output stay the same. clap's own texts
+have more lines anyway. A wrong message is answered, with nothing on standard error."""
 
 from __future__ import annotations
 

@@ -1,9 +1,10 @@
 """Five commands in a row, each killed at every call on the files of a store and sent again.
 
-The commands import rates and bonds, open a day and redeem, export, and close the day. One of them is
-killed as it enters one call on the store or its log, or a write of its answer; then the same line is
-run again, and the later ones after it. What it had printed begins what it prints without a kill; what
-is printed after it, and at last every row, is that of a run without kills. EVERY names the step."""
+The commands import rates and bonds, open a day and redeem, export, and close the day. One of
+them is killed as it enters one call on the store or its log, or a write of its answer; then the
+same line is run again, and the later ones after it. What it had printed begins what it prints
+without a kill; what is printed after it, and at last every row, is that of a run without kills.
+EVERY names the step."""
 
 from __future__ import annotations
 

@@ -1,7 +1,8 @@
 """New stores are SQLite's, earlier ones keep their pages, and files that are no stores are refused.
 
-On a full disk a command is done, or refused and leaves what opens on a disk with room. A crash at each
-call while a file is created is tested by test_crash_images and by `a_stop_at_each_call` of store_tests."""
+On a full disk a command is done, or refused and leaves what opens on a disk with room. A crash
+at each call while a file is created is tested by test_crash_images and by `a_stop_at_each_call`
+of store_tests."""
 
 from __future__ import annotations
 

@@ -1,10 +1,11 @@
-"""Losses of power under a load, on the file systems of this machine's kernel: what each leaves opens.
+"""Losses of power under a load, on the file systems of this machine's kernel: what each leaves
+opens.
 
-The first command meets no store. Then requests are sent one after another to `apply`, which ends, and
-to `serve`, which is killed, in turn, while another program writes to the same file system and syncs.
-The disk, a file in memory, is served by FUSE, which records its writes and flushes in order. So this
-tests the program with a machine's kernel and file system, not whether its own disk keeps what it was
-told to flush.
+The first command meets no store. Then requests are sent one after another to `apply`, which ends,
+and to `serve`, which is killed, in turn, while another program writes to the same file system and
+syncs. The disk, a file in memory, is served by FUSE, which records its writes and flushes in order.
+So this tests the program with a machine's kernel and file system, not whether its own disk keeps
+what it was told to flush.
 
 An image is what the disk may hold if power is lost at some place of the record: it has all writes
 before the last flush, and later ones are lost, kept, reordered or torn into sectors. For each fifth
@@ -12,9 +13,9 @@ image power is lost again while it is mounted and opened. It is right if the nex
 books after the first K requests, K being at least all acknowledged ones and at most those that were
 sent; and if all requests, sent again, get the responses of the undisturbed load byte for byte.
 
-IMAGES names how many are tried of each file system, REQUESTS how many are sent, and OPTIONS those of
-`mount`. ext4 and btrfs suppose that the disk doesn't tear their superblock; with TORN=1 it is torn too,
-and what isn't mounted is repaired first."""
+IMAGES names how many are tried of each file system, REQUESTS how many are sent, and OPTIONS
+those of `mount`. ext4 and btrfs suppose that the disk doesn't tear their superblock; with TORN=1
+it is torn too, and what isn't mounted is repaired first."""
 
 from __future__ import annotations
 
@@ -87,7 +88,8 @@ class Case:
         self.superblocks = found if TORN else []
 
     def cut(self) -> int:
-        """A place anywhere, after a response, while the store is created, or after a torn superblock."""
+        """A place anywhere, after a response, while the store is created, or after a torn
+        superblock."""
         turn = self.dice.random()
         if self.superblocks and self.dice.random() < 0.3:
             return self.dice.choice(self.superblocks)
@@ -138,7 +140,8 @@ class Case:
         judging.shows_books([last], self.rows(), "after the same requests again")
 
     def lose_again(self, image: str, keys: set[str], acknowledged: int) -> tuple[str, set[str]]:
-        """Power is lost while an image is mounted and opened. Once a command has shown books, just those may stand."""
+        """Power is lost while an image is mounted and opened. Once a command has shown books,
+        just those may stand."""
         volumes.copy(image, image + ".served")
         disk = recorder.Recorder(self.folder, image + ".served")
         try:
@@ -180,7 +183,8 @@ def case(request: pytest.FixtureRequest, program: Path, dice: Random) -> Iterato
 
 
 def own_mounts() -> None:
-    """A namespace of mounts of its own: nobody else's keeps a file system that was unmounted here."""
+    """A namespace of mounts of its own: nobody else's keeps a file system that was unmounted
+    here."""
     libc = ctypes.CDLL(None, use_errno=True)
     new_namespace, private = 0x20000, 0x4000 | 0x40000
     assert libc.unshare(new_namespace) == 0 and libc.mount(None, b"/", None, private, None) == 0

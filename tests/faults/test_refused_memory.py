@@ -66,7 +66,8 @@ def asked_of(program: Program, scene: Scene) -> int:
 def test_program(
     hostile: Program, scenes: dict[str, Scene], name: str, dice: random.Random
 ) -> None:
-    """One request is refused, or all from one on, or a pair; and one more than there are, which none meets."""
+    """One request is refused, or all from one on, or a pair; and one more than there are, which
+    none meets."""
     scene, asked = scenes[name], asked_of(hostile, scenes[name])
     chosen = sorted(dice.sample(range(1, asked + 1), min(asked, 4 * CHOSEN)))
     assert all(meets(hostile, scene, f"{at} 1", 1) for at in chosen)

@@ -1,7 +1,8 @@
-"""The least stack with which every command does its work: large bodies, deep JSON, long lists, many bonds.
+"""The least stack with which every command does its work: large bodies, deep JSON, long lists, many
+bonds.
 
-What is said with 8,192 KiB is what the rules give, and half of that is enough. TABLE=1 measures the
-least stack of each, in KiB, for benchmarks/README.md."""
+What is said with 8,192 KiB is what the rules give, and half of that is enough. TABLE=1 measures
+the least stack of each, in KiB, for benchmarks/README.md."""
 
 from __future__ import annotations
 
@@ -192,7 +193,8 @@ def test_words(hostile: Program) -> None:
 
 
 def test_large_stores(hostile: Program) -> None:
-    """A store of version 1 with many bonds and replies, which is migrated, and the same afterwards."""
+    """A store of version 1 with many bonds and replies, which is migrated, and the same
+    afterwards."""
     first, second = hostile.place("first"), hostile.place("second")
     make_version_one(first, BONDS, REPLIES)
     store.copy(first, second)

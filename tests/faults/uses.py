@@ -1,4 +1,5 @@
-"""Wrong uses that need something in their folder: paths, stores, ports, streams and disks; and how a use is tried."""
+"""Wrong uses that need something in their folder: paths, stores, ports, streams and disks; and
+how a use is tried."""
 
 from __future__ import annotations
 
@@ -38,7 +39,8 @@ class Ran:
 
 @dataclass
 class Streams:
-    """What a line's standard input and output are: bytes or a descriptor, and a descriptor, or none."""
+    """What a line's standard input and output are: bytes or a descriptor, and a descriptor, or
+    none."""
 
     given: bytes | int = b""
     output: int = subprocess.PIPE

@@ -1,4 +1,5 @@
-"""The checksums of a store's pages, as SQLite's extension cksumvfs computes them: a store that was changed by hand gets right ones again."""
+"""The checksums of a store's pages, as SQLite's extension cksumvfs computes them: a store that
+was changed by hand gets right ones again."""
 from __future__ import annotations
 
 import struct

@@ -172,7 +172,8 @@ def connected(place: int | str, patience: float) -> Iterator[socket.socket]:
 
 
 def ask(place: int | str, message: bytes, patience: float = 60) -> Answer | None:
-    """The answer to one message on a connection of its own to a port or a Unix socket; None if none came."""
+    """The answer to one message on a connection of its own to a port or a Unix socket; None if
+    none came."""
     try:
         with connected(place, patience) as client:
             client.sendall(message)
@@ -254,13 +255,15 @@ def split_answers(text: bytes) -> list[Answer]:
 
 
 def rows(store: str | Path, statement: str) -> list[tuple[Any, ...]]:
-    """What SQLite reads. The file is closed at once: while another process has it open, the program doesn't open it."""
+    """What SQLite reads. The file is closed at once: while another process has it open, the
+    program doesn't open it."""
     with contextlib.closing(sqlite3.connect(store)) as books:
         return books.execute(statement).fetchall()
 
 
 def day_text(turn: int) -> str:
-    """The day of the turn of this number: a day has so many turns. All are in February 2012 while there are at most 24."""
+    """The day of the turn of this number: a day has so many turns. All are in February 2012
+    while there are at most 24."""
     year, month, day = FIRST_DAY
     return f"{year}-{month:02}-{day + turn // DAY_TICKETS:02}"
 
@@ -287,9 +290,10 @@ def beginning(bonds: int) -> list[bytes]:
 
 
 class Load:
-    """Clients that redeem one bond after another, each at a desk of its own, and send each request again until it has its reply. What was acknowledged is kept, with the time when its reply
-    had come. Turn T is the redemption of bond T. The day is closed and the next opened after so many turns, while no redemption is under way.
-    """
+    """Clients that redeem one bond after another, each at a desk of its own, and send each
+    request again until it has its reply. What was acknowledged is kept, with the time when its
+    reply had come. Turn T is the redemption of bond T. The day is closed and the next opened
+    after so many turns, while no redemption is under way."""
 
     def __init__(self, ask_now: Callable[[bytes], Answer | None], bonds: int, clients: int) -> None:
         self.ask_now, self.bonds, self.clients = ask_now, bonds, clients
@@ -344,7 +348,8 @@ class Load:
                 self.lock.notify_all()
 
     def take_turn(self) -> int | None:
-        """The next turn; None where there is none. Who takes the first turn of a day changes the day, while the others wait."""
+        """The next turn; None where there is none. Who takes the first turn of a day changes the
+        day, while the others wait."""
         with self.lock:
             self.lock.wait_for(lambda: not self.is_changing or self.wrong)
             turn = self.turn
@@ -396,7 +401,8 @@ class Load:
 
 
 def fault_of(name: Name, reply: str) -> str | None:
-    """What is wrong with a reply by the rules; None where it is right, whatever its ticket's number is."""
+    """What is wrong with a reply by the rules; None where it is right, whatever its ticket's
+    number is."""
     kind, turn = name
     if kind == "open":
         wanted = '{"opened":"%s"}' % day_text(turn)
@@ -431,7 +437,8 @@ def batch_of(day: int, turns: int) -> str:
 
 
 def fault_of_books(store: str | Path, replies: dict[Name, str]) -> str | None:
-    """Whether the books that SQLite reads have just these tickets, one for each bond; None where they do."""
+    """Whether the books that SQLite reads have just these tickets, one for each bond; None where
+    they do."""
     paid = {name[1]: reply for name, reply in replies.items() if name[0] == "redeem"}
     told = sorted(
         (int(matched(r'"ticket":(\d+)', reply)[1]), turn + 1) for turn, reply in paid.items()

@@ -1,5 +1,6 @@
-"""What the library is to answer, by whole-number arithmetic of the tests' own: the rule of rounding by sixth powers, the chain of half-years, the
-calculator's notes. It shares nothing with the library."""
+"""What the library is to answer, by whole-number arithmetic of the tests' own: the rule of
+rounding by sixth powers, the chain of half-years, the calculator's notes. It shares nothing with
+the library."""
 from __future__ import annotations
 
 
@@ -80,7 +81,8 @@ def refusal(dollars: int, issued: int, month: int, rate: int, extension: int) ->
 
 
 def row(dollars: int, issued: int, month: int, rate: int, extension: int) -> Row:
-    """Return the fields of the row: what is payable, price, interest, value, status, note, next accrual and final maturity."""
+    """Return the fields of the row: what is payable, price, interest, value, status, note, next
+    accrual and final maturity."""
     status = refusal(dollars, issued, month, rate, extension)
     if status:
         return (0, 0, 0, 0, status, 0, 0, 0)

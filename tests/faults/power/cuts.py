@@ -1,4 +1,5 @@
-"""What a disk may hold after a power loss: all writes before the last flush, and of the later ones any, in any order, and of each any sectors."""
+"""What a disk may hold after a power loss: all writes before the last flush, and of the later
+ones any, in any order, and of each any sectors."""
 
 from __future__ import annotations
 
@@ -27,7 +28,8 @@ def next_flush(steps: list[Step], cut: int) -> int:
 
 
 def superblock_writes(base: str, steps: list[Step], begin: int, end: int) -> list[int]:
-    """The places after each write of the superblock that changes more than one of its sectors, so that a tear may break it."""
+    """The places after each write of the superblock that changes more than one of its sectors,
+    so that a tear may break it."""
     with open(base, "rb") as file:
         file.seek(begin)
         last = file.read(end - begin)
@@ -57,7 +59,8 @@ def units(step: Step, whole: Range) -> Iterator[Range]:
 
 
 class Image:
-    """A file that gets what a disk holds, and a checksum of which steps it got. What lies in the range `whole` isn't torn."""
+    """A file that gets what a disk holds, and a checksum of which steps it got. What lies in the
+    range `whole` isn't torn."""
 
     def __init__(self, base: str, path: str, whole: Range) -> None:
         volumes.copy(base, path)
@@ -116,7 +119,8 @@ def write_image(
     whole: Range,
     ignores_flushes: bool = False,
 ) -> int:
-    """Write what the disk may hold if power is lost before the step at a cut. The result tells images apart."""
+    """Write what the disk may hold if power is lost before the step at a cut. The result tells
+    images apart."""
     image = Image(base, path, whole)
     sure = 0 if ignores_flushes else last_flush(steps, cut)
     try:

@@ -1,4 +1,5 @@
-"""The load: requests of some days at the counter, sent one after the other, and how much of the disk was recorded when each was sent and answered."""
+"""The load: requests of some days at the counter, sent one after the other, and how much of the
+disk was recorded when each was sent and answered."""
 
 from __future__ import annotations
 
@@ -51,7 +52,8 @@ def bond(number: int, dice: Random) -> str:
 
 
 def redemption(number: int, day: str, dice: Random) -> str:
-    """A redemption of one to three bonds. Some are refused, since a bond was paid already or has another owner."""
+    """A redemption of one to three bonds. Some are refused, since a bond was paid already or has
+    another owner."""
     serials = dice.sample(range(1, BONDS + 1), dice.choice((1, 1, 1, 2, 3)))
     listed = ",".join(f'"{serial(one)}"' for one in serials)
     return '/redeem {"desk":%d,"number":%d,"day":"%s","payee":%d,"serials":[%s]}' % (
@@ -85,7 +87,8 @@ def requests(count: int, dice: Random) -> list[bytes]:
 
 
 def drop_syncs() -> None:
-    """Let fsync and fdatasync of this process do nothing and return 0, by a filter of its system calls."""
+    """Let fsync and fdatasync of this process do nothing and return 0, by a filter of its system
+    calls."""
     mark, *numbers = SYNCS[platform.machine()]
     words = [
         (LOAD, 0, 0, 4),
@@ -201,7 +204,8 @@ class Neighbour:
 
 
 class Played:
-    """The requests and their responses, how much was recorded when each was sent and when its response had come, and the books after each by the rules."""
+    """The requests and their responses, how much was recorded when each was sent and when its
+    response had come, and the books after each by the rules."""
 
     def __init__(
         self, messages: list[bytes], answers: list[bytes], sent: list[int], came: list[int]
@@ -224,7 +228,8 @@ class Played:
         return sum(place <= cut for place in self.came)
 
     def allowed(self, cut: int) -> set[str]:
-        """The books that may stand at a cut: all acknowledged requests are in them, and none that wasn't sent."""
+        """The books that may stand at a cut: all acknowledged requests are in them, and none
+        that wasn't sent."""
         acknowledged, sent = self.acknowledged(cut), sum(place < cut for place in self.sent)
         return set(self.chain[acknowledged : max(acknowledged, sent) + 1])
 

@@ -23,7 +23,8 @@ MAKERS = {
     "xfs": (320, ["mkfs.xfs", "-q", "-f", "-K"]),
     "btrfs": (256, ["mkfs.btrfs", "-q", "-f", "-K"]),
 }
-# The superblock, which a file system supposes to arrive whole, as a range of bytes. That of xfs is one sector.
+# The superblock, which a file system supposes to arrive whole, as a range of bytes. That of xfs is
+# one sector.
 SUPERBLOCKS = {"ext4": (0, 4096), "xfs": (0, 512), "btrfs": (65536, 69632)}
 # What repairs a file system whose superblock was torn.
 REPAIRS = {
@@ -101,7 +102,8 @@ def punch(file: int, at: int, size: int) -> None:
 
 
 def patiently(*words: str) -> str:
-    """Repeat a command until it succeeds: a probe of new devices may have them open for a moment."""
+    """Repeat a command until it succeeds: a probe of new devices may have them open for a
+    moment."""
     until = time.time() + SECONDS
     while (ended := command(*words))[0]:
         if time.time() > until:
@@ -111,7 +113,8 @@ def patiently(*words: str) -> str:
 
 
 class Mounted:
-    """An image that is mounted over a loop device, for a `with`. If the kernel refuses it, it is repaired first."""
+    """An image that is mounted over a loop device, for a `with`. If the kernel refuses it, it is
+    repaired first."""
 
     def __init__(self, kind: str, image: str, folder: str, options: str) -> None:
         self.kind, self.image, self.folder = kind, image, folder
@@ -139,7 +142,8 @@ class Mounted:
         self.detach()
 
     def detach(self) -> None:
-        """Detach the loop device. btrfs remembers a device by the file system's name, and would refuse an older image of it elsewhere."""
+        """Detach the loop device. btrfs remembers a device by the file system's name, and would
+        refuse an older image of it elsewhere."""
         if self.kind == "btrfs":
             command("btrfs", "device", "scan", "--forget", self.device)
         patiently("losetup", "--detach", self.device)

@@ -1,4 +1,5 @@
-"""Commands over a store, and whether what one told is right: a connection by `apply` or `serve`, an import, an export, a sheet."""
+"""Commands over a store, and whether what one told is right: a connection by `apply` or `serve`,
+an import, an export, a sheet."""
 from __future__ import annotations
 
 import subprocess

@@ -1,4 +1,5 @@
-"""What a message asks for, or its first fault, by the rules of docs/FORMATS.md, 'Requests': the route, the method, the body field by field."""
+"""What a message asks for, or its first fault, by the rules of docs/FORMATS.md, 'Requests': the
+route, the method, the body field by field."""
 from __future__ import annotations
 
 import re
@@ -154,7 +155,8 @@ def asked(name: str, parts: Sequence[str]) -> tuple[Any, ...]:
 
 
 def call(message: framing.Message) -> tuple[Any, ...]:
-    """Of a request ("act", its desk and number, the act); of a query its name and parts. A Fault is raised where it asks for neither."""
+    """Of a request ("act", its desk and number, the act); of a query its name and parts. A Fault
+    is raised where it asks for neither."""
     path = message.target.decode("utf-8")
     if path in POSTS:
         if message.method != b"POST":

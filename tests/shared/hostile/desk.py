@@ -1,5 +1,6 @@
-"""The desk by its rules (docs/MODEL.md, docs/STATUSES.md): books, acts, replies, queries, and the rows that a store then has. Values are those of
-tests/shared/exact.py. It shares nothing with the program."""
+"""The desk by its rules (docs/MODEL.md, docs/STATUSES.md): books, acts, replies, queries, and
+the rows that a store then has. Values are those of tests/shared/exact.py. It shares nothing with
+the program."""
 from __future__ import annotations
 
 import copy

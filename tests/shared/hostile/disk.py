@@ -1,8 +1,10 @@
-"""The model of a disk: what a crash may leave of two files, from the record of what was written to them, cut and synced.
+"""The model of a disk: what a crash may leave of two files, from the record of what was written to
+them, cut and synced.
 
-After a crash each byte below the last synced length is the old one or one that was written since; synced bytes are kept; past the last synced length
-there may be anything; and the length is between the synced one and those that were reached since. The two files are independent of one another. A file that was
-made is there for sure once its folder was synced."""
+After a crash each byte below the last synced length is the old one or one that was written
+since; synced bytes are kept; past the last synced length there may be anything; and the length
+is between the synced one and those that were reached since. The two files are independent of one
+another. A file that was made is there for sure once its folder was synced."""
 from __future__ import annotations
 
 import dataclasses
@@ -96,7 +98,8 @@ class File:
         return self.shown
 
     def outcome(self, takes: Iterable[Take]) -> bytes:
-        """The content where each step since the sync is taken so: a function that changes a content by a step."""
+        """The content where each step since the sync is taken so: a function that changes a
+        content by a step."""
         content = bytearray(self.synced or b"")
         for step, take in zip(self.steps, takes):
             take(content, step)
@@ -128,7 +131,8 @@ def mixed(dice: random.Random, old: bytes | bytearray, new: bytes, unit: int) ->
 
 
 def torn_mixed(dice: random.Random, unit: int) -> Take:
-    """Of each unit of bytes of a write, old or new is there; where the file ended before, zeros may be."""
+    """Of each unit of bytes of a write, old or new is there; where the file ended before, zeros
+    may be."""
 
     def take(content: bytearray, step: Step) -> None:
         length = len(content)
@@ -156,7 +160,8 @@ def torn_garbage(dice: random.Random, synced_length: int) -> Take:
 
 
 def subsets(count: int, most: int) -> Iterator[list[bool]]:
-    """Each choice of so many steps where there are at most `most`, and else of the last ones, with the earlier ones taken or not."""
+    """Each choice of so many steps where there are at most `most`, and else of the last ones,
+    with the earlier ones taken or not."""
     free = min(count, most)
     for mask in range(2**free):
         chosen = [bool(mask >> place & 1) for place in range(free)]
@@ -201,7 +206,8 @@ class Disk:
         return found
 
     def subset_images(self) -> Iterator[Image]:
-        """Each subset of the last few steps of each file, beside the other file with all or nothing."""
+        """Each subset of the last few steps of each file, beside the other file with all or
+        nothing."""
         for on, file in self.files.items():
             if not file.steps:
                 continue
@@ -229,7 +235,8 @@ class Disk:
         yield torn_garbage(dice, len(file.synced or b""))
 
     def torn_images(self, dice: random.Random) -> Iterator[Image]:
-        """The last step of each file torn, after all or some of the steps before it, beside the other file with all or nothing."""
+        """The last step of each file torn, after all or some of the steps before it, beside the
+        other file with all or nothing."""
         for on, file in self.files.items():
             if not file.steps:
                 continue

@@ -1,5 +1,7 @@
-"""JSON by RFC 8259, as strictly as docs/FORMATS.md wants it: UTF-8, arrays and objects at most 127 deep, no number beyond a float of 64 bits. A whole number
-that has neither sign, point nor exponent and fits 64 bits is an int, any other number None in a Number. Of a repeated key the last value stays."""
+"""JSON by RFC 8259, as strictly as docs/FORMATS.md wants it: UTF-8, arrays and objects at most
+127 deep, no number beyond a float of 64 bits. A whole number that has neither sign, point nor
+exponent and fits 64 bits is an int, any other number None in a Number. Of a repeated key the
+last value stays."""
 from __future__ import annotations
 
 import re

@@ -1,4 +1,5 @@
-"""Whether a run under faults is right: what it answered is followed by the desk's rules, with the books that may stand after each answer."""
+"""Whether a run under faults is right: what it answered is followed by the desk's rules, with
+the books that may stand after each answer."""
 from __future__ import annotations
 
 import dataclasses
@@ -17,7 +18,8 @@ class Wrong(AssertionError):
 
 @dataclasses.dataclass
 class Heard:
-    """What the answers of a run leave open: the books that may stand, how many messages were answered, and how many of these weren't served."""
+    """What the answers of a run leave open: the books that may stand, how many messages were
+    answered, and how many of these weren't served."""
 
     books: list[desk.Books]
     answered: int
@@ -57,7 +59,8 @@ def delivered(books: desk.Books, message: framing.Message) -> tuple[desk.Books, 
 def step(
     many: list[desk.Books], message: framing.Message, told: bytes, at: int
 ) -> tuple[list[desk.Books], int]:
-    """The books that may stand after the next answer, and its length: right at some of the books, or 503."""
+    """The books that may stand after the next answer, and its length: right at some of the
+    books, or 503."""
     found, length = [], 0
     for books in many:
         after, right = delivered(books, message)
@@ -70,7 +73,8 @@ def step(
 def unserved(
     many: list[desk.Books], message: framing.Message, told: bytes, at: int
 ) -> tuple[str | None, list[desk.Books], int]:
-    """The same where the next answer is a 503: which, and the books. A request that met a failed store may stand."""
+    """The same where the next answer is a 503: which, and the books. A request that met a failed
+    store may stand."""
     if told.startswith(counter.NO_MEMORY, at):
         return "no_memory", many, len(counter.NO_MEMORY)
     if told.startswith(counter.STORE_FAILED, at):
@@ -92,7 +96,8 @@ def is_front(many: list[desk.Books], message: framing.Message, rest: bytes) -> b
 
 
 def follow(many: Iterable[desk.Books], messages: list[framing.Message], told: bytes) -> Heard:
-    """Follow the answers to messages from the books that may stand. Answers may end early: then the next message may have been decided."""
+    """Follow the answers to messages from the books that may stand. Answers may end early: then
+    the next message may have been decided."""
     heard, at = Heard(list(many), 0), 0
     for message in messages:
         found, length = step(heard.books, message, told, at)

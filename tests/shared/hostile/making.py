@@ -1,4 +1,5 @@
-"""Random days at the counter: bodies that the books often take. What it makes knows nothing of what is right."""
+"""Random days at the counter: bodies that the books often take. What it makes knows nothing of
+what is right."""
 
 from __future__ import annotations
 

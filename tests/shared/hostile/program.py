@@ -1,4 +1,5 @@
-"""The built program under test, run with what shim.c does to it: faults of files, refused memory, a record of its writes."""
+"""The built program under test, run with what shim.c does to it: faults of files, refused
+memory, a record of its writes."""
 
 from __future__ import annotations
 
@@ -84,7 +85,8 @@ class Program:
         limit: Callable[[], None] | None = None,
         **hostile: Any,
     ) -> Ran:
-        """Run a command whose words are given, over a store, on an input; `limit` is called in the new process."""
+        """Run a command whose words are given, over a store, on an input; `limit` is called in
+        the new process."""
         counts = store + ".counts"
         if os.path.exists(counts):
             os.remove(counts)

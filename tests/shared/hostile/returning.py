@@ -1,4 +1,5 @@
-"""What is asked of a store after a run that met faults: the next command shows books that the run allows, and the same requests again have their one reply."""
+"""What is asked of a store after a run that met faults: the next command shows books that the
+run allows, and the same requests again have their one reply."""
 from __future__ import annotations
 
 import os
@@ -30,7 +31,8 @@ def come_back(
     is_at_rest: bool,
     forgets: bool = False,
 ) -> None:
-    """What the store has, and then the same requests again. One that isn't at rest is brought to it by another command; `forgets` loses the log before that."""
+    """What the store has, and then the same requests again. One that isn't at rest is brought to
+    it by another command; `forgets` loses the log before that."""
     if forgets and os.path.exists(store.log_of(path)):
         os.remove(store.log_of(path))
     if not is_at_rest:

@@ -1,4 +1,5 @@
-"""What the scripts run over: stores in the states that a file can be in, and the commands that meet them."""
+"""What the scripts run over: stores in the states that a file can be in, and the commands that
+meet them."""
 from __future__ import annotations
 
 import dataclasses
@@ -13,7 +14,8 @@ BONDS_FILE = b"serial,denom,issued,owner,coowner\nL1EE,50,2010-11,7,\nK-0002-EE,
 
 @dataclasses.dataclass
 class Scene:
-    """A store that is copied for each run (None: no file), the books that it holds, and a command."""
+    """A store that is copied for each run (None: no file), the books that it holds, and a
+    command."""
 
     name: str
     base: str | None
@@ -50,7 +52,8 @@ def written(program: Program, name: str, file: bytes) -> str:
 
 
 def connections(program: Program) -> list[Scene]:
-    """A connection over a new store, a store at rest, one with its log not written back, one of each kind of version 1, and one that is served."""
+    """A connection over a new store, a store at rest, one with its log not written back, one of
+    each kind of version 1, and one that is served."""
     days, earlier = talk.texts("BEGUN"), talk.texts("NAMED")
     day = talk.stream(days["DAY"])
     begun, start = talk.stream(days["BEGUN"]), judging.start([days["BEGUN"]])

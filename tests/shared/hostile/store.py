@@ -1,4 +1,5 @@
-"""Stores on disk: their rows, read by SQLite; and stores of version 1, made by the statements of that version."""
+"""Stores on disk: their rows, read by SQLite; and stores of version 1, made by the statements of
+that version."""
 from __future__ import annotations
 
 import os
@@ -44,7 +45,8 @@ def remove(store: str) -> None:
 
 
 def rows(store: str, with_log: bool = False) -> Rows:
-    """The rows of each table that is there, in order of key, read from a copy: of the one file, or of both."""
+    """The rows of each table that is there, in order of key, read from a copy: of the one file,
+    or of both."""
     looked_at = store + ".looked"
     remove(looked_at)
     shutil.copyfile(store, looked_at)
@@ -90,7 +92,8 @@ def difference(found: Mapping[str, object], wanted: Mapping[str, object]) -> str
 
 
 def make_version_one(store: str, with_extensions: bool) -> None:
-    """The store of five requests (and of a sixth, which enters an extension), as a program from before desks made it."""
+    """The store of five requests (and of a sixth, which enters an extension), as a program from
+    before desks made it."""
     earlier = talk.texts("NAMED")
     remove(store)
     base = sqlite3.connect(store, isolation_level=None)

@@ -1,5 +1,5 @@
-"""Days at the counter that stand as transcripts in crates/store_tests, and those of earlier stores, with the answers that were
-worked by hand. Their little language is told in its talk.rt."""
+"""Days at the counter that stand as transcripts in crates/store_tests, and those of earlier
+stores, with the answers that were worked by hand. Their little language is told in its talk.rt."""
 from __future__ import annotations
 
 import os
@@ -31,7 +31,8 @@ def source_of(name: str) -> str:
 
 
 def texts(constant: str) -> dict[str, Any]:
-    """The constant texts of the source file that has this one, by name: a text, or a list of texts."""
+    """The constant texts of the source file that has this one, by name: a text, or a list of
+    texts."""
     text = source_of(constant)
     found = {}
     for name, listed, value in re.findall(
@@ -128,7 +129,8 @@ def stream(transcript: str) -> bytes:
 
 
 def imports(transcript: str) -> list[tuple[str, int, int, bytes, str]]:
-    """Of a transcript of imports, the kind, desk, number and bytes of each file, and what is told."""
+    """Of a transcript of imports, the kind, desk, number and bytes of each file, and what is
+    told."""
     found = []
     for does, told in blocks(transcript):
         if not does.startswith("+ "):
