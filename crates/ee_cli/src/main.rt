@@ -2,8 +2,8 @@
 #![tactic(auto)]
 
 use ee_cli_commands::read_help;
-use ee_cli_program::{Noting, REFUSED, Stores, refuse_words, run_words};
-use ee_cli_stores::{StoreFiles, Untold};
+use ee_cli_program::{Noting, REFUSED, refuse_words};
+use ee_cli_stores::{Untold, run_line};
 use std::io::{self, IsTerminal, Write};
 use std::process::ExitCode;
 
@@ -14,23 +14,19 @@ fn main(rt: HostRuntime) -> ExitCode {
     })
 }
 
-/// Runs the line of these words over stores in files, and gives its exit status.
+/// Runs the line of these words over stores in files, and gives its exit status. On a terminal faults are explained, and
+/// the answers of `apply`, which end without a line end, get one.
 fn run(rt: &HostRuntime, words: &[String]) -> u8 {
-    run_over(rt, &StoreFiles { rt, start: Untold }, words)
-}
-
-/// Runs the line over these stores. On a terminal faults are explained, and the answers of `apply`, which end without a
-/// line end, get one.
-fn run_over<O: Stores>(rt: &HostRuntime, stores: &O, words: &[String]) -> u8 {
-    let status = run_words(
+    let status = run_line(
         rt,
-        stores,
+        Untold,
         words,
         rt.stderr().is_terminal(),
         &mut Noting::new(rt.stdin()),
         &mut Noting::new(rt.stdout()),
         &mut rt.stderr(),
-    );
+    )
+    .status;
     if status <= REFUSED && answers_messages(words) && rt.stdout().is_terminal() {
         let _ended = writeln!(rt.stdout());
     }

@@ -47,17 +47,23 @@ nothing_bad words (inr version) (inr refused) = asks_for_version_alone words ver
 
 -- ---- the statuses
 
-at_three : (Carried : Result Outcome RunFault → Type 0) (status : ℕ) → status ≡ 3 → Ends Carried status
-at_three Carried status three = record {
+-- a command that failed; an unsettled value that couldn't be reported; or words to which memory was refused
+abbrev pub Fails : (Result Outcome RunFault → Type 0) → Type 0 → Type 0
+Fails Carried Unread = ((fault : RunFault) × Carried (Err fault)) ⊎ (((age : ℕ) × Carried (Ok (outcome.Unsettled age))) ⊎ Unread)
+
+at_three : (Carried : Result Outcome RunFault → Type 0) (Unread : Type 0) (status : ℕ) → Fails Carried Unread → status ≡ 3 → Ends Carried Unread status
+at_three Carried Unread status fails three = record {
   done = λ zero. absurd (omega (arith, three, zero));
   refused = λ one. absurd (omega (arith, three, one));
   is_good_line = λ two. absurd (omega (arith, three, two));
+  failed = λ _. fails;
 }
 
-pub is_failed : (words : List Text) (Carried : Asked → Result Outcome RunFault → Type 0) (status : ℕ) → status ≡ 3 → IsRun words Carried status
-is_failed words Carried status three = record {
+pub is_failed : (words : List Text) (Carried : Asked → Result Outcome RunFault → Type 0) (Unread : Type 0) (status : ℕ)
+    → ((asked : Asked) → IsAsked words (Ok asked) → Fails (Carried asked) Unread) → status ≡ 3 → IsRun words Carried Unread status
+is_failed words Carried Unread status fails three = record {
   range = omega (arith, three);
-  ends = λ asked is. at_three (Carried asked) status three;
+  ends = λ asked is. at_three (Carried asked) Unread status (fails asked is) three;
   shows = λ _. inr three;
   refuses_line = λ bad. inr three;
   done = λ zero. absurd (omega (arith, three, zero));
@@ -65,14 +71,15 @@ is_failed words Carried status three = record {
   bad_line = λ two. absurd (omega (arith, three, two));
 }
 
-is_done : (words : List Text) (Carried : Asked → Result Outcome RunFault → Type 0) (asked : Asked) (status : ℕ)
-    → IsAsked words (Ok asked) → Carried asked (Ok outcome.Done) → status ≡ 0 → IsRun words Carried status
-is_done words Carried asked status is w zero = record {
+is_done : (words : List Text) (Carried : Asked → Result Outcome RunFault → Type 0) (Unread : Type 0) (asked : Asked) (status : ℕ)
+    → IsAsked words (Ok asked) → Carried asked (Ok outcome.Done) → status ≡ 0 → IsRun words Carried Unread status
+is_done words Carried Unread asked status is w zero = record {
   range = omega (arith, zero);
   ends = λ other also. record {
     done = λ _. subst (λ (a : Asked). Carried a (Ok outcome.Done)) (one_command words asked other is also) w;
     refused = λ one. absurd (omega (arith, zero, one));
     is_good_line = λ two. absurd (omega (arith, zero, two));
+    failed = λ three. absurd (omega (arith, zero, three));
   };
   shows = λ _. inl zero;
   refuses_line = λ bad. absurd (nothing_asked words asked bad is);
@@ -85,14 +92,15 @@ is_done words Carried asked status is w zero = record {
 abbrev Refuses : (Result Outcome RunFault → Type 0) → Type 0
 Refuses Carried = Carried (Ok outcome.Refused) ⊎ ((age : ℕ) × Carried (Ok (outcome.Unsettled age)))
 
-is_refused : (words : List Text) (Carried : Asked → Result Outcome RunFault → Type 0) (asked : Asked) (status : ℕ)
-    → IsAsked words (Ok asked) → Refuses (Carried asked) → status ≡ 1 → IsRun words Carried status
-is_refused words Carried asked status is w one = record {
+is_refused : (words : List Text) (Carried : Asked → Result Outcome RunFault → Type 0) (Unread : Type 0) (asked : Asked) (status : ℕ)
+    → IsAsked words (Ok asked) → Refuses (Carried asked) → status ≡ 1 → IsRun words Carried Unread status
+is_refused words Carried Unread asked status is w one = record {
   range = omega (arith, one);
   ends = λ other also. record {
     done = λ zero. absurd (omega (arith, one, zero));
     refused = λ _. subst (λ (a : Asked). Refuses (Carried a)) (one_command words asked other is also) w;
     is_good_line = λ two. absurd (omega (arith, one, two));
+    failed = λ three. absurd (omega (arith, one, three));
   };
   shows = λ show. absurd (no_command words asked show is);
   refuses_line = λ bad. absurd (nothing_asked words asked bad is);
@@ -102,22 +110,24 @@ is_refused words Carried asked status is w one = record {
 }
 
 -- a command was carried out
-concluded : (words : List Text) (Carried : Asked → Result Outcome RunFault → Type 0) (asked : Asked) (ended : Outcome) (status : ℕ)
-    → IsAsked words (Ok asked) → Carried asked (Ok ended) → IsStatusFor ended status → IsRun words Carried status
-concluded words Carried asked outcome.Done status is w h = is_done words Carried asked status is w h
-concluded words Carried asked outcome.Refused status is w h = is_refused words Carried asked status is (inl w) h
-concluded words Carried asked (outcome.Unsettled age) status is w (inl one) = is_refused words Carried asked status is (inr (age, w)) one
-concluded words Carried asked (outcome.Unsettled age) status is w (inr three) = is_failed words Carried status three
+concluded : (words : List Text) (Carried : Asked → Result Outcome RunFault → Type 0) (Unread : Type 0) (asked : Asked) (ended : Outcome) (status : ℕ)
+    → IsAsked words (Ok asked) → Carried asked (Ok ended) → IsStatusFor ended status → IsRun words Carried Unread status
+concluded words Carried Unread asked outcome.Done status is w h = is_done words Carried Unread asked status is w h
+concluded words Carried Unread asked outcome.Refused status is w h = is_refused words Carried Unread asked status is (inl w) h
+concluded words Carried Unread asked (outcome.Unsettled age) status is w (inl one) = is_refused words Carried Unread asked status is (inr (age, w)) one
+concluded words Carried Unread asked (outcome.Unsettled age) status is w (inr three) =
+    is_failed words Carried Unread status (λ other also. inr (inl (age, subst (λ (a : Asked). Carried a (Ok (outcome.Unsettled age))) (one_command words asked other is also) w))) three
 
 -- a command was carried out, or failed
-pub settled : (words : List Text) (Carried : Asked → Result Outcome RunFault → Type 0) (asked : Asked) (ended : Result Outcome RunFault) (status : ℕ)
-    → IsAsked words (Ok asked) → Carried asked ended → IsStatusOf ended status → IsRun words Carried status
-settled words Carried asked (Ok ended) status is w h = concluded words Carried asked ended status is w h
-settled words Carried asked (Err cause) status is w h = is_failed words Carried status h
+pub settled : (words : List Text) (Carried : Asked → Result Outcome RunFault → Type 0) (Unread : Type 0) (asked : Asked) (ended : Result Outcome RunFault) (status : ℕ)
+    → IsAsked words (Ok asked) → Carried asked ended → IsStatusOf ended status → IsRun words Carried Unread status
+settled words Carried Unread asked (Ok ended) status is w h = concluded words Carried Unread asked ended status is w h
+settled words Carried Unread asked (Err cause) status is w h =
+    is_failed words Carried Unread status (λ other also. inl (cause, subst (λ (a : Asked). Carried a (Err cause)) (one_command words asked other is also) w)) h
 
 -- help or the version was asked for
-shown_at_zero : (words : List Text) (Carried : Asked → Result Outcome RunFault → Type 0) (status : ℕ) → AsksToShow words → status ≡ 0 → IsRun words Carried status
-shown_at_zero words Carried status show zero = record {
+shown_at_zero : (words : List Text) (Carried : Asked → Result Outcome RunFault → Type 0) (Unread : Type 0) (status : ℕ) → AsksToShow words → status ≡ 0 → IsRun words Carried Unread status
+shown_at_zero words Carried Unread status show zero = record {
   range = omega (arith, zero);
   ends = λ asked is. absurd (no_command words asked show is);
   shows = λ _. inl zero;
@@ -127,12 +137,12 @@ shown_at_zero words Carried status show zero = record {
   bad_line = λ two. absurd (omega (arith, zero, two));
 }
 
-pub shown : (words : List Text) (Carried : Asked → Result Outcome RunFault → Type 0) (status : ℕ) → AsksToShow words → (status ≡ 0) ⊎ (status ≡ 3) → IsRun words Carried status
-shown words Carried status show (inl zero) = shown_at_zero words Carried status show zero
-shown words Carried status show (inr three) = is_failed words Carried status three
+pub shown : (words : List Text) (Carried : Asked → Result Outcome RunFault → Type 0) (Unread : Type 0) (status : ℕ) → AsksToShow words → (status ≡ 0) ⊎ (status ≡ 3) → IsRun words Carried Unread status
+shown words Carried Unread status show (inl zero) = shown_at_zero words Carried Unread status show zero
+shown words Carried Unread status show (inr three) = is_failed words Carried Unread status (λ asked is. absurd (no_command words asked show is)) three
 
-bad_at_two : (words : List Text) (Carried : Asked → Result Outcome RunFault → Type 0) (status : ℕ) → IsBad words → status ≡ 2 → IsRun words Carried status
-bad_at_two words Carried status bad two = record {
+bad_at_two : (words : List Text) (Carried : Asked → Result Outcome RunFault → Type 0) (Unread : Type 0) (status : ℕ) → IsBad words → status ≡ 2 → IsRun words Carried Unread status
+bad_at_two words Carried Unread status bad two = record {
   range = omega (arith, two);
   ends = λ asked is. absurd (nothing_asked words asked bad is);
   shows = λ show. absurd (nothing_bad words show bad);
@@ -142,10 +152,10 @@ bad_at_two words Carried status bad two = record {
   bad_line = λ _. bad;
 }
 
-pub refused_line : (words : List Text) (Carried : Asked → Result Outcome RunFault → Type 0) (status : ℕ)
-    → ((name : Text) × IsAsked words (Err name)) ⊎ IsRefused words → (status ≡ 2) ⊎ (status ≡ 3) → IsRun words Carried status
-refused_line words Carried status bad (inl two) = bad_at_two words Carried status bad two
-refused_line words Carried status bad (inr three) = is_failed words Carried status three
+pub refused_line : (words : List Text) (Carried : Asked → Result Outcome RunFault → Type 0) (Unread : Type 0) (status : ℕ)
+    → ((name : Text) × IsAsked words (Err name)) ⊎ IsRefused words → (status ≡ 2) ⊎ (status ≡ 3) → IsRun words Carried Unread status
+refused_line words Carried Unread status bad (inl two) = bad_at_two words Carried Unread status bad two
+refused_line words Carried Unread status bad (inr three) = is_failed words Carried Unread status (λ asked is. absurd (nothing_asked words asked bad is)) three
 
 -- ---- the value's line
 
@@ -158,9 +168,9 @@ printed_where_done denom issued month rates old new (Ok (outcome.Unsettled age))
 printed_where_done denom issued month rates old new (Err cause) line is = absurd (cc)
 
 -- of a value that was asked for, status 0 says that its line was printed
-pub value_printed : (words : List Text) (old new : Option (List ℕ)) (status : ℕ) → IsRun words (Carries old new) status
+pub value_printed : (words : List Text) (old new : Option (List ℕ)) (Unread : Type 0) (status : ℕ) → IsRun words (Carries old new) Unread status
     → (denom : Denom) (issued month rate : ℕ) (extension : Option ℕ) → IsAsked words (Ok (value denom issued month rate extension)) → status ≡ 0
     → Appends old new (value_line denom issued month (rates_with rate extension))
-value_printed words old new status run denom issued month rate extension is zero =
+value_printed words old new Unread status run denom issued month rate extension is zero =
     let shown = (run.ends (value denom issued month rate extension) is).done zero in
     printed_where_done denom issued month (rates_with rate extension) old new shown.0 shown.1 shown.2

@@ -1,2 +1,2 @@
 pub mod Ended
-mod Opened
+pub mod Opened

@@ -4,6 +4,7 @@ use Rattle.clap.specs.Words.{Text}
 use Rattle.ee_units.specs.declared.denoms.Denom.{Denom}
 use Rattle.ee_value.specs.Chain.{rates_with}
 use Rattle.ee_value.specs.declared.rates.Rates.{Rates}
+use Rattle.ee_cli_value.specs.Statuses.{IsStatusOf}
 use Rattle.ee_cli_value.specs.Values.{PrintsValue}
 use Rattle.ee_cli_value.specs.declared.endings.Outcome.{Outcome}
 use Rattle.ee_cli_value.specs.declared.endings.Outcome.TheVariants as outcome
@@ -40,20 +41,31 @@ version_line = codes "ee_cli 1.1.0, store version 2" ++ 10 ∷ []
 abbrev pub AsksToShow : List Text → Type 0
 AsksToShow words = AsksForHelp words ⊎ AsksForVersion words
 
--- how a command ended, by its status: 0 done, 1 refused or unsettled, never 2; 3 says nothing
-pub record Ends (Carried : Result Outcome RunFault → Type 0) (status : ℕ) : Type 0 where
+-- How a command ended, by its status: 0 done, 1 refused or unsettled, never 2, 3 failed. Status 3 also means an unsettled value that
+-- couldn't be reported, or that memory was refused to the words (`Unread`).
+pub record Ends (Carried : Result Outcome RunFault → Type 0) (Unread : Type 0) (status : ℕ) : Type 0 where
   pub done : status ≡ 0 → Carried (Ok outcome.Done)
   pub refused : status ≡ 1 → Carried (Ok outcome.Refused) ⊎ ((age : ℕ) × Carried (Ok (outcome.Unsettled age)))
   pub is_good_line : status ≢ 2
+  pub failed : status ≡ 3 → ((fault : RunFault) × Carried (Err fault)) ⊎ (((age : ℕ) × Carried (Ok (outcome.Unsettled age))) ⊎ Unread)
 
 -- 0: the words ask for a command, which was done, or for help or the version; 1: for a command that was refused; 2: one of
--- them spells no value, or clap refuses them; 3: anything. `Carried` is what is known about a command that ended so: whichever
--- command the words ask for ended as the status says.
-pub record IsRun (words : List Text) (Carried : Asked → Result Outcome RunFault → Type 0) (status : ℕ) : Type 0 where
+-- them spells no value, or clap refuses them; 3: a command that failed, or something that couldn't be written or took memory.
+-- `Carried` is what is known about a command that ended so: whichever command the words ask for ended as the status says. `Unread`
+-- is what is known if memory was refused to the words.
+pub record IsRun (words : List Text) (Carried : Asked → Result Outcome RunFault → Type 0) (Unread : Type 0) (status : ℕ) : Type 0 where
   pub range : status ≤ 3
-  pub ends : (asked : Asked) → IsAsked words (Ok asked) → Ends (Carried asked) status
+  pub ends : (asked : Asked) → IsAsked words (Ok asked) → Ends (Carried asked) Unread status
   pub shows : AsksToShow words → (status ≡ 0) ⊎ (status ≡ 3)
   pub refuses_line : ((name : Text) × IsAsked words (Err name)) ⊎ IsRefused words → (status ≡ 2) ⊎ (status ≡ 3)
   pub done : status ≡ 0 → ((asked : Asked) × IsAsked words (Ok asked)) ⊎ AsksToShow words
   pub refused : status ≡ 1 → (asked : Asked) × IsAsked words (Ok asked)
   pub bad_line : status ≡ 2 → ((name : Text) × IsAsked words (Err name)) ⊎ IsRefused words
+
+-- the words ask for a command, which ended so, with this status
+pub record HasRun (words : List Text) (Ended : Asked → Result Outcome RunFault → Type 0) (status : ℕ) : Type 0 where
+  pub asked : Asked
+  pub is_asked : IsAsked words (Ok asked)
+  pub ended : Result Outcome RunFault
+  pub carried : Ended asked ended
+  pub has_status : IsStatusOf ended status

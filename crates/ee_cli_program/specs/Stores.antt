@@ -1,6 +1,6 @@
 -- What commands do over the stores that their lines name.
-use Rattle.std.specs.Prelude.{◌≡◌, ◌⊎◌, ◌+◌, ◌*◌, ◌^◌, ◌≤◌, ℕ, Bool, List, [], Option, None, Result, Err, OnOk, ⊤}
-use Rattle.std.specs.Result.{IsOk, IsErr}
+use Rattle.std.specs.Prelude.{◌≡◌, ◌⊎◌, ◌+◌, ◌*◌, ◌^◌, ◌≤◌, ℕ, Bool, List, [], Option, None, Result, Ok, Err, ⊤}
+use Rattle.std.specs.Result.{IsErr}
 use Rattle.clap.specs.Words.{Text}
 use Rattle.ee_desk_model.specs.Repeats.{Content}
 use Rattle.ee_desk_model.specs.declared.acts.Request.{Request}
@@ -15,6 +15,8 @@ use Rattle.ee_cli_value.specs.declared.endings.Outcome.{Outcome}
 use Rattle.ee_cli_actions.specs.declared.faults.RunFault.{RunFault}
 use Rattle.ee_cli_actions.specs.declared.faults.RunFault.TheVariants.{Store}
 use Rattle.ee_cli_actions.specs.declared.faults.StoreFault.TheVariants.{NotWrittenBack}
+use Rattle.ee_cli_program.specs.declared.stores.Left.{Left}
+use Rattle.ee_cli_program.specs.declared.stores.Left.TheVariants.{Given, Refused, AtRest, Unclosed}
 use Rattle.ee_cli_commands.specs.CommandLine.{Asked, value, apply, imports, export, sheet, serve}
 
 -- the command was carried out over the given store; or a file or a port was not opened, nothing was printed, and the store has
@@ -22,13 +24,22 @@ use Rattle.ee_cli_commands.specs.CommandLine.{Asked, value, apply, imports, expo
 abbrev pub Tries : Option (List ℕ) → Option (List ℕ) → Result Outcome RunFault → Type 0 → Type 0 → Type 0
 Tries old new result Carried Stays = Carried ⊎ (IsErr result × (new ≡ old) × Stays)
 
--- a command ends as its work did; or its work was done, and the store was not written back
-abbrev pub EndsAs : Result Outcome RunFault → Result Outcome RunFault → Type 0
-EndsAs ended result = (result ≡ ended) ⊎ (IsOk ended × (result ≡ Err (Store NotWrittenBack)))
+-- no store was opened, and nothing was printed, as if memory is refused to the words of a line
+abbrev pub IsUntouched : {O Q R L : Type 0} → O → Left O Q R L → Option (List ℕ) → Option (List ℕ) → Type 0
+IsUntouched given rest old new = (rest ≡ Given given) × (new ≡ old)
 
--- the store was closed, and is at rest; or it could not be closed, and what is left of it has what was committed
-abbrev pub IsClosed : {S R L : Type 0} → (S → R → Type 0) → (S → L → Type 0) → S → Type 0
-IsClosed {R = R} {L = L} rests keeps store = ((rest : R) × rests store rest) ⊎ ((left : L) × keeps store left)
+-- how a command ends whose work ended so, if its store isn't written back
+abbrev pub unwritten : Result Outcome RunFault → Result Outcome RunFault
+unwritten (Ok outcome) = Err (Store NotWrittenBack)
+unwritten (Err fault) = Err fault
+
+-- The store was closed, is at rest, and the command ends as its work did. Or closing it failed, what is left of it has what was
+-- committed, and the command says so if its work was done.
+abbrev pub Closes : {O Q S R L : Type 0} → (S → R → Type 0) → (S → L → Type 0) → S → Result Outcome RunFault → Result Outcome RunFault → Left O Q R L → Type 0
+Closes rests keeps store ended result (AtRest rest) = rests store rest × (result ≡ ended)
+Closes rests keeps store ended result (Unclosed left) = keeps store left × (result ≡ unwritten ended)
+Closes rests keeps store ended result (Given given) = ⊥
+Closes rests keeps store ended result (Refused rest) = ⊥
 
 -- a store that was opened takes as many requests, and more
 abbrev pub most_requests : ℕ
@@ -43,45 +54,47 @@ pub record Since {S : Type 0} (is_clean is_guarded : S → Type 0) (is_open : S 
   -- the work failed for the store only if a device of the store failed, for as many requests as a store takes
   pub cause : is_clean left → (room ≤ most_requests) ⊎ ((n : ℕ) × takes (n + room) first) → Fit → TellsFailureOnlyIf (FailedIn is_open faults first left) ended
 
--- the work ended so over a store that was opened, and then closed; if the command did not fail, the store is at rest
-pub record Works {S R L : Type 0} (rests : S → R → Type 0) (keeps : S → L → Type 0) (result : Result Outcome RunFault) (FromTo : S → S → Result Outcome RunFault → Type 0)
-    (Carried : S → Result Outcome RunFault → Type 0) : Type 0 where
+-- the work ended so over a store that was opened, and then closed, of which this is left
+pub record Works {O Q S R L : Type 0} (rests : S → R → Type 0) (keeps : S → L → Type 0) (result : Result Outcome RunFault) (rest : Left O Q R L)
+    (FromTo : S → S → Result Outcome RunFault → Type 0) (Carried : S → Result Outcome RunFault → Type 0) : Type 0 where
   pub first : S
   pub left : S
   pub ended : Result Outcome RunFault
   pub since : FromTo first left ended
   pub carried : Carried left ended
-  pub ends : EndsAs ended result
-  pub at_rest : OnOk result ((rest : R) × rests left rest)
-  pub closed : IsClosed rests keeps left
+  pub closes : Closes rests keeps left ended result rest
 
 -- the store was not opened, for a fault of its own, and this is left of it
-abbrev pub IsUnopened : {Q : Type 0} → (RunFault → Q → Type 0) → Result Outcome RunFault → Type 0
-IsUnopened {Q} refuses result = (fault : RunFault) × (result ≡ Err fault) × ((rest : Q) × refuses fault rest)
+abbrev pub IsUnopened : {O Q R L : Type 0} → (RunFault → Q → Type 0) → Result Outcome RunFault → Left O Q R L → Type 0
+IsUnopened refuses result (Refused rest) = (fault : RunFault) × (result ≡ Err fault) × refuses fault rest
+IsUnopened refuses result (Given given) = ⊥
+IsUnopened refuses result (AtRest rest) = ⊥
+IsUnopened refuses result (Unclosed left) = ⊥
 
 -- the work was done over the store; or the store was not opened, and nothing was printed
-abbrev pub Over : {S R L Q : Type 0} → (S → R → Type 0) → (S → L → Type 0) → (RunFault → Q → Type 0) → Option (List ℕ) → Option (List ℕ) → Result Outcome RunFault
+abbrev pub Over : {O Q S R L : Type 0} → (S → R → Type 0) → (S → L → Type 0) → (RunFault → Q → Type 0) → Option (List ℕ) → Option (List ℕ) → Result Outcome RunFault → Left O Q R L
     → (S → S → Result Outcome RunFault → Type 0) → (S → Result Outcome RunFault → Type 0) → Type 0
-Over rests keeps refuses old new result FromTo Carried = Works rests keeps result FromTo Carried ⊎ (IsUnopened refuses result × (new ≡ old))
+Over rests keeps refuses old new result rest FromTo Carried = Works rests keeps result rest FromTo Carried ⊎ (IsUnopened refuses result rest × (new ≡ old))
 
--- A command over the store that its line names; `contents` says what each store holds. What it did is said if the store is clean as
--- it is closed: `Has` then relates the path, the store, its content and the attempts that led there. `FromTo` relates the store as it
--- was opened and as it is closed, by the room for requests and whether their texts fit. The arguments are the input
--- before and after, the output before and after, and how the command ended. The bytes of a file that is imported aren't known.
-abbrev pub CarriesOver : {S R L Q : Type 0} → (S → Type 0) → (ℕ → Type 0 → S → S → Result Outcome RunFault → Type 0) → (Content → Request → Type 0) → (Text → S → Content → List Attempt → Type 0) → (S → R → Type 0) → (S → L → Type 0) → (Text → RunFault → Q → Type 0) → (Text → Content) → Option (List ℕ) → Option (List ℕ) → Option (List ℕ) → Option (List ℕ) → Asked → Result Outcome RunFault → Type 0
-CarriesOver is_clean FromTo fits Has rests keeps refuses contents input left old new (value denom issued month rate extension) result = ⊤
-CarriesOver is_clean FromTo fits Has rests keeps refuses contents input left old new (apply db) result =
-    Over rests keeps (refuses db) old new result (FromTo most_messages (FitMessages fits)) (λ store ended. is_clean store → Applies input left old new (contents db) ended (Has db store))
-CarriesOver is_clean FromTo fits Has rests keeps refuses contents input left old new (imports kind file db desk number) result =
-    Over rests keeps (refuses db) old new result (FromTo 1 (FitFile kind fits (contents db) (desk, number)))
+-- A command over the store that its line names; `contents` says what each store holds, `given` are the stores, and `rest` is what is
+-- left of them. What it did is said if the store is clean as it is closed: `Has` then relates the path, the store, its content and the
+-- attempts that led there. `FromTo` relates the store as it was opened and as it is closed, by the room for requests and whether their
+-- texts fit. The arguments are the input before and after, the output before and after, and how the command ended. The bytes of a file
+-- that is imported aren't known.
+abbrev pub CarriesOver : {O Q S R L : Type 0} → (S → Type 0) → (ℕ → Type 0 → S → S → Result Outcome RunFault → Type 0) → (Content → Request → Type 0) → (Text → S → Content → List Attempt → Type 0) → (S → R → Type 0) → (S → L → Type 0) → (Text → RunFault → Q → Type 0) → (Text → Content) → O → Left O Q R L → Option (List ℕ) → Option (List ℕ) → Option (List ℕ) → Option (List ℕ) → Asked → Result Outcome RunFault → Type 0
+CarriesOver is_clean FromTo fits Has rests keeps refuses contents given rest input left old new (value denom issued month rate extension) result = rest ≡ Given given
+CarriesOver is_clean FromTo fits Has rests keeps refuses contents given rest input left old new (apply db) result =
+    Over rests keeps (refuses db) old new result rest (FromTo most_messages (FitMessages fits)) (λ store ended. is_clean store → Applies input left old new (contents db) ended (Has db store))
+CarriesOver is_clean FromTo fits Has rests keeps refuses contents given rest input left old new (imports kind file db desk number) result =
+    Over rests keeps (refuses db) old new result rest (FromTo 1 (FitFile kind fits (contents db) (desk, number)))
     (λ store ended. is_clean store
     → Tries old new ended (ImportsInto kind None old new (desk, number) (contents db) ended (Has db store)) (Has db store (contents db) []))
-CarriesOver is_clean FromTo fits Has rests keeps refuses contents input left old new (export customer db) result =
-    Over rests keeps (refuses db) old new result (FromTo 0 ⊤) (λ store ended. is_clean store → ExportsFrom old new customer (contents db) ended (Has db store))
-CarriesOver is_clean FromTo fits Has rests keeps refuses contents input left old new (sheet customer month db) result =
-    Over rests keeps (refuses db) old new result (FromTo 0 ⊤)
+CarriesOver is_clean FromTo fits Has rests keeps refuses contents given rest input left old new (export customer db) result =
+    Over rests keeps (refuses db) old new result rest (FromTo 0 ⊤) (λ store ended. is_clean store → ExportsFrom old new customer (contents db) ended (Has db store))
+CarriesOver is_clean FromTo fits Has rests keeps refuses contents given rest input left old new (sheet customer month db) result =
+    Over rests keeps (refuses db) old new result rest (FromTo 0 ⊤)
     (λ store ended. is_clean store → ShowsSheet old new customer month (contents db) ended (Has db store (contents db) []))
-CarriesOver is_clean FromTo fits Has rests keeps refuses contents input left old new (serve db port connections) result =
-    Over rests keeps (refuses db) old new result (FromTo (connections * most_messages) (FitMessages fits))
+CarriesOver is_clean FromTo fits Has rests keeps refuses contents given rest input left old new (serve db port connections) result =
+    Over rests keeps (refuses db) old new result rest (FromTo (connections * most_messages) (FitMessages fits))
     (λ store ended. is_clean store
     → Tries old new ended (ServesAll connections old new (contents db) ended (Has db store)) (Has db store (contents db) []))

@@ -18,12 +18,12 @@ mod stores;
 mod streams;
 mod system;
 
-pub use carrying::carry_out;
+pub use carrying::{CarriedOut, carry_out};
 pub use ee_cli_value::{BAD_LINE, DONE, FAILED, REFUSED};
 pub use explaining::{Cause, Explanation, Known, explain, explain_argument};
 pub use opening::Carried;
-pub use run::{refuse_words, run_words};
+pub use run::{Ran, refuse_words, run_words};
 pub use spellings::{Spelling, spelling_of_argument, spelling_of_column};
-pub use stores::{Stores, Unopened};
+pub use stores::{Left, Stores, Unopened};
 pub use streams::{Noting, Stream};
 pub use system::SystemCause;

@@ -8,17 +8,16 @@ ghost use Rattle.ee_desk_model.specs.Repeats.{Content};
 ghost use Rattle.ee_cli_value.specs.Printed.{value_line};
 ghost use Rattle.ee_cli_value.specs.Statuses.{IsStatusOf};
 ghost use Rattle.ee_cli_commands.specs.Answer.{AsksForVersion, IsAsked};
-ghost use Rattle.ee_cli_commands.specs.CommandLine.{value};
+ghost use Rattle.ee_cli_commands.specs.CommandLine.{Asked, value};
 ghost use Rattle.ee_units.specs.declared.denoms.Denom.{Denom};
 ghost use Rattle.ee_value.specs.Chain.{rates_with};
 ghost use Rattle.ee_keeper.specs.Keeping.{HasAfter};
-ghost use Rattle.ee_cli_program.specs.Statuses.{Carries, IsRun, version_line};
-ghost use Rattle.ee_cli_program.specs.Stores.{CarriesOver, Since};
+ghost use Rattle.ee_cli_program.specs.Statuses.{Carries, HasRun, IsRun, version_line};
+ghost use Rattle.ee_cli_program.specs.Stores.{CarriesOver, IsUntouched, Since};
 
-use crate::carrying::carry_out;
+use crate::carrying::{CarriedOut, carry_out};
 use crate::explaining::{Explanation, Known, explain, explain_argument};
-use crate::opening::Carried;
-use crate::stores::Stores;
+use crate::stores::{Left, Stores};
 use crate::streams::Stream;
 use ee_cli_actions::{Outcome, RunFault, print};
 use ee_cli_commands::{Command, CommandFault, VERSION, asks_to_explain, read_command};
@@ -27,6 +26,13 @@ use ee_io::{Sink, Source};
 use ee_store_load::STORE_VERSION;
 use std::alloc::{AllocError, Global};
 use std::io::{self, ErrorKind, Write};
+
+/// The exit status of a command line, and what is left of the stores.
+#[derive(Drop)]
+pub struct Ran<O, Q, R, L> {
+    pub status: u8,
+    pub left: Left<O, Q, R, L>,
+}
 
 /// Runs the line of these words over these stores, and returns the exit status. The first word is the
 /// program's name. Faults are written to `faults`, everything else to `output`. A fault is one line. If the words
@@ -38,49 +44,73 @@ use std::io::{self, ErrorKind, Write};
 /// - `printed`: if they ask for a value and the status is 0, the output gained exactly that value's line.
 /// - `version`: if they ask for the version and the status is 0, it gained exactly the line of the versions.
 /// - `over`: what a command over a store did and printed, by what the store held (`contents`), if the store is clean
-///   as it is closed; the events that its requests are in the history of the store; and what holds of the store from
-///   its opening on (`Since`).
+///   as it is closed; the events that its requests are in the history of the store; what holds of the store from
+///   its opening on (`Since`); and what is left of it.
+/// - `line`: the same of the one command that the words ask for; or no store was opened.
+/// - `untouched`: if the words ask for no command, no store was opened.
 pub fn run_words<O: Stores, R: Source + Stream, W: Sink + Stream, E: Write>(
     rt: &HostRuntime,
-    stores: &O,
+    stores: O,
     words: &[String],
     explains: bool,
     input: &mut R,
     output: &mut W,
     faults: &mut E,
-) -> u8
-    ensures status { IsRun (map (λ w. string_bytes w) words.now) (Carries (W.contents output.old) (W.contents output.new)) result }
+) -> Ran<O, O::Refused, O::Rest, O::Left>
+    ensures status { IsRun (map (λ w. string_bytes w) words.now) (Carries (W.contents output.old) (W.contents output.new))
+        (IsUntouched stores result.left (W.contents output.old) (W.contents output.new)) result.status }
     ensures printed { (denom : Denom) (issued month rate : ℕ) (extension : Option ℕ)
-        → IsAsked (map (λ w. string_bytes w) words.now) (Ok (value denom issued month rate extension)) → result ≡ 0
+        → IsAsked (map (λ w. string_bytes w) words.now) (Ok (value denom issued month rate extension)) → result.status ≡ 0
         → Appends (W.contents output.old) (W.contents output.new) (value_line denom issued month (rates_with rate extension)) }
-    ensures version { AsksForVersion (map (λ w. string_bytes w) words.now) → result ≡ 0
+    ensures version { AsksForVersion (map (λ w. string_bytes w) words.now) → result.status ≡ 0
         → Appends (W.contents output.old) (W.contents output.new) version_line }
-    ensures over { (contents : Text → Content) → ((path : Text) → O.holds stores.now path (contents path))
+    ensures over { (contents : Text → Content) → ((path : Text) → O.holds stores path (contents path))
         → IsRun (map (λ w. string_bytes w) words.now)
-        (CarriesOver O.Store.is_clean (Since O.Store.is_clean O.Store.is_guarded O.Store.is_open O.Store.faults O.Store.takes) O.Store.fits (λ path left. HasAfter (O.Store.has left) (O.opens stores.now path) (O.Store.went left))
-        O.rests O.keeps (O.refuses stores.now) contents (R.remaining input.old) (R.remaining input.new) (W.contents output.old) (W.contents output.new)) result }
+        (CarriesOver O.Store.is_clean (Since O.Store.is_clean O.Store.is_guarded O.Store.is_open O.Store.faults O.Store.takes) O.Store.fits (λ path left. HasAfter (O.Store.has left) (O.opens stores path) (O.Store.went left))
+        O.rests O.keeps (O.refuses stores) contents stores result.left (R.remaining input.old) (R.remaining input.new) (W.contents output.old) (W.contents output.new))
+        (IsUntouched stores result.left (W.contents output.old) (W.contents output.new)) result.status }
+    ensures line { (contents : Text → Content) → ((path : Text) → O.holds stores path (contents path))
+        → HasRun (map (λ w. string_bytes w) words.now)
+        (CarriesOver O.Store.is_clean (Since O.Store.is_clean O.Store.is_guarded O.Store.is_open O.Store.faults O.Store.takes) O.Store.fits (λ path left. HasAfter (O.Store.has left) (O.opens stores path) (O.Store.went left))
+        O.rests O.keeps (O.refuses stores) contents stores result.left (R.remaining input.old) (R.remaining input.new) (W.contents output.old) (W.contents output.new)) result.status
+        ⊎ (result.left ≡ Left.Given stores) }
+    ensures untouched { ((asked : Asked) → ¬ IsAsked (map (λ w. string_bytes w) words.now) (Ok asked)) → result.left ≡ Left.Given stores }
 {
     let explains = explains || asks_to_explain(words);
     match read_command(rt.alloc(), words) {
         Ok(command) => {
-            let Carried {
-                ended,
-                cause,
-                field,
-            } = carry_out(rt, stores, &command, input, output);
+            let CarriedOut { carried, left } = carry_out(rt, stores, &command, input, output);
             let known = Known {
-                cause,
-                field: field.as_deref(),
+                cause: carried.cause,
+                field: carried.field.as_deref(),
                 input: input.failure(),
                 output: output.failure(),
             };
-            settle(&command, ended, known, explains, faults)
+            Ran {
+                status: settle(&command, carried.ended, known, explains, faults),
+                left,
+            }
         }
-        Err(CommandFault::Help(text)) => show(&text, output, faults),
-        Err(CommandFault::Version) => show_version(rt.alloc(), output, faults),
-        Err(CommandFault::Line(text)) => refuse_line(&text, faults),
-        Err(CommandFault::Argument(name)) => refuse_argument(name, explains, faults),
-        Err(CommandFault::NoMemory) => refuse_memory(explains, faults),
+        Err(CommandFault::Help(text)) => Ran {
+            status: show(&text, output, faults),
+            left: Left::Given(stores),
+        },
+        Err(CommandFault::Version) => Ran {
+            status: show_version(rt.alloc(), output, faults),
+            left: Left::Given(stores),
+        },
+        Err(CommandFault::Line(text)) => Ran {
+            status: refuse_line(&text, faults),
+            left: Left::Given(stores),
+        },
+        Err(CommandFault::Argument(name)) => Ran {
+            status: refuse_argument(name, explains, faults),
+            left: Left::Given(stores),
+        },
+        Err(CommandFault::NoMemory) => Ran {
+            status: refuse_memory(explains, faults),
+            left: Left::Given(stores),
+        },
     }
 }
 

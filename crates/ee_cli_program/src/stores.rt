@@ -22,8 +22,22 @@ pub struct Unopened<R> {
     pub rest: R,
 }
 
-/// Opens the stores that command lines name, and closes them.
-pub trait Stores {
+/// What a command line leaves of the stores that it was given.
+#[derive(Drop)]
+pub enum Left<O, Q, R, L> {
+    /// The stores, of which none was opened.
+    Given(O),
+    /// What is left of a store that wasn't opened.
+    Refused(Q),
+    /// What is left of a store that was closed.
+    AtRest(R),
+    /// What is left of a store that couldn't be closed.
+    Unclosed(L),
+}
+
+/// Opens the store that a command line names, and closes it. Opening takes the stores themselves, so whoever is
+/// given them opens one store at most, and can hand them back only if it opened none.
+pub trait Stores: Drop {
     type Store: Keeper;
 
     /// What is left of a store after it is closed.
@@ -47,22 +61,22 @@ pub trait Stores {
     /// The store at a path isn't opened for this fault, which is its own, and this is left of it: nothing has changed.
     ghost refuses: { Self → List ℕ → RunFault → Self.Refused → Type 0 };
 
-    /// What is left of a store that couldn't be closed has what was committed.
+    /// What is left of a store that couldn't be closed has what was committed, and closing it failed for a cause.
     ghost keeps: { Self.Store → Self.Left → Type 0 };
 
     /// Opens the store at a path; creates its tables if there are none. A cause that is told is one of the fault. Each
     /// later read of a store that was opened clean is tested (`is_guarded`), and it takes 2^52 requests.
-    fn open(&self, path: &str) -> Result<Self::Store, Unopened<Self::Refused>>
-        ensures opened { IfOk result (λ store. Self.Store.is_clean store → (c : Content) → holds self.now path.now c → Self.Store.has store c) }
-        ensures gone { IfOk result (λ store. Self.Store.is_clean store → (start : Content) (events : List Event) → opens self.now path.now start events
+    fn open(self, path: &str) -> Result<Self::Store, Unopened<Self::Refused>>
+        ensures opened { IfOk result (λ store. Self.Store.is_clean store → (c : Content) → holds self path.now c → Self.Store.has store c) }
+        ensures gone { IfOk result (λ store. Self.Store.is_clean store → (start : Content) (events : List Event) → opens self path.now start events
             → Self.Store.went store start events) }
         ensures tested { IfOk result (λ store. Self.Store.is_clean store → Self.Store.is_guarded store) }
         ensures takes { IfOk result (λ store. Self.Store.is_clean store → Self.Store.takes most_requests store) }
         ensures told { IfErr result (λ not. IfSome not.cause (λ cause. not.fault ≡ fault_of_cause cause)) }
-        ensures refused { IfErr result (λ not. refuses self.now path.now not.fault not.rest) };
+        ensures refused { IfErr result (λ not. refuses self path.now not.fault not.rest) };
 
     /// Closes a store, which is then at rest. If that fails, what was committed doesn't change.
-    fn close(&self, store: Self::Store) -> Result<Self::Rest, Self::Left>
+    fn close(store: Self::Store) -> Result<Self::Rest, Self::Left>
         ensures rests { IfOk result (λ rest. rests store rest) }
         ensures keeps { IfErr result (λ left. keeps store left) };
 }

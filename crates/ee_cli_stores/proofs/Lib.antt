@@ -1,2 +1,4 @@
 mod Told
 mod Lines
+mod InFiles
+mod Bank

@@ -1,6 +1,6 @@
 -- A cause that the store tells is one of the fault that the program prints.
 use Rattle.std.proofs.Common.{◌≡◌, ◌∙◌, ap, refl, Option, Some, None, IfSome, IsSomeAnd}
-use Rattle.ee_store_files.specs.Causes.{error_of}
+use Rattle.ee_store_files.specs.Causes.{IsOfSystem, error_of}
 use Rattle.ee_store_files.specs.declared.causes.OpenCause.{OpenCause}
 use Rattle.ee_store_files.specs.declared.causes.OpenCause.TheVariants as opening
 use Rattle.ee_store_schema.specs.Faults.{fault_of}
@@ -37,3 +37,10 @@ with_cause (Connection conn) told fault P is why = tt
 with_cause (Files None) told fault P is why = tt
 with_cause (Files (Some left)) None fault P is why = absurd why
 with_cause (Files (Some left)) (Some cause) fault P is why = (cause, is, why)
+
+pub of_system : {S L : Type 0} (rest : Rest S L) (told : Option OpenCause) (fault : OpenFault) → IfSome told (λ cause. fault ≡ fault_of (error_of cause))
+    → IfFiles rest (λ left. left ≡ None → IsSomeAnd told IsOfSystem)
+    → IfFiles rest (λ left. left ≡ None → (cause : OpenCause) × (fault ≡ fault_of (error_of cause)) × IsOfSystem cause)
+of_system (Connection conn) told fault is why = tt
+of_system (Files left) None fault is why = λ none. absurd (why none)
+of_system (Files left) (Some cause) fault is why = λ none. (cause, is, why none)

@@ -1,3 +1,5 @@
 pub mod Faults
 pub mod Lines
 pub mod Tested
+pub mod Running
+pub mod Bank

@@ -10,8 +10,13 @@ use Rattle.sqlite.specs.WalReads.{AreClean}
 use Rattle.sqlite.specs.declared.FileStore.{FileStore}
 use Rattle.sqlite.specs.Files.{file_state}
 use Rattle.sqlite.specs.Held.{Held}
+use Rattle.sqlite.specs.State.{HasCleanDisk}
 use Rattle.sqlite_std_file.specs.declared.host.Host.{Host}
 use Rattle.ee_store.specs.Ended.{HasCollided}
+
+-- if the files returned what was written there, so did the store's calls
+abbrev pub WasClean : {D : Type 0} {g : disk.Ghosts D} → Held (FileStore D g) → Files D → Type 0
+WasClean {g = g} c files = AreClean g files.log files.db → HasCleanDisk (file_state c)
 
 -- If the reads of the store were tested, both files returned what was written there, or two pages had one 64-bit digest: the records of
 -- the files' calls say so.

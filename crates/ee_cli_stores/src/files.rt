@@ -1,22 +1,26 @@
 //! Stores in files.
 
-ghost use Rattle.std.specs.Prelude.{◌≡◌, true, false};
+ghost use Rattle.std.specs.Prelude.{◌≡◌, true, false, IfErr, IfOk};
 ghost use Rattle.sqlite_std_file.specs.File.{IsFresh};
 ghost use Rattle.sqlite.specs.WalFiles.{image_at};
-ghost use Rattle.ee_store.specs.Ended.{EndsTested, RestsIn, StandsAlone};
+ghost use Rattle.sqlite.specs.FileStore.{view};
+ghost use Rattle.sqlite.specs.View.{IsClean};
+ghost use Rattle.ee_store.specs.Ended.{EndsTested, FailsToEnd, RestsIn};
 ghost use Rattle.ee_store.specs.History.{HasLeft, RestsAfter};
+ghost use Rattle.ee_store.specs.NextRun.{HoldsContent};
 ghost use Rattle.ee_cli_stores.specs.Faults.{fault_of_opening, IsRefused, Keeps};
-ghost use Rattle.ee_cli_stores.specs.Tested.{IsTested};
+ghost use Rattle.ee_cli_stores.specs.Tested.{IsTested, WasClean};
 
 use crate::laws::lines_law;
 use ee_cli_actions::{RunFault, StoreFault};
 use ee_cli_program::{Stores, Unopened};
 use ee_store::{OpenFault, Rest, SqlKeeper, open_as};
+use ee_store_tables::Failure;
 use sqlite::{FileFrom, FileStore, Files, Leftover, Start};
 use sqlite_disk::Disk;
 
 /// A file whose earlier bytes aren't known. A torn write leaves each byte old or new.
-#[derive(Clone, Copy)]
+#[derive(Drop)]
 pub struct Untold;
 
 impl Start for Untold {
@@ -34,7 +38,7 @@ impl Start for Untold {
 }
 
 /// The stores in the files of this system; `start` represents what each file held when it was opened.
-#[derive(Clone, Copy)]
+#[derive(Drop)]
 pub struct StoreFiles<'a, F: Start> {
     pub rt: &'a HostRuntime,
     pub start: F,
@@ -47,13 +51,14 @@ pub struct Refused<D: Disk> {
     pub rest: Rest<FileStore<D>, Leftover<D>>,
 }
 
-/// What is left of a store in files that couldn't be closed.
+/// What is left of a store in files that couldn't be closed, and why.
 #[derive(Drop)]
 pub struct Unclosed<D: Disk> {
+    pub failure: Failure,
     pub store: FileStore<D>,
 }
 
-impl<F: Start + Copy> Stores for StoreFiles<'_, F> {
+impl<F: Start + Drop> Stores for StoreFiles<'_, F> {
     type Store = SqlKeeper<FileStore<FileFrom<F>>>;
 
     type Rest = Files<FileFrom<F>>;
@@ -62,30 +67,30 @@ impl<F: Start + Copy> Stores for StoreFiles<'_, F> {
 
     type Left = Unclosed<FileFrom<F>>;
 
-    // Each file held a store at rest with that content.
-    ghost holds = { λ _ _ content. StandsAlone (image_at F.Start) content };
+    // Both files together held that content: a store of either version, whatever its log has, or no store yet.
+    ghost holds = { λ _ _ content. HoldsContent (image_at F.Start) content };
 
     // Each file held what these events led to from that content.
     ghost opens = { λ _ _ start events. HasLeft start events (image_at F.Start) };
 
-    // The files are at rest with what the store had, which is what its whole history led to. If its reads were tested, the files
-    // returned what was written there, or two pages have one digest.
-    ghost rests = { λ store files. RestsIn store.conn files × RestsAfter store.conn files × EndsTested store.conn files
+    // The files are at rest with what the store had, which is what its whole history led to. If they returned what was written there,
+    // the store was clean; they did, if its reads were tested, or two pages have one digest.
+    ghost rests = { λ store files. RestsIn store.conn files × RestsAfter store.conn files × WasClean store.conn files × EndsTested store.conn files
         × IsTested F.Start store.conn files };
 
     // What the files held was refused for this fault, and is still there.
     ghost refuses = { λ _ _ fault refused. IsRefused (λ files. IsFresh true files.log) (λ files. IsFresh false files.db) (image_at F.Start) fault refused.rest };
 
-    // A crash leaves of it what it could leave of the store, so it still follows the store's events.
-    ghost keeps = { λ store left. Keeps store.conn left.store };
+    // A crash leaves of it what it could leave of the store, so it still follows the store's events. Closing failed for a cause.
+    ghost keeps = { λ store left. Keeps store.conn left.store × (IsClean (view left.store) → FailsToEnd store.conn left.store left.failure) };
 
     fn open(
-        &self,
+        self,
         path: &str,
     ) -> Result<SqlKeeper<FileStore<FileFrom<F>>>, Unopened<Refused<FileFrom<F>>>> {
         match open_as(self.rt, path, self.start) {
             Ok(keeper) => {
-                // For the proof alone: a store that is opened has gone through what led to its files.
+                // For the proof alone: a store that is opened has what its files held, and has gone through what led to them.
                 lines_law::<FileFrom<F>>();
                 Ok(keeper)
             }
@@ -98,12 +103,15 @@ impl<F: Start + Copy> Stores for StoreFiles<'_, F> {
     }
 
     fn close(
-        &self,
         store: SqlKeeper<FileStore<FileFrom<F>>>,
-    ) -> Result<Files<FileFrom<F>>, Unclosed<FileFrom<F>>> {
+    ) -> Result<Files<FileFrom<F>>, Unclosed<FileFrom<F>>>
+        ensures rests { IfOk result (λ files. RestsIn store.conn files × RestsAfter store.conn files × WasClean store.conn files × EndsTested store.conn files
+            × IsTested F.Start store.conn files) }
+        ensures keeps { IfErr result (λ left. Keeps store.conn left.store × (IsClean (view left.store) → FailsToEnd store.conn left.store left.failure)) }
+    {
         match store.close_files() {
             Ok(files) => Ok(files),
-            Err((_failure, store)) => Err(Unclosed { store }),
+            Err((failure, store)) => Err(Unclosed { failure, store }),
         }
     }
 }

@@ -7,7 +7,7 @@ use Rattle.sqlite_disk.specs.declared.Disk.{Ghosts}
 use Rattle.sqlite_disk.specs.declared.Files.{Files}
 use Rattle.sqlite_wal.proofs.LogLemmas.{SeenMayStay}
 use Rattle.sqlite_trees.specs.Objects.{catalog_tree}
-use Rattle.sqlite_trees.specs.Props.{Trees-set}
+use Rattle.sqlite_trees.specs.Props.{Trees-set, rows_set}
 use Rattle.sqlite_schema.specs.declared.schema.Schema.{Schema}
 use Rattle.sqlite_catalog.specs.Listing.{IsSound, AreListed, IsTableRow, IsIndexRow, IsViewRow}
 use Rattle.sqlite_store.specs.Laws.{settled_at}
@@ -44,7 +44,7 @@ use Rattle.ee_store.specs.NextRun.{IsNumbered, MayLeaveFiles, FollowsInNextRun, 
 use Rattle.ee_store.proofs.NextRun.{was_found, found_in, next_on}
 use Rattle.ee_store.specs.Served.{FollowsWorld}
 use Rattle.ee_store.specs.Ended.{StandsAlone, IsAtRest, RestsIn}
-use Rattle.ee_store.specs.History.{IsUp, IsJustUp, Goes, BeginsHistory, BeginsInFiles, OpensHistory, WaitsInFiles, WaitsRefused, GoesByQueries, LeavesHistory, GoesThroughCrash, AreFoundAs, RestsHistory, GoesThroughRest, HasHistory, HoldHistory, SettlesHistory, RestsAfter}
+use Rattle.ee_store.specs.History.{IsUp, IsJustUp, Goes, BeginsHistory, BeginsInFiles, OpensHistory, HasHeld, WaitsInFiles, WaitsRefused, GoesByQueries, LeavesHistory, GoesThroughCrash, AreFoundAs, HoldAtRest, RestsHistory, GoesThroughRest, HasHistory, HoldHistory, SettlesHistory, RestsAfter}
 
 -- ---- worlds that are up
 
@@ -157,8 +157,14 @@ module _ (finds : FindsHeld) (none : FindsNone) (found : Image) (was : State) (i
   empty_trees (inl before) = ∣ none found was.committed.trees before it.reads ∣₁
   empty_trees (inr some) = ∥∥₁_map some (λ (db, held, empty). subst IsEmpty (sym (same_trees db held)) empty)
 
+  bare_objects : HoldsNone found → was.committed.trees catalog_tree ≡ []
+  bare_objects before = ∥∥₁_elim (empty_trees before) (rows_set _ _) (λ empty. empty.1)
+
+  bare : IsLive was → was.committed.trees catalog_tree ≡ [] → IsBlank was
+  bare live objects is_open = lists_none was.committed.schema was.committed.trees (live is_open).1 objects
+
   blank : IsLive was → IsEmpty was.committed.trees → IsBlank was
-  blank live empty is_open = lists_none was.committed.schema was.committed.trees (live is_open).1 empty.1
+  blank live empty = bare live empty.1
 
 pub opens_history : {D : Type 0} (g : Ghosts D) → FindsHeld → FindsNone → OpensHistory g
 opens_history g finds none start events found now come opened =
@@ -178,6 +184,17 @@ opens_history g finds none start events found now come opened =
           let follows = opened.begun.1 (blank finds none found was opened.found opened.opened.1 trees) in
           (w, happened, up, follows_same (file_state now) (begun nothing) w (sym is) (ap (λ (c : Content). c ∷ []) (sym is) ∙ sym just.only) follows))
     ])
+
+pub has_held : {D : Type 0} (g : Ghosts D) → FindsHeld → FindsNone → HasHeld g
+has_held g finds none image content now (inl (form, store)) opened =
+    let was = file_state opened.was in
+    let same : was.committed.trees ≡ store.db = ∥∥₁_elim store.holds (Trees-set _ _) (same_trees finds none image was opened.found store.db) in
+    let stood = subst (λ db. StoodFor form db content) (sym same) store.stands in
+    let (v, happens, is, follows) = opened.goes_on form (begun content) content (0, omega arith, refl) stood in
+    subst (HasContent (file_state now)) is follows.0
+has_held g finds none image content now (inr (is, before)) opened =
+    let was = file_state opened.was in
+    subst (HasContent (file_state now)) (sym is) (opened.begins (bare finds none image was opened.found opened.opened.1 (bare_objects finds none image was opened.found before)))
 
 -- ---- opens that fail
 
@@ -283,15 +300,18 @@ stands_found : {D : Type 0} (g : Ghosts D) (files : Files D) (content : Content)
 stands_found g files content found rest (inl same) = subst (λ image. StandsAlone image content) (sym same) rest.seen
 stands_found g files content found rest (inr may) = rest.left found may
 
+pub hold_at_rest : {D : Type 0} (g : Ghosts D) → TakesHeld → HoldAtRest g
+hold_at_rest g takes files content found rest finds =
+    let seen = stands_found g files content found rest finds in
+    inl (Current, record { db = seen.db; holds = ∥∥₁_map seen.holds.both (takes found seen.db); stands = stood_now seen.db content seen.stands })
+
 pub rests_history : {D : Type 0} (g : Ghosts D) → TakesHeld → RestsHistory g
-rests_history g takes start events old files found come clean rests finds = ∥∥₁_map come (λ (w, happened, up, follows).
-    let seen = stands_found g files w.now found (rests clean w.now follows.0) finds in
-    let holds : HoldsContent found w.now = inl (Current, record { db = seen.db; holds = ∥∥₁_map seen.holds.both (takes found seen.db); stands = stood_now seen.db w.now seen.stands }) in (
-      rested w w.now,
-      happens_onward events (Stop_between ∷ Reopen ∷ []) (begun start) w (rested w w.now) happened (stops w w.now up.among),
-      record { up = refl; only = refl },
-      holds,
-    ))
+rests_history g takes start events old files found come clean rests finds = ∥∥₁_map come (λ (w, happened, up, follows). (
+  rested w w.now,
+  happens_onward events (Stop_between ∷ Reopen ∷ []) (begun start) w (rested w w.now) happened (stops w w.now up.among),
+  record { up = refl; only = refl },
+  hold_at_rest g takes files w.now found (rests clean w.now follows.0) finds,
+))
 
 pub goes_through_rest : {D E : Type 0} (g : Ghosts D) (h : Ghosts E) → GoesThroughRest g h
 goes_through_rest g h old files found now clean rests finds run = goes_from (file_state old) (file_state now) (Stop_between ∷ Reopen ∷ []) (λ w is before.

@@ -75,6 +75,11 @@ abbrev pub OpensHistory : {D : Type 0} → Ghosts D → Type 0
 OpensHistory {D} g = (start : Content) (events : List Event) (found : Image) (now : Held (FileStore D g)) → HasLeft start events found → IsOpenedFrom found now
     → HasCome start events (file_state now)
 
+-- and it has the content that they hold
+abbrev pub HasHeld : {D : Type 0} → Ghosts D → Type 0
+HasHeld {D} g = (image : Image) (content : Content) (now : Held (FileStore D g)) → HoldsContent image content → IsOpenedFrom image now
+    → HasContent (file_state now) content
+
 -- an open that fails is no event, if the files hold on
 abbrev pub WaitsInFiles : Type 0
 WaitsInFiles = (start : Content) (events : List Event) (was now : Image) → HasLeft start events was → HoldsOn was now → HasLeft start events now
@@ -102,6 +107,10 @@ GoesThroughCrash {D} {E} g h = (old : Held (FileStore D g)) (left : Image) (now 
 -- the files are found as they read, or as a stop of the machine leaves them
 abbrev pub AreFoundAs : {D : Type 0} → Ghosts D → Files D → Image → Type 0
 AreFoundAs g files found = (found ≡ image_of g files) ⊎ outcomes g files.log files.db found
+
+-- files at rest hold the content, however they are found
+abbrev pub HoldAtRest : {D : Type 0} → Ghosts D → Type 0
+HoldAtRest {D} g = (files : Files D) (content : Content) (found : Image) → IsAtRest g files content → AreFoundAs g files found → HoldsContent found content
 
 -- a command ends with its files at rest; they are found so, also after the machine stopped
 abbrev pub RestsHistory : {D : Type 0} → Ghosts D → Type 0

@@ -4,7 +4,9 @@ ghost use Rattle.std.specs.Prelude.{IfOk, IfErr};
 ghost use Rattle.sqlite.specs.Tree.{Trees};
 ghost use Rattle.sqlite.specs.Files.{file_state};
 ghost use Rattle.sqlite.specs.FileStore.{recovers, view};
+ghost use Rattle.sqlite.specs.State.{HasCleanDisk};
 ghost use Rattle.sqlite.specs.View.{IsClean};
+ghost use Rattle.sqlite.specs.WalReads.{AreClean};
 ghost use Rattle.ee_desk_laws.specs.Events.{World};
 ghost use Rattle.ee_desk_laws.specs.Ties.{Leaves};
 ghost use Rattle.ee_store_books.specs.Seen.{StandsFor};
@@ -26,10 +28,12 @@ impl<D: Disk + Drop> SqlKeeper<FileStore<D>> {
     ///   and as a crash may leave them.
     /// - `history`: whatever has happened since the store was new, that content is the one of requests that were
     ///   sent, each acting once, and each reply that was given is still the answer (`whole_history_law`).
+    /// - `clean`: if the files returned what was written, the store was clean as it was closed.
     /// - `tested`: if the store's reads were tested, the files returned what was written, or two pages have one
     ///   digest.
     /// - `left`, `follows`: if it fails, a crash leaves what it could leave before, so what the next command finds
     ///   still follows the events.
+    /// - `was_clean`: if what is left is clean, the store was clean as it was closed.
     /// - `cause`: it fails only if memory was refused, the device failed once more, or the store was shut before.
     ///
     /// # Errors
@@ -38,9 +42,11 @@ impl<D: Disk + Drop> SqlKeeper<FileStore<D>> {
     pub fn close_files(self) -> Result<Files<D>, (Failure, FileStore<D>)>
         ensures at_rest { IfOk result (λ files. RestsIn self.conn files) }
         ensures history { IfOk result (λ files. RestsAfter self.conn files) }
+        ensures clean { IfOk result (λ files. AreClean D.Disk files.log files.db → HasCleanDisk (file_state self.conn)) }
         ensures tested { IfOk result (λ files. EndsTested self.conn files) }
         ensures left { IfErr result (λ e. (db : Trees) → recovers e.1 db → (file_state self.conn).may_leave db) }
         ensures follows { IfErr result (λ e. (w : World) → FollowsWorld (file_state self.conn) w → Leaves StandsFor (recovers e.1) w) }
+        ensures was_clean { IfErr result (λ e. IsClean (view e.1) → HasCleanDisk (file_state self.conn)) }
         ensures cause { IfErr result (λ e. IsClean (view e.1) → FailsToEnd self.conn e.1 e.0) }
     {
         whole_history_law::<D, D>();

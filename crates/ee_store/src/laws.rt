@@ -10,11 +10,13 @@ ghost use Rattle.ee_store.specs.History.{
   BeginsHistory,
   BeginsInFiles,
   OpensHistory,
+  HasHeld,
   WaitsInFiles,
   WaitsRefused,
   GoesByQueries,
   LeavesHistory,
   GoesThroughCrash,
+  HoldAtRest,
   RestsHistory,
   GoesThroughRest,
   HasHistory,
@@ -58,12 +60,14 @@ pub const fn next_run_law<D: Disk, E: Disk>()
 /// - `begins`: a store that was just created has gone through no event; `SqlKeeper::adopt` creates it (`begun`).
 /// - `found`: so have files that hold a store of either version, or no database yet.
 /// - `opens`: a store that is opened on two files has gone through the events that led to them.
+/// - `has`: and it has the content that they hold.
 /// - `waits`, `refused`: an open that fails is no event, whether the files come back (`open_on`, `held`) or a
 ///   connection.
 /// - `queries`: a query is no event.
 /// - `leaves`: a crash leaves two files of a store: a stop, and a reopening by whoever opens them. So does what is
 ///   left of a store that couldn't be closed (`SqlKeeper::close_files`, `left`).
 /// - `crash`: the same, with the next run: also if it is refused.
+/// - `at_rest`: files at rest hold the content, however they are found.
 /// - `rests`, `rest`: the same of the end of a command, which leaves its files at rest, also if the machine stops
 ///   before the next one.
 /// - `content`, `files`: whatever events it has gone through, the store, or the two files, have the content of
@@ -73,11 +77,13 @@ pub const fn whole_history_law<D: Disk, E: Disk>()
     ensures begins { BeginsHistory D.Disk }
     ensures found { BeginsInFiles }
     ensures opens { OpensHistory D.Disk }
+    ensures has { HasHeld D.Disk }
     ensures waits { WaitsInFiles }
     ensures refused { WaitsRefused D.Disk }
     ensures queries { GoesByQueries D.Disk }
     ensures leaves { LeavesHistory D.Disk }
     ensures crash { GoesThroughCrash D.Disk E.Disk }
+    ensures at_rest { HoldAtRest D.Disk }
     ensures rests { RestsHistory D.Disk }
     ensures rest { GoesThroughRest D.Disk E.Disk }
     ensures content { HasHistory D.Disk }

@@ -187,7 +187,7 @@ fn prints_so_many(rt: &HostRuntime, abort: &impl Abort, words: &[String], room: 
     let mut got = Vec::new(rt.alloc());
     let stores = InMemory { alloc: rt.alloc() };
     let mut input = io::empty();
-    let status = run_words(rt, &stores, words, false, &mut input, &mut output, &mut got);
+    let status = run_words(rt, stores, words, false, &mut input, &mut output, &mut got).status;
     let front = "29.74\n".get(..room).expect(abort, "a front of the line");
     same_bytes(abort, &output.bytes, front, "what is printed");
     same_bytes(abort, &got, "input or output failed\n", "what is got");

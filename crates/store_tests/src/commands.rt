@@ -35,14 +35,14 @@ pub fn words(rt: &HostRuntime, abort: &impl Abort, line: &str) -> Vec<String> {
 fn run_given<O: Stores>(
     rt: &HostRuntime,
     abort: &impl Abort,
-    stores: &O,
+    stores: O,
     words: &[String],
     input: &str,
 ) -> Ran {
     let mut bytes = input.as_bytes();
     let mut printed = Vec::new(rt.alloc());
     let mut got = Vec::new(rt.alloc());
-    let status = run_words(rt, stores, words, false, &mut bytes, &mut printed, &mut got);
+    let status = run_words(rt, stores, words, false, &mut bytes, &mut printed, &mut got).status;
     Ran {
         printed: String::from_utf8(printed).expect(abort, "what is printed"),
         got: String::from_utf8(got).expect(abort, "what is got"),
@@ -54,7 +54,7 @@ fn run_given<O: Stores>(
 pub fn run_over<O: Stores>(
     rt: &HostRuntime,
     abort: &impl Abort,
-    stores: &O,
+    stores: O,
     line: &str,
     input: &str,
 ) -> Ran {
@@ -64,7 +64,7 @@ pub fn run_over<O: Stores>(
 
 /// Runs a line over stores in files.
 pub fn run(rt: &HostRuntime, abort: &impl Abort, line: &str, input: &str) -> Ran {
-    run_over(rt, abort, &StoreFiles { rt, start: Untold }, line, input)
+    run_over(rt, abort, StoreFiles { rt, start: Untold }, line, input)
 }
 
 /// Stores in memory, each empty as it is opened, whatever its path is.
@@ -96,11 +96,11 @@ impl Stores for InMemory {
 
     ghost keeps = { λ _ _. ⊥ };
 
-    fn open(&self, _path: &str) -> Result<ListKeeper, Unopened<()>> {
+    fn open(self, _path: &str) -> Result<ListKeeper, Unopened<()>> {
         Ok(ListKeeper::empty(self.alloc))
     }
 
-    fn close(&self, store: ListKeeper) -> Result<ListKeeper, ()> {
+    fn close(store: ListKeeper) -> Result<ListKeeper, ()> {
         Ok(store)
     }
 }
@@ -127,7 +127,7 @@ pub fn prints_in_memory(
     wanted: &str,
 ) {
     let stores = InMemory { alloc: rt.alloc() };
-    let ran = run_over(rt, abort, &stores, line, input);
+    let ran = run_over(rt, abort, stores, line, input);
     has_run(abort, &ran, line, wanted, "", 0);
 }
 

@@ -1,4 +1,8 @@
+use Rattle.std.proofs.Common.{refl}
 use Rattle.ee_cli_program.proofs.carrying.carry_out.Goals as goal
+
+pub returns-in-Value-clause-over : goal.returns-in-Value-clause-over
+returns-in-Value-clause-over g c = λ contents holds. rw c.in-Value.is refl
 
 pub returns-in-Apply-clause-over : goal.returns-in-Apply-clause-over
 returns-in-Apply-clause-over g c = λ contents holds. rw c.in-Apply.is (c.apply.ensures.over (contents c.in-Apply.store.now) (holds c.in-Apply.store.now))

@@ -1,4 +1,4 @@
-use Rattle.std.proofs.Common.{inl, [], None}
+use Rattle.std.proofs.Common.{refl, inr, inl, [], None}
 use Rattle.ee_cli_actions.specs.Actions.{ImportsInto}
 use Rattle.ee_keeper.specs.Keeping.{HasAfter}
 use Rattle.ee_cli_actions.proofs.Lemmas.{imports_with}
@@ -9,7 +9,7 @@ pub returns-in-Ok-clause-over : goal.returns-in-Ok-clause-over
 returns-in-Ok-clause-over g c = λ content holds.
     let left = c.import_path-tried.new.keeper in
     let Has = g.O.Store.Keeper.has left in
-    let Opens = g.O.Stores.opens c.args.stores.now c.args.db.now in
+    let Opens = g.O.Stores.opens c.args.stores c.args.db.now in
     let Went = g.O.Store.Keeper.went c.in-Ok.store in
     let Left = g.O.Store.Keeper.went left in
     let old = g.W.Write.contents c.args.output.now in
@@ -32,7 +32,8 @@ returns-in-Ok-clause-over g c = λ content holds.
           tries_with old new c.import_path-tried.result.ended (ImportsInto c.args.kind None old new (c.args.desk, c.args.number) content c.import_path-tried.result.ended (HasAfter Has Went Left)) (ImportsInto c.args.kind None old new (c.args.desk, c.args.number) content c.import_path-tried.result.ended (HasAfter Has Opens Left))
           (HasAfter Has Went Left content []) (HasAfter Has Opens Left content []) (imports_with (HasAfter Has Went Left) (HasAfter Has Opens Left) since c.args.kind None old new (c.args.desk, c.args.number) content c.import_path-tried.result.ended) (since content [])
           (c.import_path-tried.ensures.imports clean content (c.in-Ok.ensures.opened before content holds));
-      ends = c.end-ended.ensures.ends;
-      at_rest = c.end-ended.ensures.rests;
-      closed = c.end-ended.ensures.kept;
+      closes = c.end.ensures.closes;
     }
+
+pub returns-in-Err-clause-over : goal.returns-in-Err-clause-over
+returns-in-Err-clause-over g c = λ content holds. inr (rw c.not_opened.ensures.left (c.in-Err.not.fault, c.not_opened.ensures.ended, c.in-Err.ensures.refused), refl)

@@ -1,4 +1,4 @@
-use Rattle.std.proofs.Common.{◌*◌, inl, []}
+use Rattle.std.proofs.Common.{refl, inr, ◌*◌, inl, []}
 use Rattle.ee_cli_actions.specs.Connections.{ServesAll}
 use Rattle.ee_keeper.specs.Keeping.{HasAfter}
 use Rattle.ee_cli_actions.proofs.Lemmas.{serves_all_with}
@@ -9,7 +9,7 @@ pub returns-in-Ok-clause-over : goal.returns-in-Ok-clause-over
 returns-in-Ok-clause-over g c = λ content holds.
     let left = c.serve_port-tried.new.keeper in
     let Has = g.O.Store.Keeper.has left in
-    let Opens = g.O.Stores.opens c.args.stores.now c.args.db.now in
+    let Opens = g.O.Stores.opens c.args.stores c.args.db.now in
     let Went = g.O.Store.Keeper.went c.in-Ok.store in
     let Left = g.O.Store.Keeper.went left in
     let old = g.W.Write.contents c.args.output.now in
@@ -32,7 +32,11 @@ returns-in-Ok-clause-over g c = λ content holds.
           tries_with old new c.serve_port-tried.result.ended (ServesAll c.args.connections old new content c.serve_port-tried.result.ended (HasAfter Has Went Left)) (ServesAll c.args.connections old new content c.serve_port-tried.result.ended (HasAfter Has Opens Left))
           (HasAfter Has Went Left content []) (HasAfter Has Opens Left content []) (serves_all_with (HasAfter Has Went Left) (HasAfter Has Opens Left) since c.args.connections old new content c.serve_port-tried.result.ended) (since content [])
           (c.serve_port-tried.ensures.over clean content (c.in-Ok.ensures.opened before content holds));
-      ends = c.end-ended.ensures.ends;
-      at_rest = c.end-ended.ensures.rests;
-      closed = c.end-ended.ensures.kept;
+      closes = c.end.ensures.closes;
     }
+
+pub returns-in-Ok-clause-done : goal.returns-in-Ok-clause-done
+returns-in-Ok-clause-done g c = c.end.ensures.done c.serve_port-tried.ensures.done
+
+pub returns-in-Err-clause-over : goal.returns-in-Err-clause-over
+returns-in-Err-clause-over g c = λ content holds. inr (rw c.not_opened.ensures.left (c.in-Err.not.fault, c.not_opened.ensures.ended, c.in-Err.ensures.refused), refl)

@@ -1,4 +1,4 @@
-use Rattle.std.proofs.Common.{add-zero, subst, inl, []}
+use Rattle.std.proofs.Common.{refl, inr, add-zero, subst, inl, []}
 use Rattle.ee_keeper.specs.Keeping.{HasAfter}
 use Rattle.ee_cli_actions.proofs.Lemmas.{sheets_with}
 use Rattle.ee_cli_program.proofs.Opened.{takes_enough, since_opened}
@@ -8,12 +8,12 @@ pub returns-in-Ok-clause-over : goal.returns-in-Ok-clause-over
 returns-in-Ok-clause-over g c = λ content holds.
     let left = c.sheet_of-ended.new.keeper in
     let Has = g.O.Store.Keeper.has left in
-    let Opens = g.O.Stores.opens c.args.stores.now c.args.db.now in
+    let Opens = g.O.Stores.opens c.args.stores c.args.db.now in
     let Went = g.O.Store.Keeper.went c.in-Ok.store in
     let Left = g.O.Store.Keeper.went left in
     let old = g.W.Write.contents c.args.output.now in
     let new = g.W.Write.contents c.sheet_of-ended.new.output in
-    rw c.without_cause.ensures (inl record {
+    inl record {
       first = c.in-Ok.store;
       left = left;
       ended = c.sheet_of-ended.result;
@@ -30,7 +30,11 @@ returns-in-Ok-clause-over g c = λ content holds.
           let since = since_opened Has Opens Went Left (c.in-Ok.ensures.gone before) in
           sheets_with old new c.args.customer c.args.month content c.sheet_of-ended.result (HasAfter Has Went Left content []) (HasAfter Has Opens Left content []) (since content [])
           (c.sheet_of-ended.ensures.shows clean content (c.in-Ok.ensures.opened before content holds));
-      ends = c.end.ensures.ends;
-      at_rest = c.end.ensures.rests;
-      closed = c.end.ensures.kept;
-    })
+      closes = c.end.ensures.closes;
+    }
+
+pub returns-in-Ok-clause-done : goal.returns-in-Ok-clause-done
+returns-in-Ok-clause-done g c = c.end.ensures.done c.sheet_of-ended.ensures.done
+
+pub returns-in-Err-clause-over : goal.returns-in-Err-clause-over
+returns-in-Err-clause-over g c = λ content holds. inr (rw c.not_opened.ensures.left (c.in-Err.not.fault, c.not_opened.ensures.ended, c.in-Err.ensures.refused), refl)

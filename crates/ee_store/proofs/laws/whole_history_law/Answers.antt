@@ -1,4 +1,4 @@
-use Rattle.ee_store.proofs.History.{begins_history, begins_in_files, opens_history, waits_in_files, waits_refused, goes_by_queries, leaves_history, goes_through_crash, rests_history, goes_through_rest, has_history, hold_history, settles_history}
+use Rattle.ee_store.proofs.History.{begins_history, begins_in_files, opens_history, has_held, waits_in_files, waits_refused, goes_by_queries, leaves_history, goes_through_crash, hold_at_rest, rests_history, goes_through_rest, has_history, hold_history, settles_history}
 use Rattle.ee_store.proofs.laws.whole_history_law.Goals as goal
 
 pub returns-clause-begins : goal.returns-clause-begins
@@ -9,6 +9,9 @@ returns-clause-found g c = begins_in_files
 
 pub returns-clause-opens : goal.returns-clause-opens
 returns-clause-opens g c = opens_history g.D.Disk c.holding_law.ensures.finds c.holding_law.ensures.none
+
+pub returns-clause-has : goal.returns-clause-has
+returns-clause-has g c = has_held g.D.Disk c.holding_law.ensures.finds c.holding_law.ensures.none
 
 pub returns-clause-waits : goal.returns-clause-waits
 returns-clause-waits g c = waits_in_files
@@ -24,6 +27,9 @@ returns-clause-leaves g c = leaves_history g.D.Disk c.holding_law.ensures.takes
 
 pub returns-clause-crash : goal.returns-clause-crash
 returns-clause-crash g c = goes_through_crash g.D.Disk g.E.Disk c.next_run_law.ensures.follows
+
+pub returns-clause-at_rest : goal.returns-clause-at_rest
+returns-clause-at_rest g c = hold_at_rest g.D.Disk c.holding_law.ensures.takes
 
 pub returns-clause-rests : goal.returns-clause-rests
 returns-clause-rests g c = rests_history g.D.Disk c.holding_law.ensures.takes

@@ -1,4 +1,4 @@
-use Rattle.std.proofs.Common.{◌∙◌, inl, inr, ap, sym, subst}
+use Rattle.std.proofs.Common.{◌∙◌, arith, inl, inr, ap, sym, subst}
 use Rattle.sqlite_disk.specs.declared.Disk.{Ghosts}
 use Rattle.sqlite_trees.specs.declared.error.StoreError.{StoreError}
 use Rattle.sqlite_trees.specs.declared.error.StoreError.TheVariants.{OutOfMemory, Io, Corrupt, Full, Broken, Unstorable}
@@ -26,6 +26,9 @@ returns-in-Ok-clause-history g c =
     rests_after c.args.self.conn c.in-Ok.files c.whole_history_law.ensures.content
     (λ clean content has. at_rest c.args.self.conn c.in-Ok.files content c.schema-schema.ensures.live (subst (λ conn. IsCopied conn c.in-Ok.files) c.close.ensures (c.in-Ok.ensures.copied clean)) has)
 
+pub returns-in-Ok-clause-clean : goal.returns-in-Ok-clause-clean
+returns-in-Ok-clause-clean g c = λ clean. (subst (λ conn. IsCopied conn c.in-Ok.files) c.close.ensures (c.in-Ok.ensures.copied clean)).was_clean
+
 pub returns-in-Ok-clause-tested : goal.returns-in-Ok-clause-tested
 returns-in-Ok-clause-tested g c =
     let ended = c.in-Ok.ensures.ok in
@@ -37,6 +40,9 @@ returns-in-Err-clause-tested g c = tt
 
 pub returns-in-Err-clause-at_rest : goal.returns-in-Err-clause-at_rest
 returns-in-Err-clause-at_rest g c = tt
+
+pub returns-in-Err-clause-clean : goal.returns-in-Err-clause-clean
+returns-in-Err-clause-clean g c = tt
 
 pub returns-in-Err-clause-history : goal.returns-in-Err-clause-history
 returns-in-Err-clause-history g c = tt
@@ -64,3 +70,8 @@ pub returns-in-Err-clause-cause : goal.returns-in-Err-clause-cause
 returns-in-Err-clause-cause g c clean =
     let fails = subst (λ conn. FailsToClose conn c.in-Err.store c.in-Err.error) c.close.ensures (c.in-Err.ensures.err.1 clean) in
     subst (FailsToEnd c.args.self.conn c.in-Err.store) (sym (c.from.ensures ∙ ap failure_of fails.1)) (excused_end c.args.self.conn c.in-Err.store fails.0 fails.2)
+
+pub returns-in-Err-clause-was_clean : goal.returns-in-Err-clause-was_clean
+returns-in-Err-clause-was_clean g c = λ clean.
+    let closed = subst (λ conn. IsClosed conn c.in-Err.store) c.close.ensures c.in-Err.ensures.err.0 in
+    omega (arith, clean, closed.quiet.clean)

@@ -1,0 +1,111 @@
+-- What two files hold after command lines in a row, in the words of the mission.
+use Rattle.std.specs.Prelude.{◌≡◌, ◌⊎◌, ℕ, Bool, List, [], ◌∷◌, ◌++◌, Option, Some, None, Ok, Contains, ⊤}
+use Rattle.std.specs.List.{AllByRecursion}
+use Rattle.std.specs.Io.KnownBytes.{Consumes}
+use Rattle.clap.specs.Words.{Text}
+use Rattle.sqlite.specs.Recovery.{Image}
+use Rattle.ee_desk_model.specs.declared.acts.Act.{Act}
+use Rattle.ee_desk_model.specs.declared.acts.Request.{Request}
+use Rattle.ee_desk_model.specs.Numbers.{numbered}
+use Rattle.ee_desk_model.specs.Repeats.{Content}
+use Rattle.ee_desk_model.specs.Contents.{content_after}
+use Rattle.ee_desk_model.specs.Conserved.{IsConserved}
+use Rattle.ee_desk_model.specs.Paid.{paid_lines, NoneTwice, ArePaidRight}
+use Rattle.ee_desk_laws.specs.Attempts.{Attempt}
+use Rattle.ee_desk_laws.specs.Events.{Event, World, begun, Happens}
+use Rattle.ee_desk_laws.specs.Stops.{StillTold, sent, acknowledged}
+use Rattle.ee_wire_framing.specs.Framing.{BeginsMessages}
+use Rattle.ee_counter.specs.Serving.{Told, attempts_by_all, messages}
+use Rattle.ee_cli_commands.specs.Answer.{IsAsked}
+use Rattle.ee_cli_commands.specs.CommandLine.{Asked, value, apply, imports, export, sheet, serve}
+use Rattle.ee_cli_program.specs.Statuses.{HasRun}
+use Rattle.ee_store.specs.NextRun.{HoldsContent}
+use Rattle.ee_cli_stores.specs.Lines.{AreEventsOfLines, LineLeads}
+use Rattle.ee_cli_stores.specs.Running.{DoesInFiles}
+
+-- ---- lines
+
+-- a line that ended: its words, the input before and after, the output before and after, and its status
+pub record Line : Type 0 where
+  pub words : List Text
+  pub input : Option (List ℕ)
+  pub left : Option (List ℕ)
+  pub old : Option (List ℕ)
+  pub new : Option (List ℕ)
+  pub status : ℕ
+
+-- how a line of a row went: it ended, or it was cut off with these attempts
+pub data Turn : Type 0 where
+  Ended : (line : Line) → Turn
+  Cut : (attempts : List Attempt) → Turn
+
+-- The line ran over two files which held what is first, and these are found afterwards (`run_line`): it did what its command is to do
+-- at the content that they held, whichever that is, or it opened no store.
+abbrev pub RanLine : Image → Line → Image → Type 0
+RanLine held line found = (c : Content) → HoldsContent held c
+    → HasRun line.words (DoesInFiles held found c line.input line.left line.old line.new) line.status ⊎ (found ≡ held)
+
+-- Lines in a row, each over what the one before it left. One that was cut off had put these attempts, which led to the files.
+abbrev pub RanLines : Image → List Turn → Image → Type 0
+RanLines held [] found = held ≡ found
+RanLines held (Ended line ∷ lines) found = (next : Image) × RanLine held line next × RanLines next lines found
+RanLines held (Cut attempts ∷ lines) found = (next : Image) × LineLeads held attempts next × RanLines next lines found
+
+-- ---- what was sent
+
+-- the attempts are the requests in the messages that these bytes begin with
+abbrev pub AreOfMessages : List ℕ → List Attempt → Type 0
+AreOfMessages bytes attempts = (told : List Told) × (rest : List ℕ) × BeginsMessages bytes (messages told) rest × (attempts ≡ attempts_by_all told)
+
+-- those of some streams, one after the other
+abbrev pub AreOfStreams : List (List ℕ) → List Attempt → Type 0
+AreOfStreams [] attempts = attempts ≡ []
+AreOfStreams (bytes ∷ streams) attempts =
+    (these those : List Attempt) × (attempts ≡ these ++ those) × AreOfMessages bytes these × AreOfStreams streams those
+
+-- The attempts of a command: the requests in its input, one request of a file under its number, or those of some streams, if it serves.
+abbrev pub Puts : Asked → Option (List ℕ) → Option (List ℕ) → List Attempt → Type 0
+Puts (value denom issued month rate extension) input left attempts = attempts ≡ []
+Puts (apply db) input left attempts = (bytes : List ℕ) × Consumes input left bytes × AreOfMessages bytes attempts
+Puts (imports kind file db desk number) input left attempts =
+    (attempts ≡ []) ⊎ ((act : Act) × (is_served : Bool) × (attempts ≡ record { request = numbered (desk, number) act; is_served = is_served } ∷ []))
+Puts (export customer db) input left attempts = attempts ≡ []
+Puts (sheet customer month db) input left attempts = attempts ≡ []
+Puts (serve db port connections) input left attempts = (streams : List (List ℕ)) × AreOfStreams streams attempts
+
+-- the attempts of a line that ended; of one that was cut off, those with which it ended; none if no store was opened
+abbrev pub PutBy : Turn → Option (List Attempt) → Type 0
+PutBy (Ended line) (Some attempts) = (asked : Asked) × IsAsked line.words (Ok asked) × Puts asked line.input line.left attempts
+PutBy (Ended line) None = ⊤
+PutBy (Cut attempts) (Some others) = others ≡ attempts
+PutBy (Cut attempts) None = ⊥
+
+abbrev pub ArePutBy : List Turn → List (Option (List Attempt)) → Type 0
+ArePutBy [] ran = ran ≡ []
+ArePutBy (turn ∷ lines) [] = ⊥
+ArePutBy (turn ∷ lines) (put ∷ ran) = PutBy turn put × ArePutBy lines ran
+
+-- ---- the law
+
+-- the files hold what requests that were sent made of the first content, each acting once
+pub record IsAccounted (start : Content) (events : List Event) (files : Image) : Type 0 where
+  pub content : Content
+  pub held : HoldsContent files content
+  pub done : List Request
+  pub is : content ≡ content_after start done
+  pub were_sent : AllByRecursion (Contains (sent events)) done
+  -- each request whose reply arrived is among them, and that reply is still the answer to it
+  pub lost_none : AllByRecursion (Contains done) (acknowledged events)
+  pub world : World
+  pub happened : Happens (begun start) events world
+  pub still : StillTold start done world.told
+  -- no bond is paid twice, each is paid its value, and the batches and the open day add up to what was paid
+  pub once : NoneTwice (paid_lines content.books.tickets)
+  pub right : ArePaidRight content.books
+  pub conserved : IsConserved content.books
+
+-- For every sequence of command lines over one store in files, whatever these first held: each line put some attempts. Whichever of their
+-- replies arrived, the files hold what was sent, once, and it is right.
+abbrev pub AccountsForLines : Type 0
+AccountsForLines = (first found : Image) (start : Content) (lines : List Turn) → HoldsContent first start → RanLines first lines found
+    → ∥ ((ran : List (Option (List Attempt))) × ArePutBy lines ran × ((events : List Event) → AreEventsOfLines ran events → ∥ IsAccounted start events found ∥₁)) ∥₁
