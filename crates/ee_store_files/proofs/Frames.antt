@@ -1,12 +1,12 @@
 -- Frames of a log, by their headers.
-use Rattle.std.proofs.Common.{◌≡◌, ◌≢◌, ◌↔◌, ◌+◌, ◌<◌, ◌≤◌, ◌∙◌, ℕ, Bool, true, false, List, length, slice_index, sym, ap, subst, subst₂, inl, inr, arith, add-zero}
+use Rattle.std.proofs.Common.{◌≡◌, ◌≢◌, ◌↔◌, ◌+◌, ◌<◌, ◌≤◌, ◌∙◌, ℕ, suc, Bool, true, false, List, length, slice_index, refl, sym, ap, subst, subst₂, inl, inr, arith, add-zero, add-one}
 use Rattle.std.proofs.lemmas.Bool.{cases_lt}
-use Rattle.sqlite_wal.specs.Format.{part, be32, IsSigned}
-use Rattle.sqlite_wal.specs.Recovery.{Image, frame_at, header, IsLogFor, Replays, AreFramesOf}
-use Rattle.sqlite_wal.proofs.PartLemmas.{slice_index-part, part-part}
+use Rattle.sqlite_wal.specs.Format.{part, be32, count_page, stored_sum, IsSigned, IsFrame}
+use Rattle.sqlite_wal.specs.Recovery.{Image, frame_at, frame, header, sum_before, IsLogFor, Replays, AreFramesOf}
+use Rattle.sqlite_wal.proofs.PartLemmas.{slice_index-part, part-part, frames_len-le}
 use Rattle.sqlite_wal.proofs.FormatLemmas.{be32-part}
 use Rattle.sqlite_wal.proofs.RecoveryLemmas.{replays_once}
-use Rattle.ee_store_files.specs.Damage.{BeginsAsLog, IsFrontOf, IsOpenAt, EndsOne, HasTwoMore, AreNumbersOf, page_at, IsSummed, LacksSum, IsReplaced, size_after, IsWrongAt, IsDamaged}
+use Rattle.ee_store_files.specs.Damage.{BeginsAsLog, HasLostHeader, IsFrontOf, IsOpenAt, EndsOne, HasTwoMore, IsFrameAt, IsCountAt, HasLaterCount, number_at, AreNumbersOf, page_at, IsSummed, LacksSum, IsReplaced, size_after, IsWrongAt, IsDamaged}
 
 module _ {page_size i : ℕ} {log front : List ℕ} (is : IsFrontOf page_size log i front) where
   at : ℕ
@@ -135,6 +135,39 @@ walk_ends has_one page_size log from to order it shut two =
       | inr high ↦ shut (two.is_open to order high)
     ]
 
+-- ---- counts
+
+-- whether a frame is a count, by its bytes and by those of the frame before it
+pub count_by : (page_size j : ℕ) (log head before bytes : List ℕ) → IsFrameAt page_size log j before → IsFrameAt page_size log (suc j) bytes → head ≡ header log
+    → (IsFrame head (stored_sum before 16) bytes × (be32 bytes 0 ≡ count_page)) ↔ IsCountAt page_size log (suc j)
+count_by page_size j log head before bytes was is head_is =
+    let number : be32 bytes 0 ≡ number_at page_size log (suc j) =
+    ap (λ (b : List ℕ). be32 b 0) is.read ∙ be32-part log (frame_at page_size (suc j)) (24 + page_size) 0 (omega arith) ∙ ap (be32 log) (add-zero (frame_at page_size (suc j))) in
+    let there : IsFrame head (stored_sum before 16) bytes ≡ IsFrame (header log) (sum_before page_size log (suc j)) (frame page_size log (suc j)) =
+    rw (head_is, was.read, is.read) refl in (
+      λ both. (record { within = is.within; passes = subst (λ (T : Type 0). T) there both.0 }, sym number ∙ both.1),
+      λ it. (subst (λ (T : Type 0). T) (sym there) it.0.passes, number ∙ it.1),
+    )
+
+-- the same of frame i, behind a frame with this checksum
+pub count_at : (page_size i j : ℕ) (log head before bytes : List ℕ) (sum : ℕ × ℕ) → j + 1 ≡ i → sum ≡ stored_sum before 16 → IsFrameAt page_size log j before → IsFrameAt page_size log i bytes
+    → head ≡ header log → (IsFrame head sum bytes × (be32 bytes 0 ≡ count_page)) ↔ IsCountAt page_size log i
+count_at page_size i j log head before bytes sum next sum_is was is head_is =
+    let at : suc j ≡ i = sym (add-one j) ∙ next in
+    let here : IsFrameAt page_size log (suc j) bytes = subst (λ n. IsFrameAt page_size log n bytes) (sym at) is in
+    subst₂ (λ (n : ℕ) (s : ℕ × ℕ). (IsFrame head s bytes × (be32 bytes 0 ≡ count_page)) ↔ IsCountAt page_size log n) at (sym sum_is) (count_by page_size j log head before bytes was here head_is)
+
+-- none of the frames between these two is a count
+abbrev pub AreUncounted : ℕ → List ℕ → ℕ → ℕ → Type 0
+AreUncounted page_size log from to = (i : ℕ) → from < i → i < to → ¬ IsCountAt page_size log i
+
+pub counts_none : (page_size : ℕ) (log : List ℕ) (from to : ℕ) → AreUncounted page_size log from to → length log < frame_at page_size to + (24 + page_size) → ¬ HasLaterCount page_size log from
+counts_none page_size log from to none ends (i, late, is) =
+    elim (cases_lt i to) [
+      | inl low ↦ none i late low is
+      | inr high ↦ (let above = frames_len-le page_size to i high in let within = is.0.within in absurd (omega arith))
+    ]
+
 -- ---- pages without checksums
 
 pub lacks_by : (page_size : ℕ) (log numbers : List ℕ) (i : ℕ) → AreNumbersOf page_size log numbers → i < length numbers → slice_index numbers i ≤ size_after page_size log (length numbers)
@@ -154,12 +187,16 @@ numbers_of page_size log numbers frames i low =
 
 -- ---- the whole log
 
-pub not_begun : (image : Image) → ¬ BeginsAsLog image.log → ¬ IsDamaged image
-not_begun image lacks (inl broken) = lacks broken.0
-not_begun image lacks (inr found') =
+pub first_byte : (log : List ℕ) → IsSigned (header log) → slice_index log 0 ≡ 0x37
+first_byte log signed = sym (slice_index-part log 0 32 0 (omega arith)) ∙ signed.first
+
+pub not_begun : (image : Image) → ¬ BeginsAsLog image.log → ¬ HasLostHeader image.log → ¬ IsDamaged image
+not_begun image lacks unlost (inl broken) = lacks broken.0
+not_begun image lacks unlost (inr (inl lost)) = unlost lost
+not_begun image lacks unlost (inr (inr found')) =
     elim (cases_lt (length image.log) 56) [
       | inl short ↦ found'.1.named.0 (inl short)
-      | inr long ↦ found'.1.named.0 (inr (λ signed. lacks (omega arith, sym (slice_index-part image.log 0 32 0 (omega arith)) ∙ signed.first)))
+      | inr long ↦ found'.1.named.0 (inr (λ signed. lacks (omega arith, first_byte image.log signed)))
     ]
 
 pub named_by : (log : List ℕ) (page_size : ℕ) → BeginsAsLog log → IsSigned (header log) → page_size ≡ be32 (header log) 8 → IsLogFor page_size log
@@ -169,10 +206,11 @@ named_by log page_size begins signed size =
 pub damaged_if : (page_size : ℕ) (image : Image) (k : ℕ) → IsSigned (header image.log) → IsLogFor page_size image.log → Replays page_size image.log k
     → IsWrongAt page_size image k ↔ IsDamaged image
 damaged_if page_size image k signed named replays = (
-  λ wrong. inr (page_size, record { k = k; named = named; replays = replays; wrong = wrong }),
+  λ wrong. inr (inr (page_size, record { k = k; named = named; replays = replays; wrong = wrong })),
   λ damaged. elim damaged [
     | inl broken ↦ absurd (broken.1 signed)
-    | inr found ↦
+    | inr (inl lost) ↦ absurd (lost.1 (first_byte image.log signed))
+    | inr (inr found) ↦
         let size : page_size ≡ found.0 = sym named.1 ∙ found.1.named.1 in
         let there : Replays page_size image.log found.1.k = subst (λ n. Replays n image.log found.1.k) (sym size) found.1.replays in
         let same : found.1.k ≡ k = replays_once page_size image.log found.1.k k there replays in

@@ -1,3 +1,4 @@
+mod Counts
 mod Failing
 mod Frames
 mod Left

@@ -19,7 +19,7 @@ pub whole_if_empty : (image : Image) → IsUncreated image → ¬ IsOrphan image
 whole_if_empty image uncreated with_its_file =
     elim (cases_lt 0 (length image.db)) [
       | inl some ↦ inl (uncreated, some)
-      | inr none ↦ inr (λ damaged. with_its_file (omega (arith, none), λ creation. not_begun image (creation_is_short image.log creation) damaged))
+      | inr none ↦ inr (λ damaged. with_its_file (omega (arith, none), λ creation. not_begun image (creation_is_short image.log creation) (λ lost. omega (arith, creation.0, lost.0)) damaged))
     ]
 
 pub spares_held : SparesHeld

@@ -12,7 +12,7 @@ use Rattle.sqlite_wal.specs.declared.recover.Mark.{Mark}
 use Rattle.sqlite_wal.specs.Index.{Index, gate_of, key_of, opened, Shares}
 use Rattle.sqlite_wal.specs.Log.{state, durable, newest, end_of}
 use Rattle.sqlite_wal.proofs.StateLemmas.{clean_of, ready_of}
-use Rattle.sqlite_wal.proofs.LogLemmas.{SeenMayStay, sound_of, durable_frames}
+use Rattle.sqlite_wal.proofs.LogLemmas.{SeenMayStay, sound_of, durable_frames, log_signed}
 use Rattle.sqlite_wal.proofs.FileLemmas.{content-frame, page_latest, pages_inside}
 use Rattle.sqlite_pool.specs.Stored.{reserved, stored_size, sealed}
 use Rattle.sqlite_pool.specs.Pool.{state as pool_state}
@@ -21,7 +21,7 @@ use Rattle.sqlite_wal.proofs.SoundLemmas.{opened_by_key}
 use Rattle.sqlite_wal.proofs.RecoveryLemmas.{replays_once, replays_no_fewer, IsCommitted-shares, Shares-torn, Shares-trans, Shares-refl}
 use Rattle.ee_store_files.specs.Damage.{IsOpenAt, EndsOne, HasTwoMore, page_at, size_after, HasUnsummed}
 use Rattle.ee_store_files.specs.Stops.{IsHalfWritten, IsStoppedAt, SparesStopped, IsBroken, SparesOpen, SparesSynced, SparesOneSync, SparesSummed, SparesStore}
-use Rattle.ee_store_files.proofs.Frames.{not_begun}
+use Rattle.ee_store_files.proofs.Frames.{not_begun, first_byte}
 
 -- a number of four bytes is 0 if each of them is, and only then
 zero_bytes : (b : List ℕ) (at i : ℕ) → be32 b at ≡ 0 → i < 4 → slice_index b (at + i) ≡ 0
@@ -91,18 +91,20 @@ not_two page_size log k j it replays two =
 pub spares_stopped : SparesStopped
 spares_stopped image it damaged =
     elim it.log [
-      | inl unbegun ↦ not_begun image unbegun damaged
+      | inl unbegun ↦ not_begun image unbegun.0 unbegun.1 damaged
       | inr stopped ↦
           let (page_size, k, at) = stopped in
           elim damaged [
             | inl broken ↦ broken.1 at.committed.head.signed
-            | inr found ↦
+            | inr (inl lost) ↦ lost.1 (first_byte image.log at.committed.head.signed)
+            | inr (inr found) ↦
                 let (n, found') = found in
                 elim found'.wrong [
                   | inl two ↦
                       let size : n ≡ page_size = sym found'.named.1 ∙ sym (be32-part image.log 0 32 8 (omega arith)) ∙ at.committed.head.size in
                       not_two page_size image.log k found'.k at (subst (λ x. Replays x image.log found'.k) size found'.replays) (subst (λ x. HasTwoMore x image.log found'.k) size two)
-                  | inr lack ↦
+                  | inr (inl later) ↦ it.counts n found'.k found'.replays later
+                  | inr (inr lack) ↦
                       let (i, low, lacks) = lack.1 in
                       lacks.lacks (it.sums lack.0 n found'.k found'.replays i low lacks.kept)
                 ]
@@ -231,17 +233,19 @@ named_size n m k log named (inr taken) = sym named.1 ∙ sym (be32-part log 0 32
 
 pub spares_store : {D : Type 0} (g : Ghosts D) → SeenMayStay g → SparesStore g
 unfolding pool_state
-spares_store g stays it is_open image may sums damaged =
+spares_store g stays it is_open image may sums counts damaged =
     let log = it.pool.backing.pager.log in
     let whole = spares_open g log (and_parts _ _ is_open).1 image.log may.1.0 in
     let found = (settled it.pool stays is_open).durable image may in
     elim damaged [
       | inl broken ↦ whole (inl broken)
-      | inr both ↦
+      | inr (inl lost) ↦ lost.1 (log_signed log (and_parts _ _ is_open).1 image.log may.1.0).1
+      | inr (inr both) ↦
           let (n, found') = both in
           elim found'.wrong [
             | inl two ↦ whole (inr (n, found'.k, found'.named, found'.replays, two))
-            | inr lack ↦
+            | inr (inl later) ↦ counts n found'.k found'.replays later
+            | inr (inr lack) ↦
                 let size = (pool_state it.pool).page_size in
                 let same : n ≡ stored_size size = named_size n (stored_size size) found.found.frames image.log found'.named found.found.replays in
                 spares_summed size image (pool_state it.pool).committed (sums lack.0) found found'.k

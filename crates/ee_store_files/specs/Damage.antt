@@ -1,7 +1,7 @@
 -- A log that was damaged, or written by another program: what no stop of this one leaves.
 use Rattle.std.specs.Prelude.{◌≡◌, ◌≢◌, ◌⊎◌, ◌+◌, ◌-◌, ◌<◌, ◌≤◌, ℕ, List, length, slice_index, take}
-use Rattle.sqlite_wal.specs.Format.{part, be32, IsSigned}
-use Rattle.sqlite_wal.specs.Recovery.{Image, frame_at, header, IsLogFor, Replays}
+use Rattle.sqlite_wal.specs.Format.{part, be32, count_page, IsSigned}
+use Rattle.sqlite_wal.specs.Recovery.{Image, frame_at, frame, header, Passes, IsLogFor, Replays}
 use Rattle.sqlite_pool.specs.Stored.{sealed}
 
 -- the file has room for a header and a frame's header, and its first byte is that of a log
@@ -11,6 +11,10 @@ BeginsAsLog log = (56 ≤ length log) × (slice_index log 0 ≡ 0x37)
 -- The header fails its checksum. Recovery would take the file for no log, and drop all of its frames.
 abbrev pub HasBrokenHeader : List ℕ → Type 0
 HasBrokenHeader log = BeginsAsLog log × (¬ IsSigned (header log))
+
+-- The first three bytes are not those of a log, in a file with room for a frame. A header that is being written has all but the first.
+abbrev pub HasLostHeader : List ℕ → Type 0
+HasLostHeader log = (56 ≤ length log) × (slice_index log 0 ≢ 0x37) × ((slice_index log 1 ≢ 0x7f) ⊎ (slice_index log 2 ≢ 0x06))
 
 -- Frame i is in the file, and its gate is open: the first byte of its salt, which is written last, is the header's.
 pub record IsOpenAt (page_size : ℕ) (log : List ℕ) (i : ℕ) : Type 0 where
@@ -40,6 +44,19 @@ pub record HasTwoMore (page_size : ℕ) (log : List ℕ) (k : ℕ) : Type 0 wher
 -- the number of the page that frame i has
 abbrev pub number_at : ℕ → List ℕ → ℕ → ℕ
 number_at page_size log i = be32 log (frame_at page_size i)
+
+-- frame i is in the file, and has these bytes
+pub record IsFrameAt (page_size : ℕ) (log : List ℕ) (i : ℕ) (bytes : List ℕ) : Type 0 where
+  pub within : frame_at page_size i + (24 + page_size) ≤ length log
+  pub read : bytes ≡ frame page_size log i
+
+-- frame i has the salt of the log and a right checksum, computed on from that of the frame before it, and is a count
+abbrev pub IsCountAt : ℕ → List ℕ → ℕ → Type 0
+IsCountAt page_size log i = Passes page_size log i × (number_at page_size log i ≡ count_page)
+
+-- Such a count stands behind frame k. A transaction begins with its count once all frames before it were synced.
+abbrev pub HasLaterCount : ℕ → List ℕ → ℕ → Type 0
+HasLaterCount page_size log k = (i : ℕ) × (k < i) × IsCountAt page_size log i
 
 -- the first frames have the pages of these numbers
 abbrev pub AreNumbersOf : ℕ → List ℕ → List ℕ → Type 0
@@ -75,11 +92,12 @@ IsReplaced numbers i = (j : ℕ) × (i < j) × (j < length numbers) × (slice_in
 abbrev pub SaysSums : List ℕ → Type 0
 SaysSums db = (24 ≤ length db) × (be32 db 20 ≡ 0x0840_2020)
 
--- two transactions stand behind the first k frames, or one of these has a page that lacks its checksum
+-- two transactions or a later count stand behind the first k frames, or one of these has a page that lacks its checksum
 abbrev pub IsWrongAt : ℕ → Image → ℕ → Type 0
-IsWrongAt page_size image k = HasTwoMore page_size image.log k ⊎ (SaysSums image.db × HasUnsummed page_size image.log k)
+IsWrongAt page_size image k =
+    HasTwoMore page_size image.log k ⊎ (HasLaterCount page_size image.log k ⊎ (SaysSums image.db × HasUnsummed page_size image.log k))
 
--- recovery takes k frames of the log, and one of the two holds
+-- recovery takes k frames of the log, and one of the three holds
 pub record IsWrong (page_size : ℕ) (image : Image) : Type 0 where
   pub k : ℕ
   pub named : IsLogFor page_size image.log
@@ -88,4 +106,4 @@ pub record IsWrong (page_size : ℕ) (image : Image) : Type 0 where
 
 -- the log is not what a stop leaves
 abbrev pub IsDamaged : Image → Type 0
-IsDamaged image = HasBrokenHeader image.log ⊎ ((page_size : ℕ) × IsWrong page_size image)
+IsDamaged image = HasBrokenHeader image.log ⊎ (HasLostHeader image.log ⊎ ((page_size : ℕ) × IsWrong page_size image))

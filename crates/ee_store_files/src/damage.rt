@@ -1,19 +1,20 @@
 //! Tells a damaged log from one that a loss of power left torn. Nothing is written.
 //!
 //! Each transaction is synced before the next is begun. So behind the last frame that recovery takes, a stop
-//! leaves one transaction at most. If two stand there, a frame before them was damaged, and recovery would drop
-//! replies that were given. A page without its checksum was written by another program.
+//! leaves one transaction at most. If two stand there, or the count with which a later one begins, a frame before
+//! them was damaged, and recovery would drop replies that were given. A page without its checksum was written by
+//! another program.
 
-ghost use Rattle.std.specs.Prelude.{◌≡◌, ◌+◌, ◌^◌, ◌%◌, ◌<◌, ◌≤◌, ◌↔◌, ◌≢◌, length, IsTrue, IfOk, IfErr, OnOk, MatchOption};
+ghost use Rattle.std.specs.Prelude.{◌≡◌, ◌+◌, ◌^◌, ◌%◌, ◌<◌, ◌≤◌, ◌↔◌, ◌≢◌, false, length, IsTrue, IfOk, IfErr, OnOk, MatchOption};
 ghost use Rattle.sqlite_disk.specs.Disk.{CountsFault, CountsFaultIf};
-ghost use Rattle.sqlite_wal.specs.Format.{part, be32, IsSigned};
+ghost use Rattle.sqlite_wal.specs.Format.{part, be32, count_page, stored_sum, IsSigned, IsFrame};
 ghost use Rattle.sqlite_wal.specs.Recovery.{frame_at, frames_len as wal_len, header};
 ghost use Rattle.sqlite_wal.specs.Reads.{IsClean, AreClean, OnlyReads};
 ghost use Rattle.sqlite_wal.specs.PageSize.{bytes_of};
 ghost use Rattle.sqlite_pool.specs.Stored.{sum_bytes};
 ghost use Rattle.sqlite.specs.Opening.{is_open_error};
 ghost use Rattle.sqlite.specs.Files.{image_of, faults_of};
-ghost use Rattle.ee_store_files.specs.Damage.{BeginsAsLog, IsFrontOf, IsOpenAt, EndsOne, HasTwoMore, page_at, IsSummed, AreNumbersOf, IsReplaced, size_after, LacksSum, HasUnsummed, SaysSums, IsWrongAt, IsDamaged};
+ghost use Rattle.ee_store_files.specs.Damage.{BeginsAsLog, HasLostHeader, IsFrontOf, IsOpenAt, EndsOne, HasTwoMore, IsFrameAt, HasLaterCount, page_at, IsSummed, AreNumbersOf, IsReplaced, size_after, LacksSum, HasUnsummed, SaysSums, IsWrongAt, IsDamaged};
 ghost use Rattle.ee_store_files.specs.Opening.{Fails, FailsToRead, IsLongFor};
 
 use crate::errors::{DAMAGED, FULL, IO, NO_MEMORY, probe_error};
@@ -35,6 +36,12 @@ const SALT: usize = 16;
 
 /// The offset of a frame's salt. Its first byte is the gate.
 const GATE: usize = 8;
+
+/// The offset of a frame's checksum.
+const SUM: usize = 16;
+
+/// The page number of a frame that counts what its transaction lacks.
+const COUNT_PAGE: u32 = 0xff00_0000;
 
 /// The number at offset 20 of a database file whose pages end in checksums.
 const WITH_SUMS: u32 = 0x0840_2020;
@@ -81,6 +88,22 @@ pub fn read_header<D: Disk>(log: &mut D) -> io::Result<Option<[u8; 32]>>
     } else {
         Ok(None)
     }
+}
+
+/// Whether a file that doesn't begin as a log has room for a frame, and lacks a header that is being written.
+fn has_lost_header<D: Disk>(log: &mut D) -> io::Result<bool>
+    requires { IsTrue (D.Disk.is_usable log.old) }
+    ensures ok { IfOk result (λ b. IsClean D.Disk log.new → (IsTrue b ↔ HasLostHeader (D.Disk.seen log.old))) }
+    ensures faults { CountsFault result (D.Disk.faults log.old) (D.Disk.faults log.new) }
+    ensures same { OnlyReads D.Disk log.old log.new }
+{
+    let len = log.len()?;
+    if len < HEADER + FRAME {
+        return Ok(false);
+    }
+    let mut first = [0; 3];
+    log.read_at(0, &mut first)?;
+    Ok(first[0] != 0x37 && (first[1] != 0x7f || first[2] != 0x06))
 }
 
 /// The length of `frames` frames with their headers.
@@ -202,6 +225,124 @@ fn has_two_more<D: Disk>(
         }
     }
     Err(FULL)
+}
+
+/// The checksum that the frame has.
+fn checksum_at(frame: &[u8]) -> (u32, u32)
+    requires { 24 ≤ length frame.now }
+    ensures { result ≡ stored_sum frame.now 16 }
+{
+    (be32_at(frame, SUM), be32_at(frame, SUM + 4))
+}
+
+/// Whether this frame is a count of the log with the header `head`, and passes its checksum behind a frame that has
+/// the checksum `before`.
+fn is_count(head: &[u8; 32], before: (u32, u32), frame: &[u8]) -> bool
+    requires { 24 ≤ length frame.now }
+    ensures { IsTrue result ↔ (IsFrame head.now before frame.now × (be32 frame.now 0 ≡ count_page)) }
+{
+    if frame[8..16] != head[16..24] || be32_at(frame, 0) != COUNT_PAGE {
+        return false;
+    }
+    let is_big = head[3] == 0x83;
+    let front = checksum_of(is_big, before, &frame[..8]);
+    checksum_of(is_big, front, &frame[24..]) == checksum_at(frame)
+}
+
+/// Reads frame `i`. `false` if the file ends before the frame does.
+fn read_frame<D: Disk>(
+    log: &mut D,
+    len: usize,
+    page_size: usize,
+    i: usize,
+    frame: &mut [u8],
+) -> io::Result<bool>
+    requires usable { IsTrue (D.Disk.is_usable log.old) }
+    requires len { IsClean D.Disk log.old → len ≡ length (D.Disk.seen log.old) }
+    requires size { page_size ≤ 65536 }
+    requires few { i ≤ 0xffff_ffff }
+    requires frame { length frame.old ≡ 24 + page_size }
+    ensures read { IfOk result (λ b. IsClean D.Disk log.new → IsTrue b → IsFrameAt page_size (D.Disk.seen log.old) i frame.new) }
+    ensures ends { IfOk result (λ b. IsClean D.Disk log.new → b ≡ false → length (D.Disk.seen log.old) < frame_at page_size i + (24 + page_size)) }
+    ensures faults { CountsFault result (D.Disk.faults log.old) (D.Disk.faults log.new) }
+    ensures same { OnlyReads D.Disk log.old log.new }
+{
+    let at = frame_offset(page_size, i);
+    if len < at + (FRAME + page_size) {
+        return Ok(false);
+    }
+    log.read_at(at, frame)?;
+    Ok(true)
+}
+
+/// The same as `has_later_count`, with room for a frame.
+fn finds_count<D: Disk>(
+    log: &mut D,
+    head: &[u8; 32],
+    page_size: usize,
+    from: usize,
+    frame: &mut [u8],
+) -> Result<bool, Error>
+    requires usable { IsTrue (D.Disk.is_usable log.old) }
+    requires head { IsClean D.Disk log.old → head.now ≡ header (D.Disk.seen log.old) }
+    requires size { page_size ≤ 65536 }
+    requires few { from ≤ 0xffff_ffff }
+    requires frame { length frame.old ≡ 24 + page_size }
+    ensures named { IfErr result (λ e. IsTrue (is_open_error e)) }
+    ensures ok { IfOk result (λ b. IsClean D.Disk log.new → (IsTrue b ↔ HasLaterCount page_size (D.Disk.seen log.old) from)) }
+    ensures counts { D.Disk.faults log.old ≤ D.Disk.faults log.new }
+    ensures cause { IfErr result (λ e. IsClean D.Disk log.new
+        → Fails (D.Disk.faults log.old) (D.Disk.faults log.new) (IsLongFor page_size (D.Disk.seen log.old)) e) }
+    ensures same { OnlyReads D.Disk log.old log.new }
+{
+    let Ok(len) = log.len() else {
+        return Err(IO);
+    };
+    match read_frame(log, len, page_size, from, frame) {
+        Ok(true) => {}
+        Ok(false) => return Ok(false),
+        Err(_) => return Err(IO),
+    }
+    for i in from + 1..0xffff_ffff {
+        let before = checksum_at(frame);
+        match read_frame(log, len, page_size, i, frame) {
+            Ok(true) => {}
+            Ok(false) => return Ok(false),
+            Err(_) => return Err(IO),
+        }
+        if is_count(head, before, frame) {
+            return Ok(true);
+        }
+    }
+    Err(FULL)
+}
+
+/// Whether a count of the log stands behind the frame after its first `from` frames.
+///
+/// # Errors
+///
+/// A log of 2^32 frames is refused as full, as recovery refuses it.
+fn has_later_count<D: Disk>(
+    alloc: Global,
+    log: &mut D,
+    head: &[u8; 32],
+    size: PageSize,
+    from: usize,
+) -> Result<bool, Error>
+    requires usable { IsTrue (D.Disk.is_usable log.old) }
+    requires head { IsClean D.Disk log.old → head.now ≡ header (D.Disk.seen log.old) }
+    requires few { from ≤ 0xffff_ffff }
+    ensures named { IfErr result (λ e. IsTrue (is_open_error e)) }
+    ensures ok { IfOk result (λ b. IsClean D.Disk log.new → (IsTrue b ↔ HasLaterCount (bytes_of size) (D.Disk.seen log.old) from)) }
+    ensures counts { D.Disk.faults log.old ≤ D.Disk.faults log.new }
+    ensures cause { IfErr result (λ e. IsClean D.Disk log.new
+        → Fails (D.Disk.faults log.old) (D.Disk.faults log.new) (IsLongFor (bytes_of size) (D.Disk.seen log.old)) e) }
+    ensures same { OnlyReads D.Disk log.old log.new }
+{
+    let Ok(mut frame) = vec![in alloc; 0; FRAME + size.bytes()] else {
+        return Err(NO_MEMORY);
+    };
+    finds_count(log, head, size.bytes(), from, &mut frame)
 }
 
 /// The checksum that a page with these bytes ends in.
@@ -345,8 +486,8 @@ fn says_sums<D: Disk>(db: &mut D) -> io::Result<bool>
     Ok(be32_at(&field, 0) == WITH_SUMS)
 }
 
-/// Whether two transactions stand behind the frames that recovery takes, whose page numbers are `numbers`, or one
-/// of those frames has a page without its checksum.
+/// Whether two transactions or a later count stand behind the frames that recovery takes, whose page numbers are
+/// `numbers`, or one of those frames has a page without its checksum.
 fn is_wrong<D: Disk>(
     alloc: Global,
     files: &mut Files<D>,
@@ -367,6 +508,9 @@ fn is_wrong<D: Disk>(
     ensures db { OnlyReads D.Disk files.old.db files.new.db }
 {
     if has_two_more(&mut files.log, head, size.bytes(), numbers.len())? {
+        return Ok(true);
+    }
+    if has_later_count(alloc, &mut files.log, head, size, numbers.len())? {
         return Ok(true);
     }
     match says_sums(&mut files.db) {
@@ -394,7 +538,12 @@ pub fn is_damaged<D: Disk>(alloc: Global, files: &mut Files<D>) -> Result<bool, 
 {
     let head = match read_header(&mut files.log) {
         Ok(Some(head)) => head,
-        Ok(None) => return Ok(false),
+        Ok(None) => {
+            let Ok(is_lost) = has_lost_header(&mut files.log) else {
+                return Err(IO);
+            };
+            return Ok(is_lost);
+        }
         Err(_) => return Err(IO),
     };
     if !is_signed(&head) {

@@ -1,4 +1,5 @@
 use Rattle.ee_store_files.proofs.Stops.{spares_stopped, spares_summed, spares_store, spares_open, spares_synced, spares_one_sync}
+use Rattle.ee_store_files.proofs.Counts.{none_synced, none_at_once}
 use Rattle.ee_store_files.proofs.laws.spares_stopped_law.Goals as goal
 
 pub returns-clause-stopped : goal.returns-clause-stopped
@@ -18,3 +19,9 @@ returns-clause-synced g c = spares_synced g.D.Disk
 
 pub returns-clause-at_once : goal.returns-clause-at_once
 returns-clause-at_once g c = spares_one_sync g.D.Disk
+
+pub returns-clause-counts_synced : goal.returns-clause-counts_synced
+returns-clause-counts_synced g c = none_synced g.D.Disk
+
+pub returns-clause-counts_at_once : goal.returns-clause-counts_at_once
+returns-clause-counts_at_once g c = none_at_once g.D.Disk
