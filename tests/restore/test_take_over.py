@@ -49,7 +49,7 @@ def test_damaged_log(
     program = run(day.program, "export", "7", "--db", copied(day.store, tmp_path / "asked"))
     refused = run(TAKE_OVER, day.store, new, day.program)
     assert refused.returncode == 1 and "stands behind damage" in refused.stderr, refused.stderr
-    assert not new.exists() and "store: StoreFailed" in program.stderr or kind != "a bit"
+    assert not new.exists() and "store: StoreFailed" in program.stderr
     taken = run(
         TAKE_OVER, day.store, new, day.program, "--drop-after-damage", "--archive", day.archive
     )
