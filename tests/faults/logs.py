@@ -1,0 +1,216 @@
+"""Logs of stores: which of them docs/FORMATS.md calls damaged, logs made by hand, and what a disk does to one.
+
+The rule is written here again, apart from the program, so that both can be compared."""
+
+from __future__ import annotations
+
+import functools
+import random
+import struct
+from dataclasses import dataclass
+from typing import Callable
+
+#: The page number of a count, the version of a log's header, and the sizes that a page may have.
+COUNT_PAGE, VERSION = 0xFF000000, 3007000
+PAGE_SIZES = tuple(512 << n for n in range(8))
+#: The length of the log of a new store, and its count of checkpoints.
+NEW_LOG, MARK = 41, b"\xff" * 4
+SALT = b"\x01\x02\x03\x04\x05\x06\x07\x08"
+#: The two sums of a checksum.
+Sums = tuple[int, int]
+
+
+def number(content: bytes, at: int) -> int:
+    return int.from_bytes(content[at : at + 4], "big") if at + 4 <= len(content) else 0
+
+
+@functools.lru_cache(maxsize=1 << 16)
+def checksum(is_big: bool, sums: Sums, content: bytes) -> Sums:
+    first, second = sums
+    words = struct.unpack(f"{'>' if is_big else '<'}{len(content) // 4}I", content)
+    for one, other in zip(words[::2], words[1::2]):
+        first = (first + one + second) & 0xFFFFFFFF
+        second = (second + other + first) & 0xFFFFFFFF
+    return first, second
+
+
+def page_sum(page: bytes) -> bytes:
+    return struct.pack("<II", *checksum(False, (0, 0), page))
+
+
+class Log:
+    """A log's header, and the numbers of the pages in the frames that recovery takes."""
+
+    def __init__(self, content: bytes) -> None:
+        self.content = content
+        self.is_log = len(content) >= 56 and content[0] == 0x37
+        self.is_big = content[3:4] == b"\x83"
+        self.is_signed = (
+            self.is_log
+            and content[1:3] == b"\x7f\x06"
+            and content[3] in (0x82, 0x83)
+            and checksum(self.is_big, (0, 0), content[:24]) == self.sums_at(24)
+        )
+        self.page_size = number(content, 8)
+        self.is_known = number(content, 4) == VERSION and self.page_size in PAGE_SIZES
+        self.taken = self.taken_frames() if self.is_signed and self.is_known else []
+
+    def sums_at(self, at: int) -> Sums:
+        return number(self.content, at), number(self.content, at + 4)
+
+    def at(self, frame: int) -> int:
+        return 32 + frame * (24 + self.page_size)
+
+    def has(self, frame: int) -> bool:
+        return self.at(frame + 1) <= len(self.content)
+
+    def page_number(self, frame: int) -> int:
+        return number(self.content, self.at(frame))
+
+    def size(self, frame: int) -> int:
+        return number(self.content, self.at(frame) + 4)
+
+    def is_open(self, frame: int) -> bool:
+        return self.has(frame) and self.content[self.at(frame) + 8] == self.content[16]
+
+    def is_ours(self, frame: int) -> bool:
+        return self.content[self.at(frame) + 8 : self.at(frame) + 16] == self.content[16:24]
+
+    def page(self, frame: int) -> bytes:
+        return self.content[self.at(frame) + 24 : self.at(frame + 1)]
+
+    def passes(self, frame: int) -> bool:
+        """Whether SQLite takes a frame, behind the frame before it."""
+        if not self.has(frame) or not self.is_ours(frame) or self.page_number(frame) == 0:
+            return False
+        at = self.at(frame)
+        before = self.sums_at(self.at(frame - 1) + 16 if frame else 24)
+        front = checksum(self.is_big, before, self.content[at : at + 8])
+        return checksum(self.is_big, front, self.page(frame)) == self.sums_at(at + 16)
+
+    def taken_frames(self) -> list[int]:
+        frame = taken = 0
+        while self.passes(frame):
+            frame += 1
+            taken = frame if self.size(frame - 1) else taken
+        return [self.page_number(one) for one in range(taken)]
+
+    def ends(self) -> list[int]:
+        """The frames that end the transactions that recovery takes."""
+        return [frame for frame in range(len(self.taken)) if self.size(frame)]
+
+    def end(self) -> int:
+        """Where the frames end that recovery takes."""
+        return self.at(len(self.taken))
+
+    def behind(self) -> range:
+        """The frames behind those that recovery takes."""
+        return range(len(self.taken), (len(self.content) - 32) // (24 + self.page_size))
+
+    def has_two_more(self) -> bool:
+        frame, found = len(self.taken), 0
+        while found < 2 and self.is_open(frame):
+            found += self.is_ours(frame) and self.size(frame) != 0
+            frame += 1
+        return found == 2
+
+    def has_later_count(self) -> bool:
+        later = (frame for frame in self.behind()[1:] if self.page_number(frame) == COUNT_PAGE)
+        return any(self.passes(frame) for frame in later)
+
+    def lacks_sum(self) -> bool:
+        newest = {page: frame for frame, page in enumerate(self.taken) if page != COUNT_PAGE}
+        pages = (self.page(frame) for frame in newest.values())
+        return any(page[-8:] != page_sum(page[:-8]) for page in pages)
+
+
+def is_refused(file: bytes, log: Log) -> bool:
+    """Whether the program has to refuse a log beside a file."""
+    begins = log.content[:1] == b"\x37"
+    if not file:
+        return len(log.content) > NEW_LOG or (begins and log.content[12:16] != MARK)
+    if not log.is_log:
+        return len(log.content) >= 56 and not begins and log.content[1:3] != b"\x7f\x06"
+    if not log.is_signed or not log.is_known or log.has_two_more() or log.has_later_count():
+        return True
+    return number(file, 20) == 0x08402020 and log.lacks_sum()
+
+
+# ---- logs by hand
+
+
+@dataclass
+class Transaction:
+    """The pages that a transaction writes, by their numbers, and the size of the database at its end."""
+
+    pages: list[tuple[int, bytes]]
+    size: int
+
+    def counted(self) -> Transaction:
+        """The same behind a frame that counts what it lacks."""
+        zeros = sum(page.count(0) + COUNT_PAGE - at for at, page in self.pages)
+        blank = bytes(len(self.pages[0][1]) - 8)
+        said = len(blank) + zeros + COUNT_PAGE - self.size
+        return Transaction([(COUNT_PAGE, struct.pack(">Q", said) + blank), *self.pages], self.size)
+
+
+def made_log(page_size: int, transactions: list[Transaction], salt: bytes = SALT) -> bytes:
+    log = bytes.fromhex("377f0682") + struct.pack(">III", VERSION, page_size, 5) + salt
+    sums = checksum(False, (0, 0), log)
+    log += struct.pack(">II", *sums)
+    for one in transactions:
+        for place, (page, content) in enumerate(one.pages, 1):
+            front = struct.pack(">II", page, one.size if place == len(one.pages) else 0)
+            sums = checksum(False, checksum(False, sums, front), content)
+            log += front + salt + struct.pack(">II", *sums) + content
+    return log
+
+
+def with_bytes(content: bytes, at: int, new: bytes) -> bytes:
+    return content[:at] + new + content[at + len(new) :]
+
+
+def with_header(content: bytes, at: int, value: int) -> bytes:
+    """The log with this number in its header, and the header's checksum made anew."""
+    head = with_bytes(content[:24], at, struct.pack(">I", value))
+    return head + struct.pack(">II", *checksum(False, (0, 0), head)) + content[32:]
+
+
+def turned(content: bytes, at: int, bits: int = 1) -> bytes:
+    return with_bytes(content, at, bytes([content[at] ^ bits]))
+
+
+# ---- what a disk does to a log
+
+#: The log, where its last transaction ends, what the same file held before, and dice.
+Harm = Callable[[bytes, int, bytes, random.Random], bytes]
+
+
+def in_sector(size: int, put: Callable[[int, int, bytes, random.Random], bytes]) -> Harm:
+    """Other bytes in one sector of that size, up to the end of the file."""
+
+    def harmed(log: bytes, end: int, older: bytes, dice: random.Random) -> bytes:
+        at = dice.randrange(-(-end // size)) * size
+        return with_bytes(log, at, put(at, min(size, len(log) - at), older, dice))
+
+    return harmed
+
+
+def other_byte(log: bytes, end: int, older: bytes, dice: random.Random) -> bytes:
+    return turned(log, dice.randrange(end), dice.randrange(1, 256))
+
+
+def turned_bit(log: bytes, end: int, older: bytes, dice: random.Random) -> bytes:
+    return turned(log, dice.randrange(end), 1 << dice.randrange(8))
+
+
+HARMS: dict[str, Harm] = {
+    "a turned bit": turned_bit,
+    "another byte": other_byte,
+    "512 zeros": in_sector(512, lambda at, size, older, dice: bytes(size)),
+    "4096 zeros": in_sector(4096, lambda at, size, older, dice: bytes(size)),
+    "4096 older bytes": in_sector(
+        4096, lambda at, size, older, dice: older[at : at + size].ljust(size, b"\0")
+    ),
+    "512 random bytes": in_sector(512, lambda at, size, older, dice: dice.randbytes(size)),
+}
