@@ -2,7 +2,7 @@
 
 use crate::comparing::{assert_holds, assert_same};
 use ee_cli_program::{Stores, Unopened, run_words};
-use ee_cli_stores::{StoreFiles, Untold};
+use ee_cli_stores::{Untold, run_line};
 use ee_desk::ListKeeper;
 use std::alloc::Global;
 use std::process::Abort;
@@ -31,18 +31,8 @@ pub fn words(rt: &HostRuntime, abort: &impl Abort, line: &str) -> Vec<String> {
     words
 }
 
-/// Runs the line of those words over these stores.
-fn run_given<O: Stores>(
-    rt: &HostRuntime,
-    abort: &impl Abort,
-    stores: O,
-    words: &[String],
-    input: &str,
-) -> Ran {
-    let mut bytes = input.as_bytes();
-    let mut printed = Vec::new(rt.alloc());
-    let mut got = Vec::new(rt.alloc());
-    let status = run_words(rt, stores, words, false, &mut bytes, &mut printed, &mut got).status;
+/// What a line printed and reported, with its status.
+fn ended(abort: &impl Abort, printed: Vec<u8>, got: Vec<u8>, status: u8) -> Ran {
     Ran {
         printed: String::from_utf8(printed).expect(abort, "what is printed"),
         got: String::from_utf8(got).expect(abort, "what is got"),
@@ -59,12 +49,41 @@ pub fn run_over<O: Stores>(
     input: &str,
 ) -> Ran {
     let words = words(rt, abort, line);
-    run_given(rt, abort, stores, &words, input)
+    let mut bytes = input.as_bytes();
+    let mut printed = Vec::new(rt.alloc());
+    let mut got = Vec::new(rt.alloc());
+    let status = run_words(
+        rt,
+        stores,
+        &words,
+        false,
+        &mut bytes,
+        &mut printed,
+        &mut got,
+    )
+    .status;
+    ended(abort, printed, got, status)
+}
+
+/// Runs the line of these words over stores in files, as the program does, and returns its status.
+fn status_of(
+    rt: &HostRuntime,
+    words: &[String],
+    input: &str,
+    printed: &mut Vec<u8>,
+    got: &mut Vec<u8>,
+) -> u8 {
+    let mut bytes = input.as_bytes();
+    run_line(rt, Untold, words, false, &mut bytes, printed, got).status
 }
 
 /// Runs a line over stores in files.
 pub fn run(rt: &HostRuntime, abort: &impl Abort, line: &str, input: &str) -> Ran {
-    run_over(rt, abort, StoreFiles { rt, start: Untold }, line, input)
+    let words = words(rt, abort, line);
+    let mut printed = Vec::new(rt.alloc());
+    let mut got = Vec::new(rt.alloc());
+    let status = status_of(rt, &words, input, &mut printed, &mut got);
+    ended(abort, printed, got, status)
 }
 
 /// Stores in memory, each empty as it is opened, whatever its path is.
