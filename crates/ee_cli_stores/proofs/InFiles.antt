@@ -40,7 +40,7 @@ use Rattle.ee_cli_actions.specs.declared.faults.RunFault.{RunFault}
 use Rattle.ee_cli_value.specs.declared.endings.Outcome.{Outcome}
 use Rattle.ee_cli_value.specs.declared.endings.Outcome.TheVariants as outcome
 use Rattle.ee_cli_commands.specs.CommandLine.{Asked, value, apply, imports, export, sheet, serve}
-use Rattle.ee_cli_program.proofs.Opened.{tries_with}
+use Rattle.ee_cli_program.proofs.Lemmas.{tries_with}
 use Rattle.ee_cli_program.specs.Stores.{CarriesOver, Over, Since, Tries}
 use Rattle.ee_cli_program.specs.Statuses.{HasRun, IsRun}
 use Rattle.ee_cli_program.specs.declared.stores.Left.{Left}

@@ -2,7 +2,8 @@ use Rattle.std.proofs.Common.{refl, inr, inl, [], None}
 use Rattle.ee_cli_actions.specs.Actions.{ImportsInto}
 use Rattle.ee_keeper.specs.Keeping.{HasAfter}
 use Rattle.ee_cli_actions.proofs.Lemmas.{imports_with}
-use Rattle.ee_cli_program.proofs.Opened.{takes_enough, since_opened, tries_with}
+use Rattle.ee_cli_program.proofs.Lemmas.{tries_with}
+use Rattle.ee_cli_program.proofs.Opened.{takes_enough, since_opened}
 use Rattle.ee_cli_program.proofs.carrying.import.Goals as goal
 
 pub returns-in-Ok-clause-over : goal.returns-in-Ok-clause-over

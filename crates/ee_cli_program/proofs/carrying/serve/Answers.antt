@@ -2,7 +2,8 @@ use Rattle.std.proofs.Common.{refl, inr, ◌*◌, inl, []}
 use Rattle.ee_cli_actions.specs.Connections.{ServesAll}
 use Rattle.ee_keeper.specs.Keeping.{HasAfter}
 use Rattle.ee_cli_actions.proofs.Lemmas.{serves_all_with}
-use Rattle.ee_cli_program.proofs.Opened.{takes_enough, since_opened, tries_with}
+use Rattle.ee_cli_program.proofs.Lemmas.{tries_with}
+use Rattle.ee_cli_program.proofs.Opened.{takes_enough, since_opened}
 use Rattle.ee_cli_program.proofs.carrying.serve.Goals as goal
 
 pub returns-in-Ok-clause-over : goal.returns-in-Ok-clause-over
