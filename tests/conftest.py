@@ -60,9 +60,12 @@ MAKES = {
 #: Python's modules, with Debian's packages.
 MODULES = {
     "PIL": "python3-pil",
+    "build": "python3-build",
     "cryptography": "python3-cryptography",
+    "hatchling": "python3-hatchling",
     "hypothesis": "python3-hypothesis",
     "jsonschema": "python3-jsonschema",
+    "openpyxl": "python3-openpyxl",
     "selenium": "python3-selenium",
 }
 
