@@ -22,7 +22,7 @@ import pytest
 
 from tests.conftest import MEMORY
 from tests.faults import logs
-from tests.faults.logs import COUNT_PAGE, HARMS, Log, Transaction, is_refused
+from tests.faults.logs import HARMS, Log, Transaction, is_refused
 from tests.faults.logs import made_log, turned, with_bytes, with_header
 from tests.shared.counter_calls import ask, make_version_one, post, served
 
