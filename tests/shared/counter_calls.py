@@ -12,7 +12,7 @@ import subprocess
 import threading
 import time
 from pathlib import Path
-from typing import IO, Any, AnyStr, Callable, Iterable, Iterator, NoReturn, Sequence
+from typing import IO, Any, AnyStr, Callable, Iterable, Iterator, Sequence
 
 
 #: The status and the body of an answer.
@@ -37,16 +37,6 @@ BONDS = [
 ]
 
 
-def wrong(what: str, found: object = "") -> NoReturn:
-    raise AssertionError(f"{what}\n{found}")
-
-
-def right(is_right: object, what: str, found: object = "") -> None:
-    if not is_right:
-        wrong(what, found)
-    print(f"right: {what}", flush=True)
-
-
 def run(*words: str | Path, **more: Any) -> subprocess.CompletedProcess[str]:
     """How a command ended, with both of its outputs in one text."""
     return subprocess.run(
@@ -54,19 +44,10 @@ def run(*words: str | Path, **more: Any) -> subprocess.CompletedProcess[str]:
     )
 
 
-def done(*words: str | Path) -> str:
-    """What a command printed, which has to end with status 0."""
-    ran = run(*words)
-    if ran.returncode != 0:
-        wrong(f"{' '.join(map(str, words))} ended with status {ran.returncode}", ran.stdout)
-    return ran.stdout
-
-
 def matched(pattern: AnyStr, text: AnyStr) -> re.Match[AnyStr]:
     """Where a pattern is first in a text, which has to have it."""
     found = re.search(pattern, text)
-    if found is None:
-        wrong(f"nothing is like {pattern!r}", text)
+    assert found is not None, f"nothing is like {pattern!r} in {text!r}"
     return found
 
 
@@ -79,8 +60,7 @@ def piped(pipe: IO[AnyStr] | None) -> IO[AnyStr]:
 def replaced(text: str, changes: Iterable[tuple[str, str]]) -> str:
     """The text of a sample with each old part replaced, which has to be there."""
     for old, new in changes:
-        if old not in text:
-            wrong(f"the sample has no {old}")
+        assert old in text, f"the sample has no {old}"
         text = text.replace(old, new)
     return text
 
@@ -185,8 +165,7 @@ def ask(place: int | str, message: bytes, patience: float = 60) -> Answer | None
 def answered(place: int | str, message: bytes, patience: float = 60) -> Answer:
     """The answer to one message, which has to come."""
     answer = ask(place, message, patience)
-    if answer is None:
-        wrong("no answer came", message)
+    assert answer is not None, f"no answer came to {message!r}"
     return answer
 
 
