@@ -25,9 +25,9 @@ SHARE, REQUESTS = "/usr/share/ladwenpik", "/srv/requests/requests.log"
 SITE, PAGE = f"{SHARE}/nginx/nginx.conf", f"{SHARE}/teller/main.js"
 ACCEPTED = "/etc/counter/selftest_accepted"
 STAFF = blocks("WHO_MAY_DO_WHAT", "An authority on the counter's machine")[0]
-#: What the self-test mustn't change. nginx's logs, and what the archiver writes meanwhile, are left out.
+#: What the self-test mustn't change. nginx's logs, and what the archiver and Prometheus's exporter write meanwhile, are left out.
 STATE = r"""
-find /etc /usr/share/ladwenpik /var/lib /srv/copies /srv/requests /root -printf '%p %U %G %m %s %C@\n' | grep -v requests.log | sort
+find /etc /usr/share/ladwenpik /var/lib /srv/copies /srv/requests /root -printf '%p %U %G %m %s %C@\n' | grep -v -e requests.log -e /var/lib/prometheus | sort
 find /etc /var/lib/counter -type f -exec sha256sum {} + | sort
 ss -Hltn | sort; ss -Hlx | sort
 systemctl list-units --no-legend --plain --state=failed
