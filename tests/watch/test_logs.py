@@ -164,7 +164,7 @@ def test_deep_nesting(tmp_path: Path, broken: Path, what: str) -> None:
 
 def test_deep_nesting_of_an_archive(tmp_path: Path, broken: Path) -> None:
     (tmp_path / "end.json").write_text("[" * 100_000)
-    change(broken / "metrics", ", RecursionError", "")
+    change(broken / "metrics", "    RecursionError,\n", "")
     ends = []
     for files in (WATCH, broken):
         words = [*Watched(tmp_path, files).words[:-2], "--archive", str(tmp_path)]
