@@ -1,5 +1,5 @@
 //! Days with little memory, over any keeper: a request to which memory is refused isn't served, and changes nothing; it is
-//! served when it comes again. The script `tests/faults/refused_memory` refuses each request for memory in turn.
+//! served when it comes again. `tests/faults/test_refused_memory.py` refuses each request for memory in turn.
 
 use crate::answering::{has_rows, in_memory};
 use crate::comparing::{assert_same, prepared};

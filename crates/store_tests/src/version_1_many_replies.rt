@@ -125,7 +125,7 @@ fn answers_again(
 }
 
 /// The store is opened, at once or after memory was refused, and gives each number its first reply, unless memory
-/// is refused for that. The script `tests/faults/refused_memory` refuses each request for memory in turn.
+/// is refused for that. `tests/faults/test_refused_memory.py` refuses each request for memory in turn.
 #[test]
 fn refused_memory(rt: HostRuntime) {
     let alloc = rt.alloc();
