@@ -118,7 +118,7 @@ class Chromium:
         self.command("Emulation.setEmulatedMedia", features=[scheme])
 
     def pdf(self, width: float = 8.5, height: float = 11, colored: bool = False) -> bytes:
-        """The printed page, on paper of so many inches; `colored` with its backgrounds."""
+        """The printed page, on paper of this size in inches; `colored` with its backgrounds."""
         paper = {"paperWidth": width, "paperHeight": height, "preferCSSPageSize": False}
         made = self.command("Page.printToPDF", printBackground=colored, **paper)
         return base64.b64decode(made["data"])

@@ -39,7 +39,7 @@ def rate_text(hundredths: int) -> str:
 
 
 def random_rates(dice: random.Random, count: int = 190) -> Rates:
-    """Terms of so many periods; the extension is the fixed rate now and then."""
+    """Terms of this many periods; the extension is the fixed rate now and then."""
     found = {}
     for period in sorted(dice.sample(range(FIRST, LAST_ISSUE + 1, 6), count)):
         rate = dice.choice((0, 10, 350, 402, 2000)) if dice.random() < 0.1 else dice.randrange(2001)

@@ -60,7 +60,7 @@ SENTENCES = "return given[0].map((answer) => { const { says, advises } = page.in
 
 
 def test_words_of_codes() -> None:
-    """No code without a sentence of its own and something to do, and none that no document names."""
+    """Each code has a sentence of its own and something to do, and a document names it."""
     text = (TOP / "docs/STATUSES.md").read_text() + (TOP / "docs/FORMATS.md").read_text()
     documented: dict[int, str] = {69: "NotFound"}
     rows = re.findall(r"^\| ((?:\d\d)(?:, \d\d)*) \| (\w+(?:, \w+)*) \|", text, re.M)

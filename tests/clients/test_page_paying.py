@@ -224,7 +224,7 @@ def test_sum_differs(bank: Bank, page: Page) -> None:
 
 
 def test_selected_all(bank: Bank, page: Page) -> None:
-    """All bonds that can be paid are chosen at once, and their total is told before; a ticket's 100 are the most."""
+    """All bonds that can be paid are chosen at once, and the page says their total before; a ticket's 100 are the most."""
     bank.registers(TOO_YOUNG, bond("P7EE", 1000, "2006-03", 7), UNISSUED)
     bank.registers_many(60, 120)
     page.show_sheet(7)

@@ -39,7 +39,7 @@ UNWRITTEN = "This browser couldn't write the journal of this page."
 
 
 def test_storage_fails(bank: Bank, page: Page) -> None:
-    """Before a sending, between two, after the reply: what is told is true, the page goes on by itself, and the bond is paid once."""
+    """Before a sending, between two, after the reply: what the page says is true, the page goes on by itself, and the bond is paid once."""
     page.run(UNHANDLED)
     page.show_sheet(7)
     page.choose("L7EE")

@@ -244,7 +244,7 @@ def test_walk_in_of_unknown_groups(bank: Bank, new_page: NewPage) -> None:
 
 
 def test_walk_in_typed(bank: Bank, page: Page) -> None:
-    """A bond that can't be read or paid is told at once, and so are customers that don't fit."""
+    """A bond that can't be read or paid is named at once, and so are customers that don't fit."""
     page.go("walkin")
     page.type_walk_in("12EE", "60", "2010")
     assert len(page.all("#add-walkin .error")) == 3

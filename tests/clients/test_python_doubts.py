@@ -247,7 +247,7 @@ BAD_FILES = {
 
 @pytest.mark.parametrize("text, wanted", BAD_FILES.items())
 def test_bad_file(desk: Desk, text: str, wanted: str) -> None:
-    """Each fault of a file is told by its row, and nothing is sent."""
+    """The client names the row of each fault of a file, and nothing is sent."""
     file = desk.place / "bad.csv"
     file.write_text(text)
     with desk.counter() as counter, desk.untouched():
