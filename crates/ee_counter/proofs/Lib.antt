@@ -5,4 +5,7 @@ mod Turns
 mod Same
 mod Texts
 mod Streams
+mod Sizes
+mod Lengths
+mod Fitting
 pub mod Lemmas

@@ -1,5 +1,5 @@
 -- The answer to a message, given a content of books and kept replies.
-use Rattle.std.specs.Prelude.{◌≡◌, true, false, List, [], ◌∷◌, Result, Ok, Err, ⊤}
+use Rattle.std.specs.Prelude.{◌≡◌, true, false, ℕ, List, [], ◌∷◌, length, ◌+◌, ◌≤◌, Result, Ok, Err, ⊤}
 use Rattle.ee_desk_model.specs.PlainBooks.{PlainBooks}
 use Rattle.ee_desk_model.specs.Repeats.{Content}
 use Rattle.ee_desk_model.specs.Contents.{content_after}
@@ -10,7 +10,9 @@ use Rattle.ee_desk_model.specs.declared.acts.Request.{Request}
 use Rattle.ee_desk_model.specs.declared.refusals.Unserved.{Unserved}
 use Rattle.ee_desk_laws.specs.Attempts.{Attempt}
 use Rattle.ee_desk_texts.specs.Given.{IsGiven}
-use Rattle.ee_wire_framing.specs.Framing.{Message}
+use Rattle.ee_desk_texts.specs.Texts.{act_text, reply_text}
+use Rattle.ee_desk_model.specs.Outcomes.{act}
+use Rattle.ee_wire_framing.specs.Framing.{Message, BeginsMessage}
 use Rattle.ee_wire_calls.specs.Calls.{decoded}
 use Rattle.ee_wire_calls.specs.declared.calls.Call.{Call}
 use Rattle.ee_wire_calls.specs.declared.calls.Call.TheVariants as call
@@ -80,6 +82,10 @@ FitsCall fits c (Ok (call.Request request)) = fits c request
 FitsCall fits c (Ok (call.Query query)) = ⊤
 FitsCall fits c (Err fault) = ⊤
 
--- so do the texts of each request that a message can ask for, whatever the store has
+-- so do the texts of each request in a message that bytes begin with, whose body is bounded, whatever the store has
 abbrev pub FitMessages : (Content → Request → Type 0) → Type 0
-FitMessages fits = (c : Content) (m : Message) → FitsCall fits c (call_of m)
+FitMessages fits = (c : Content) (bytes rest : List ℕ) (m : Message) → BeginsMessage bytes m rest → FitsCall fits c (call_of m)
+
+-- the texts of a request and of its reply have at most this many bytes together
+abbrev pub TextsWithin : ℕ → Content → Request → Type 0
+TextsWithin most c request = length (act_text request.act) + length (reply_text (act c.books request.act).reply) ≤ most

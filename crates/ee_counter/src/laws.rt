@@ -2,7 +2,9 @@
 
 ghost use Rattle.std.specs.Prelude.{◌≡◌, ℕ, [], Bool, List, Result, length};
 ghost use Rattle.std.specs.List.{AllByRecursion};
+ghost use Rattle.ee_desk_model.specs.declared.acts.Act.TheVariants as act;
 ghost use Rattle.ee_desk_model.specs.declared.acts.Request.{Request};
+ghost use Rattle.ee_desk_model.specs.Numbers.{RequestKey};
 ghost use Rattle.ee_desk_model.specs.declared.replies.Reply.{Reply};
 ghost use Rattle.ee_desk_model.specs.declared.refusals.Unserved.{Unserved};
 ghost use Rattle.ee_desk_model.specs.Repeats.{Content};
@@ -12,7 +14,8 @@ ghost use Rattle.ee_wire_framing.specs.Framing.{Message, BeginsMessages};
 ghost use Rattle.ee_wire.specs.Answers.{answer_text};
 ghost use Rattle.ee_wire.specs.declared.answers.Answer.{Answer};
 ghost use Rattle.ee_counter.specs.Served.{IsServed};
-ghost use Rattle.ee_counter.specs.Answering.{IsAnswer, call_of};
+ghost use Rattle.ee_counter.specs.Answering.{FitMessages, IsAnswer, TextsWithin, call_of};
+ghost use Rattle.ee_counter.specs.Filing.{FitRows};
 ghost use Rattle.ee_counter.specs.Serving.{Told, AreAnswered, left_by_all, messages, requests_in, texts};
 
 /// Two keepers with the same content give the same answers, such as a keeper in memory and one with tables: two
@@ -47,4 +50,12 @@ pub const fn one_stream_law()
 /// for lists of requests applies to them.
 pub const fn served_requests_law()
     ensures { (c : Content) (told : List Told) → left_by_all c told ≡ content_after c (requests_in told) }
+{}
+
+/// The texts of a request, and of its reply, are short, whatever the books have: those of a message that bytes begin
+/// with, since its body is bounded (`messages`), and those of a file with at most 501 rows (`rates`, `bonds`).
+pub const fn short_texts_law()
+    ensures messages { FitMessages (TextsWithin 900000000) }
+    ensures rates { (c : Content) (key : RequestKey) → FitRows (TextsWithin 900000000) c key act.AddRates }
+    ensures bonds { (c : Content) (key : RequestKey) → FitRows (TextsWithin 900000000) c key act.AddBonds }
 {}

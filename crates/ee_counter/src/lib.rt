@@ -18,6 +18,8 @@ mod soundness;
 pub use answering::answer_message;
 pub use connections::{Ended, MOST_MESSAGES, Why, serve};
 pub use files::{ExportFault, ImportFault, export_inventory, import_inventory, import_rates};
-pub use laws::{one_stream_law, one_text_law, same_answers_law, served_requests_law};
+pub use laws::{
+    one_stream_law, one_text_law, same_answers_law, served_requests_law, short_texts_law,
+};
 pub use requests::run;
 pub use soundness::known;

@@ -1,4 +1,4 @@
-use Rattle.std.proofs.Common.{◌≡◌, ◌∙◌, inl, sym, subst, Ok, Err}
+use Rattle.std.proofs.Common.{◌≡◌, ◌∙◌, ◌++◌, inl, sym, subst, Ok, Err}
 use Rattle.ee_wire_framing.specs.declared.buffer.Next.{Next}
 use Rattle.ee_wire_framing.specs.declared.buffer.WireEnd.{WireEnd}
 use Rattle.ee_wire_framing.specs.Reading.{message_in, Settles, stop_of}
@@ -77,7 +77,9 @@ returns-in-Err-NoMemory-clause-device g c = tt
 
 pub returns-in-Ok-Message-clause-cause : goal.returns-in-Ok-Message-clause-cause
 returns-in-Ok-Message-clause-cause g c = λ clean d has n takes fit.
-    c.answer_one.ensures.cause clean d has n takes (fit d (message_in c.next_message.new.buffer.shown c.in-Ok-Message.message))
+    let now = c.next_message.new.buffer in
+    c.answer_one.ensures.cause clean d has n takes (fit d (now.shown ++ now.held) now.held (message_in now.shown c.in-Ok-Message.message)
+    (subst (λ (x : Next). Settles (Ok x) now (g.R.Read.remaining c.next_message.new.reader)) c.in-Ok-Message.field-0-is (c.in-Ok-Message.ensures.settles c.requires.open)))
 
 pub returns-in-Ok-End-clause-cause : goal.returns-in-Ok-End-clause-cause
 returns-in-Ok-End-clause-cause g c = λ clean d has n takes fit yes. inl yes
