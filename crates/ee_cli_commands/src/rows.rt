@@ -32,14 +32,18 @@ One process at a time uses a store.";
 
 const VALUE_EXAMPLES: &str = "\
 Examples:
-  ee_cli value 50 2010-05 2015-05 3.50
-  ee_cli value 50 2010-05 2030-11 3.40 4.00";
+  ee_cli value 50 2010-05 2026-11 1.40
+  ee_cli value 50 2005-11 2026-11 3.20 4.00    (the 4.00 is invented)
+
+Add --explain for the cause of a fault, and what to do, on a second line.";
 
 const IMPORT_EXAMPLES: &str = "\
 Examples:
   ee_cli import rates samples/rates.csv --db day.db --number 1
   ee_cli import inventory samples/inventory.csv --db day.db --number 2
-  ee_cli import inventory samples/inventory.csv --db day.db --number 1 --desk 7";
+  ee_cli import inventory samples/inventory.csv --db day.db --number 1 --desk 7
+
+Add --explain for the cause of a fault, and what to do, on a second line.";
 
 static KINDS: [&str; 2] = ["rates", "inventory"];
 
@@ -98,11 +102,11 @@ fn value_command<'a>(alloc: Global) -> Result<Command<'a>, AllocError>
     );
     let row = with(
         row,
-        positional(alloc, "month", "Month of the value, as 2015-05"),
+        positional(alloc, "month", "Month of the value, as 2026-11"),
     );
     let row = with(
         row,
-        positional(alloc, "rate", "Fixed rate in percent, as 3.50"),
+        positional(alloc, "rate", "Fixed rate in percent, as 1.40"),
     );
     let row = with(row, extension_arg(alloc));
     with(row, explain_arg(alloc))
@@ -116,7 +120,7 @@ fn apply_command<'a>(alloc: Global) -> Result<Command<'a>, AllocError>
         alloc,
         "apply",
         "Answer the messages of standard input",
-        "Example:\n  ee_cli apply --db day.db < requests.http",
+        "Example:\n  ee_cli apply --db day.db < requests.http\n\nAdd --explain for the cause of a fault, and what to do, on a second line.",
     );
     let row = with(Ok(row), store_arg(alloc));
     with(row, explain_arg(alloc))
@@ -148,7 +152,7 @@ fn export_command<'a>(alloc: Global) -> Result<Command<'a>, AllocError>
         alloc,
         "export",
         "Print a customer's unpaid bonds as CSV",
-        "Example:\n  ee_cli export 7 --db day.db",
+        "Example:\n  ee_cli export 7 --db day.db\n\nAdd --explain for the cause of a fault, and what to do, on a second line.",
     );
     let row = with(Ok(row), customer_arg(alloc));
     let row = with(row, store_arg(alloc));
@@ -163,12 +167,12 @@ fn sheet_command<'a>(alloc: Global) -> Result<Command<'a>, AllocError>
         alloc,
         "sheet",
         "Print the sheet of a customer's unpaid bonds",
-        "Example:\n  ee_cli sheet 7 2012-02 --db day.db",
+        "Example:\n  ee_cli sheet 7 2026-11 --db day.db\n\nAdd --explain for the cause of a fault, and what to do, on a second line.",
     );
     let row = with(Ok(row), customer_arg(alloc));
     let row = with(
         row,
-        positional(alloc, "month", "Month of the values, as 2015-05"),
+        positional(alloc, "month", "Month of the values, as 2026-11"),
     );
     let row = with(row, store_arg(alloc));
     with(row, explain_arg(alloc))
@@ -182,7 +186,7 @@ fn serve_command<'a>(alloc: Global) -> Result<Command<'a>, AllocError>
         alloc,
         "serve",
         "Answer connections on 127.0.0.1, one after the other, until it is stopped",
-        "Example:\n  ee_cli serve --db day.db --port 8377",
+        "Example:\n  ee_cli serve --db day.db --port 8377\n\nAdd --explain for the cause of a fault, and what to do, on a second line.",
     );
     let row = with(Ok(row), store_arg(alloc));
     let row = with(row, port_arg(alloc));
@@ -223,7 +227,7 @@ fn extension_arg<'a>(alloc: Global) -> Arg<'a>
     positional(
         alloc,
         "extension",
-        "Rate in percent from 20 years on, as 4.00; the fixed rate where it is left out",
+        "Rate in percent from 20 years on, as 4.00; the fixed rate if it is left out",
     )
     .required(false)
 }
@@ -235,8 +239,8 @@ fn option<'a>(alloc: Global, id: &'a str, help: &'a str) -> Arg<'a>
     Arg::new(alloc, id).long(id).required(true).help(help)
 }
 
-/// The flag that every row takes. The program's help names it; it is hidden in the usage of the rows, whose text
-/// belongs to the faults of a line.
+/// The flag that every row takes. A note at the end of each help names it; it is hidden in the usage of the rows, which
+/// is a part of clap's faults.
 fn explain_arg<'a>(alloc: Global) -> Arg<'a>
     ensures rule { rule_of result ≡ is.flag (codes "explain") }
     ensures local { result.global ≡ false }
@@ -261,7 +265,7 @@ fn store_arg<'a>(alloc: Global) -> Arg<'a>
     option(
         alloc,
         "db",
-        "The file of the store; made where it isn't there",
+        "The file of the store; created if it doesn't exist",
     )
 }
 
@@ -291,7 +295,7 @@ fn desk_arg<'a>(alloc: Global) -> Arg<'a>
     option(
         alloc,
         "desk",
-        "Desk of the request, from 0 to 999; 0 where it is left out",
+        "Desk of the request, from 0 to 999; 0 if it is left out",
     )
     .required(false)
 }

@@ -13,7 +13,7 @@ use Rattle.ee_cli_actions.specs.Endings.{TellsFailureOnlyIf}
 use Rattle.ee_cli_actions.specs.Connections.{ServesAll}
 use Rattle.ee_cli_value.specs.declared.endings.Outcome.{Outcome}
 use Rattle.ee_cli_actions.specs.declared.faults.RunFault.{RunFault}
-use Rattle.ee_cli_actions.specs.declared.faults.RunFault.TheVariants.{Store}
+use Rattle.ee_cli_actions.specs.declared.faults.RunFault.TheVariants.{Store, Device}
 use Rattle.ee_cli_actions.specs.declared.faults.StoreFault.TheVariants.{NotWrittenBack}
 use Rattle.ee_cli_program.specs.declared.stores.Left.{Left}
 use Rattle.ee_cli_program.specs.declared.stores.Left.TheVariants.{Given, Refused, AtRest, Unclosed}
@@ -27,6 +27,10 @@ Tries old new result Carried Stays = Carried ⊎ (IsErr result × (new ≡ old) 
 -- no store was opened, and nothing was printed, as if memory is refused to the words of a line
 abbrev pub IsUntouched : {O Q R L : Type 0} → O → Left O Q R L → Option (List ℕ) → Option (List ℕ) → Type 0
 IsUntouched given rest old new = (rest ≡ Given given) × (new ≡ old)
+
+-- nothing can listen on the port of a command, so its store was not opened
+abbrev pub IsUnbound : {O Q R L : Type 0} → O → Left O Q R L → Option (List ℕ) → Option (List ℕ) → Result Outcome RunFault → Type 0
+IsUnbound given rest old new result = (result ≡ Err Device) × IsUntouched given rest old new
 
 -- how a command ends whose work ended so, if its store isn't written back
 abbrev pub unwritten : Result Outcome RunFault → Result Outcome RunFault
@@ -95,6 +99,7 @@ CarriesOver is_clean FromTo fits Has rests keeps refuses contents given rest inp
     Over rests keeps (refuses db) old new result rest (FromTo 0 ⊤)
     (λ store ended. is_clean store → ShowsSheet old new customer month (contents db) ended (Has db store (contents db) []))
 CarriesOver is_clean FromTo fits Has rests keeps refuses contents given rest input left old new (serve db port connections) result =
-    Over rests keeps (refuses db) old new result rest (FromTo (connections * most_messages) (FitMessages fits))
+    IsUnbound given rest old new result
+    ⊎ Over rests keeps (refuses db) old new result rest (FromTo (connections * most_messages) (FitMessages fits))
     (λ store ended. is_clean store
     → Tries old new ended (ServesAll connections old new (contents db) ended (Has db store)) (Has db store (contents db) []))

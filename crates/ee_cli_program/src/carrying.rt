@@ -1,6 +1,6 @@
 //! Carrying out a command.
 
-ghost use Rattle.std.specs.Prelude.{◌≡◌, ◌*◌, [], Err, IfOk, IfSome, None, ⊤};
+ghost use Rattle.std.specs.Prelude.{◌≡◌, ◌⊎◌, ◌*◌, [], Err, IfOk, IfSome, None, ⊤};
 ghost use Rattle.clap.specs.Words.{Text};
 ghost use Rattle.ee_desk_model.specs.Repeats.{Content};
 ghost use Rattle.ee_keeper.specs.Keeping.{HasAfter};
@@ -10,11 +10,11 @@ ghost use Rattle.ee_cli_actions.specs.Actions.{Applies, ExportsFrom, FitFile, Im
 ghost use Rattle.ee_cli_actions.specs.Connections.{ServesAll};
 ghost use Rattle.ee_cli_commands.specs.Answer.{view_of};
 ghost use Rattle.ee_cli_program.specs.Statuses.{Carries, ShowsValue};
-ghost use Rattle.ee_cli_program.specs.Stores.{CarriesOver, Closes, Over, Since, Tries, unwritten};
+ghost use Rattle.ee_cli_program.specs.Stores.{CarriesOver, Closes, IsUnbound, Over, Since, Tries, unwritten};
 ghost use Rattle.ee_cli_program.specs.Told.{TellsOnlyIf, fault_of_cause};
 
 use crate::explaining::Cause;
-use crate::opening::{Carried, import_path, serve_port};
+use crate::opening::{Carried, import_path, refused_port, serve_port};
 use crate::stores::{Left, Stores, Unopened};
 use ee_cli_actions::{Outcome, RunFault, StoreFault, apply_to, export_from, sheet_of};
 use ee_cli_commands::{Command, FileKind};
@@ -31,8 +31,8 @@ pub struct CarriedOut<O, Q, R, L> {
     pub left: Left<O, Q, R, L>,
 }
 
-/// Carries out a command. A store is opened before a file or a port is. `told`: a cause is told only of a command
-/// that failed for it.
+/// Carries out a command. A store is opened before a file is, and only if something can listen on the port. `told`: a
+/// cause is told only of a command that failed for it.
 pub fn carry_out<O: Stores, R: Source, W: Sink>(
     rt: &HostRuntime,
     stores: O,
@@ -181,6 +181,38 @@ fn sheet<O: Stores, W: Sink>(
 }
 
 fn serve<O: Stores, W: Sink>(
+    rt: &HostRuntime,
+    stores: O,
+    db: &str,
+    port: u16,
+    connections: u64,
+    output: &mut W,
+) -> CarriedOut<O, O::Refused, O::Rest, O::Left>
+    ensures over { (c : Content) → O.holds stores db.now c
+        → IsUnbound stores result.left (W.contents output.old) (W.contents output.new) result.carried.ended
+        ⊎ Over O.rests O.keeps (O.refuses stores db.now) (W.contents output.old) (W.contents output.new) result.carried.ended result.left
+        (Since O.Store.is_clean O.Store.is_guarded O.Store.is_open O.Store.faults O.Store.takes (connections * most_messages) (FitMessages O.Store.fits))
+        (λ left ended. O.Store.is_clean left → Tries (W.contents output.old) (W.contents output.new) ended
+        (ServesAll connections (W.contents output.old) (W.contents output.new) c ended (HasAfter (O.Store.has left) (O.opens stores db.now) (O.Store.went left)))
+        (HasAfter (O.Store.has left) (O.opens stores db.now) (O.Store.went left) c [])) }
+    ensures done { IfOk result.carried.ended (λ outcome. outcome ≡ Outcome.Done) }
+    ensures told { TellsOnlyIf result.carried.ended result.carried.cause }
+{
+    match refused_port(rt, port) {
+        None => serve_store(rt, stores, db, port, connections, output),
+        Some(cause) => CarriedOut {
+            carried: Carried {
+                ended: Err(RunFault::Device),
+                cause: Some(cause),
+                field: None,
+            },
+            left: Left::Given(stores),
+        },
+    }
+}
+
+// Serves over the store of this name.
+fn serve_store<O: Stores, W: Sink>(
     rt: &HostRuntime,
     stores: O,
     db: &str,

@@ -22,6 +22,7 @@ use ee_io::{ReadFault, Sink, Source, read_whole};
 use ee_keeper::Keeper;
 use std::alloc::Global;
 use std::fs;
+use std::io::Write;
 use std::net::TcpListener;
 use std::time::Duration;
 
@@ -173,7 +174,17 @@ fn not_read(is_folder: bool, fault: ReadFault) -> Carried
 /// The seconds that a client may be silent, or leave a response unread.
 const PATIENCE: u64 = 30;
 
-/// Serves on a port of 127.0.0.1. A port that can't be bound is `Device`.
+/// Why nothing can listen on a port of 127.0.0.1; `None` if something can.
+pub fn refused_port(rt: &HostRuntime, port: u16) -> Option<Cause>
+    ensures told { TellsOnlyIf (Err RunFault.Device) result }
+{
+    match TcpListener::bind(rt, ("127.0.0.1", port)) {
+        Ok(_) => None,
+        Err(error) => Some(Cause::Port(SystemCause::of(error.kind()))),
+    }
+}
+
+/// Serves on a port of 127.0.0.1, and says on standard error that it listens. A port that can't be bound is `Device`.
 pub fn serve_port<K: Keeper, W: Sink>(
     rt: &HostRuntime,
     keeper: &mut K,
@@ -192,19 +203,22 @@ pub fn serve_port<K: Keeper, W: Sink>(
     ensures told { TellsOnlyIf result.ended result.cause }
 {
     match TcpListener::bind(rt, ("127.0.0.1", port)) {
-        Ok(listener) => Carried {
-            ended: serve_on(
-                rt,
-                rt.alloc(),
-                keeper,
-                &listener,
-                connections,
-                Duration::from_secs(PATIENCE),
-                output,
-            ),
-            cause: None,
-            field: None,
-        },
+        Ok(listener) => {
+            let _said = writeln!(rt.stderr(), "listening on port {port}");
+            Carried {
+                ended: serve_on(
+                    rt,
+                    rt.alloc(),
+                    keeper,
+                    &listener,
+                    connections,
+                    Duration::from_secs(PATIENCE),
+                    output,
+                ),
+                cause: None,
+                field: None,
+            }
+        }
         Err(error) => Carried {
             ended: Err(RunFault::Device),
             cause: Some(Cause::Port(SystemCause::of(error.kind()))),

@@ -123,7 +123,10 @@ module _ {D : Type 0} (g : Ghosts D) (closes : ClosesLine g) (at_rest : HoldAtRe
         over_at rest may _ _ (λ Before After more ended it. exports_with Before After more old new customer c ended it) old new result over
     carries_in_files fits FromTo c given input left old new (sheet customer month db) result over =
         over_at rest may _ _ (λ Before After more ended it. sheets_with old new customer month c ended (Before c []) (After c []) (more c []) it) old new result over
-    carries_in_files fits FromTo c given input left old new (serve db port connections) result over =
+    carries_in_files fits FromTo c given input left old new (serve db port connections) result (inl (failed, (is, same))) =
+        let stays = subst (λ it. MayBeFound held it found) is may in
+        inr (inr (subst IsErr (sym failed) refl, (λ start earlier was. subst (HasLeft start earlier) (sym stays) was), same))
+    carries_in_files fits FromTo c given input left old new (serve db port connections) result (inr over) =
         over_at rest may _ (λ Led ended. Tries old new ended (ServesAll connections old new c ended Led) (Led c []))
         (λ Before After more ended it. tries_with old new ended (ServesAll connections old new c ended Before) (ServesAll connections old new c ended After) (Before c []) (After c [])
         (serves_all_with Before After more connections old new c ended) (more c []) it) old new result over

@@ -1,9 +1,16 @@
 //! The law of command lines in a row. Its body here does nothing; the clauses state the law.
 
+ghost use Rattle.ee_desk_model.specs.Numbers.{RequestKey};
+ghost use Rattle.ee_desk_model.specs.Repeats.{Content};
+ghost use Rattle.ee_counter.specs.Answering.{FitMessages};
+ghost use Rattle.ee_cli_commands.specs.declared.commands.FileKind.{FileKind};
+ghost use Rattle.ee_cli_actions.specs.Actions.{FitFile};
+ghost use Rattle.ee_store_delivery.specs.Causes.{TextsFit};
 ghost use Rattle.ee_store.specs.History.{OpensHistory, HasHeld, HoldAtRest, HoldHistory, LeavesHistory, WaitsRefused};
 ghost use Rattle.ee_cli_stores.specs.Bank.{AccountsForLines};
 ghost use Rattle.ee_cli_stores.specs.Lines.{ClosesLine, EndsLine, LeadsInARow, WaitsLine};
 
+use ee_counter::short_texts_law;
 use ee_store::laws::{stops_and_retries_law, whole_history_law};
 use sqlite_disk::Disk;
 
@@ -22,6 +29,8 @@ use sqlite_disk::Disk;
 /// - `leads`: lines in a row lead to what the last one left.
 /// - `holds`: so what the files hold is the content of requests that were sent, each acting once, and each reply
 ///   that was given is still the answer (`IsLeftBy`).
+/// - `fit`, `file_fits`: the texts of every request that a line puts fit a row, so `over` of `run_words` supposes nothing of
+///   them (`Since`: `cause`).
 /// - `at_rest`, `leaves`, `refused`: how a line leaves its files, for `run_line`.
 /// - `accounts`: for every sequence of command lines over one store, whatever its two files first held, each line did what
 ///   `run_line` says of it. Then the files hold what requests that were sent made of the first content, each acting once;
@@ -35,11 +44,14 @@ pub const fn lines_law<D: Disk>()
     ensures waits { WaitsLine }
     ensures leads { LeadsInARow }
     ensures holds { HoldHistory }
+    ensures fit { FitMessages TextsFit }
+    ensures file_fits { (kind : FileKind) (c : Content) (key : RequestKey) → FitFile kind TextsFit c key }
     ensures at_rest { HoldAtRest D.Disk }
     ensures leaves { LeavesHistory D.Disk }
     ensures refused { WaitsRefused D.Disk }
     ensures accounts { AccountsForLines }
 {
+    short_texts_law();
     stops_and_retries_law();
     whole_history_law::<D, D>();
 }

@@ -1,43 +1,8 @@
-use Rattle.std.proofs.Common.{refl, inr, ◌*◌, inl, []}
-use Rattle.ee_cli_actions.specs.Connections.{ServesAll}
-use Rattle.ee_keeper.specs.Keeping.{HasAfter}
-use Rattle.ee_cli_actions.proofs.Lemmas.{serves_all_with}
-use Rattle.ee_cli_program.proofs.Lemmas.{tries_with}
-use Rattle.ee_cli_program.proofs.Opened.{takes_enough, since_opened}
+use Rattle.std.proofs.Common.{refl, inr, inl}
 use Rattle.ee_cli_program.proofs.carrying.serve.Goals as goal
 
-pub returns-in-Ok-clause-over : goal.returns-in-Ok-clause-over
-returns-in-Ok-clause-over g c = λ content holds.
-    let left = c.serve_port-tried.new.keeper in
-    let Has = g.O.Store.Keeper.has left in
-    let Opens = g.O.Stores.opens c.args.stores c.args.db.now in
-    let Went = g.O.Store.Keeper.went c.in-Ok.store in
-    let Left = g.O.Store.Keeper.went left in
-    let old = g.W.Write.contents c.args.output.now in
-    let new = g.W.Write.contents c.serve_port-tried.new.output in
-    inl record {
-      first = c.in-Ok.store;
-      left = left;
-      ended = c.serve_port-tried.result.ended;
-      since = record {
-        tested = c.in-Ok.ensures.tested;
-        continues = c.serve_port-tried.ensures.continues;
-        cause = λ clean enough fit.
-            let before = c.serve_port-tried.ensures.continues.clean clean in
-            let it = takes_enough g.O.Store.Keeper.takes c.in-Ok.store (g.met.O.Store.Keeper.fewer c.in-Ok.store) (c.in-Ok.ensures.takes before) (c.args.connections * 1000) enough in
-            c.serve_port-tried.ensures.cause clean content (c.in-Ok.ensures.opened before content holds) it.0 it.1 fit;
-      };
-      carried = λ clean.
-          let before = c.serve_port-tried.ensures.continues.clean clean in
-          let since = since_opened Has Opens Went Left (c.in-Ok.ensures.gone before) in
-          tries_with old new c.serve_port-tried.result.ended (ServesAll c.args.connections old new content c.serve_port-tried.result.ended (HasAfter Has Went Left)) (ServesAll c.args.connections old new content c.serve_port-tried.result.ended (HasAfter Has Opens Left))
-          (HasAfter Has Went Left content []) (HasAfter Has Opens Left content []) (serves_all_with (HasAfter Has Went Left) (HasAfter Has Opens Left) since c.args.connections old new content c.serve_port-tried.result.ended) (since content [])
-          (c.serve_port-tried.ensures.over clean content (c.in-Ok.ensures.opened before content holds));
-      closes = c.end.ensures.closes;
-    }
+pub returns-in-None-clause-over : goal.returns-in-None-clause-over
+returns-in-None-clause-over g c = λ content holds. inr (c.serve_store.ensures.over content holds)
 
-pub returns-in-Ok-clause-done : goal.returns-in-Ok-clause-done
-returns-in-Ok-clause-done g c = c.end.ensures.done c.serve_port-tried.ensures.done
-
-pub returns-in-Err-clause-over : goal.returns-in-Err-clause-over
-returns-in-Err-clause-over g c = λ content holds. inr (rw c.not_opened.ensures.left (c.in-Err.not.fault, c.not_opened.ensures.ended, c.in-Err.ensures.refused), refl)
+pub returns-in-Some-clause-over : goal.returns-in-Some-clause-over
+returns-in-Some-clause-over g c = λ content holds. inl (refl, (refl, refl))

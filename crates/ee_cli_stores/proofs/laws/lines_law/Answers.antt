@@ -1,3 +1,4 @@
+use Rattle.ee_cli_commands.specs.declared.commands.FileKind.TheVariants as kind
 use Rattle.ee_cli_stores.proofs.Bank.{accounts_for_lines}
 use Rattle.ee_cli_stores.proofs.Lines.{closes_line, leads_in_a_row, waits_line}
 use Rattle.ee_cli_stores.proofs.laws.lines_law.Goals as goal
@@ -22,6 +23,13 @@ returns-clause-waits g c = waits_line c.whole_history_law.ensures.waits
 
 pub returns-clause-tested : goal.returns-clause-tested
 returns-clause-tested g c held opened left files from stays ends = ends (stays from.shielded)
+
+pub returns-clause-fit : goal.returns-clause-fit
+returns-clause-fit g c = c.short_texts_law.ensures.messages
+
+pub returns-clause-file_fits : goal.returns-clause-file_fits
+returns-clause-file_fits g c kind.Rates d key = c.short_texts_law.ensures.rates d key
+returns-clause-file_fits g c kind.Inventory d key = c.short_texts_law.ensures.bonds d key
 
 pub returns-clause-at_rest : goal.returns-clause-at_rest
 returns-clause-at_rest g c = c.whole_history_law.ensures.at_rest
