@@ -121,7 +121,7 @@ fn help_is_no_fault(rt: HostRuntime) {
         ("--help", "Usage: ee_cli <COMMAND>"),
         ("-h", "500 rows a request, 100 serial numbers a redemption"),
         ("--help", "One process at a time uses a store."),
-        ("value --help", "ee_cli value 50 2010-05 2015-05 3.50"),
+        ("value --help", "ee_cli value 50 2010-05 2026-11 1.40"),
         ("value --help", "<rate> [extension]"),
         ("serve --help", "ee_cli serve --db day.db --port 8377"),
     ] {
