@@ -5,7 +5,8 @@ import { byId, element, options } from "./elements.js";
 import { beginKeeping, keepOn } from "./keeping.js";
 import { libraryOf } from "./modules.js";
 import { beginNotices, tellFault, tellNothing } from "./notices.js";
-import { LAST_MONTH } from "./spelling.js";
+import { RELEASED } from "../teller/released.js";
+import { LAST_MONTH, monthOf } from "./spelling.js";
 import { change, state, watch } from "./state.js";
 import { TEXTS } from "./texts.js";
 import { inventoryCurve } from "./timeline.js";
@@ -52,11 +53,11 @@ async function chooseModule() {
   if (bits !== wanted) tellFault(TEXTS.module_missing);
 }
 
-// The value month that the device's clock says. Before the last announcement that the page ships, and after 2199, the clock must be wrong.
+// The value month that the device's clock says. Before this release, and after 2199, the clock must be wrong.
 function takeClock() {
   const now = new Date();
   const said = 12 * now.getFullYear() + now.getMonth();
-  const month = Math.min(Math.max(said, ...state.books.rates.keys()), LAST_MONTH);
+  const month = Math.min(Math.max(said, monthOf(RELEASED.slice(0, 7))), LAST_MONTH);
   change({ month });
   if (month !== said) tellFault(TEXTS.clock_wrong(said, month));
 }

@@ -43,7 +43,14 @@ function remembering(read) {
 }
 
 for (const column of ["series", "denom", "issued", "owner", "coowner"]) READERS[column] = remembering(READERS[column]);
-const has = (column) => (text) => (READERS[column](text ?? "") ?? null) !== null;
+
+// Which column a cell may be of, if no heading says so: a note such as P5 isn't a serial number without its EE, nor a number without a sign a month.
+const GUESSES = {
+  ...READERS,
+  serial: (text) => (isNoSerial(text) || /E\W*E\W*$/i.test(text) ? READERS.serial(text) : null),
+  issued: (text) => (/^[0-9]+$/.test(text) ? null : READERS.issued(text)),
+};
+const has = (column) => (text) => (GUESSES[column](text ?? "") ?? null) !== null;
 
 // A comma within 1,000 or May 1, 2010 parts no cells.
 function delimiterOf(text) {
@@ -54,7 +61,7 @@ function delimiterOf(text) {
 }
 
 // A cell of a line whose cells spaces part: a serial number, a month by its name, dollars, or a word.
-const CELL = /[a-z][- ]?[0-9]{1,10}[- ]?ee\b|[a-z]{3,9}\.?,? (?:[0-9]{1,2}, ?)?[0-9]{4}\b|[0-9]{1,2} [a-z]{3,9} [0-9]{4}\b|\$ ?[0-9][0-9,.]*|[^ ]+/gi;
+const CELL = /[a-z][- ]?[0-9][0-9,]*[- ]?ee\b|[a-z]{3,9}\.?,? (?:[0-9]{1,2}, ?)?[0-9]{4}\b|[0-9]{1,2} [a-z]{3,9} [0-9]{4}\b|\$ ?[0-9][0-9,.]*|[^ ]+/gi;
 
 function split(text) {
   const delimiter = delimiterOf(text);
@@ -107,7 +114,7 @@ const SIGNS = { issued: 1, denom: -1 };
 // The place among `free` in which half the cells read as a column. Of several it is the one with the earlier months or the larger amounts, in the lines
 // in which both read.
 function placeOf(column, lines, free) {
-  const valueAt = ({ cells }, place) => READERS[column](cells[place] ?? "") ?? null;
+  const valueAt = ({ cells }, place) => GUESSES[column](cells[place] ?? "") ?? null;
   const isFull = (place) => 2 * lines.filter((line) => valueAt(line, place) !== null).length >= Math.max(1, lines.length);
   const difference = (one, other) => {
     const pairs = lines.map((line) => [valueAt(line, one), valueAt(line, other)]).filter((pair) => !pair.includes(null));

@@ -1,6 +1,7 @@
 // Reads the counter's answers exactly. A text that isn't, byte for byte, an answer to what was asked is no answer, whatever a proxy or a fault on the way made of it.
 
-import { readDay, readMoney, readSerial } from "./spelling.js";
+import { readDay, readMoney } from "./spelling.js";
+import { readSerial } from "./typed.js";
 
 const REFUSED_KEYS = ["code", "month", "refused", "serial", "ticket"];
 const FAULT_KEYS = ["code", "fault", "field"];

@@ -1,6 +1,10 @@
-// What of a bond may be mistyped, though the counter takes it: a letter that doesn't fit the denomination, and an issue month in which no paper was sold. The page asks before it sends such a bond.
+// What may be mistyped or wrong, though the counter takes it: a letter that doesn't fit the denomination, an issue month in which no paper was sold, an open day that isn't of today's month, a large sum.
+// The page asks before it sends it.
 
+import * as bank from "./bank.js";
+import { serverToday } from "./messages.js";
 import { confirmed } from "./question.js";
+import { monthOf } from "./spelling.js";
 import { DOUBTS } from "./words.js";
 
 // The letter of each denomination.
@@ -29,8 +33,25 @@ export function doubtsOf(rows) {
   ];
 }
 
-// Whether nothing is doubtful, or the teller says that it agrees with the paper.
-export async function agreesWithPaper(rows) {
+// Whether nothing of the bonds is doubtful, or the teller says that it agrees with the paper.
+async function agreesWithPaper(rows) {
   const doubts = doubtsOf(rows);
   return doubts.length === 0 || confirmed(DOUBTS.title, [...doubts, DOUBTS.back], DOUBTS.agree);
+}
+
+// Whether a day is of today's month by the server's clock, or the teller says that it is right. `act` is what the button says.
+export async function isRightMonth(day, act) {
+  const today = serverToday();
+  return monthOf(day) === monthOf(today) || confirmed(DOUBTS.day_title(day), [DOUBTS.other_month(day, today), DOUBTS.day_back], act);
+}
+
+// The bank may want a second question above a sum of dollars, which it writes in bank.js.
+async function isRightSum(cents) {
+  const { ASK_ABOVE = null } = /** @type {{ ASK_ABOVE?: number | null }} */ (bank);
+  return ASK_ABOVE === null || cents <= BigInt(ASK_ABOVE) * 100n || confirmed(DOUBTS.sum_title(cents), [DOUBTS.sum(BigInt(ASK_ABOVE) * 100n), DOUBTS.back], DOUBTS.sum_act);
+}
+
+// Whether nothing of a payment is doubtful, or the teller says that it is right.
+export async function isWithoutDoubt(day, rows, cents) {
+  return (await isRightMonth(day, DOUBTS.pay_in(day))) && (await agreesWithPaper(rows)) && isRightSum(cents);
 }

@@ -1,6 +1,6 @@
 // Which bonds of a sheet a filter leaves: those of which each word that was typed is a part of the serial number, the denomination, or the issue month in any usual form.
 
-import { readSerial } from "./spelling.js";
+import { readSerial } from "./typed.js";
 import { monthInWords } from "./words.js";
 
 const LEAST_OF_NAME = 3;
@@ -24,7 +24,7 @@ function hasWord(row, word) {
 
 export function filtered(rows, typed) {
   if (typed.trim() === "") return rows;
-  const serial = readSerial(typed);
+  const serial = /E\W*E\W*$/i.test(typed) ? readSerial(typed) : null;
   if (serial !== null) return rows.filter((row) => row.serial === serial);
   const words = typed.trim().toUpperCase().split(/\s+/).map((text) => ({ text, dollars: text.replace(/[$,]/g, "") }));
   return rows.filter((row) => words.every((word) => hasWord(row, word)));

@@ -2,9 +2,17 @@
 
 import { byId, element } from "./elements.js";
 import { tellFailed } from "./notices.js";
+import { TYPED } from "./words.js";
 
 // By field that was marked and wasn't right since: how it is read, and what it asks for. It is marked while it spells nothing.
 const watched = new WeakMap();
+
+// What a field spells, or null; and what it asks for, which a reader of typed.js may know better.
+function readField(input, read, asks) {
+  const found = read(input.value);
+  if (found?.why === undefined) return { value: found, asks };
+  return { value: found.value, asks: TYPED[found.why] ?? asks };
+}
 
 // Marks a field with what it asks for, or takes the mark off if that is empty. The text stands under the field until then, and a screen reader says it with the field.
 function mark(input, asks) {
@@ -24,15 +32,15 @@ function mark(input, asks) {
 
 // What fields spell, each given as its input, its reader and what it asks for: their values; or null, if one spells none. Each such one is marked, and the first takes the keyboard.
 export function readFields(...fields) {
-  const values = fields.map(([input, read]) => read(input.value));
-  fields.forEach(([input, read, asks], place) => {
-    if (values[place] === null) watched.set(input, [read, asks]);
+  const found = fields.map((field) => readField(...field));
+  fields.forEach(([input, ...reads], place) => {
+    if (found[place].value === null) watched.set(input, reads);
     else watched.delete(input);
-    mark(input, values[place] === null ? asks : "");
+    mark(input, found[place].value === null ? found[place].asks : "");
   });
-  const first = values.indexOf(null);
+  const first = found.findIndex(({ value }) => value === null);
   if (first >= 0) fields[first][0].focus();
-  return first >= 0 ? null : values;
+  return first >= 0 ? null : found.map(({ value }) => value);
 }
 
 export function unmark(input) {
@@ -57,8 +65,8 @@ export function onSubmit(form, work) {
   });
   form.addEventListener("input", (event) => {
     if (!watched.has(event.target)) return;
-    const [read, asks] = watched.get(event.target);
-    mark(event.target, read(event.target.value) === null ? asks : "");
+    const { value, asks } = readField(event.target, ...watched.get(event.target));
+    mark(event.target, value === null ? asks : "");
   });
 }
 

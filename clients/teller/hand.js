@@ -1,16 +1,13 @@
-// One field for the bonds in the teller's hand. Their serial numbers are typed, pasted or scanned, each with Enter: a scanner types and sends Enter. Each bond is chosen on the sheet, or named with why it
-// isn't. Enter in the empty field leads to Pay.
+// One field for the bonds in the teller's hand. Their serial numbers are typed, pasted or scanned, each with Enter. Each bond is chosen on the sheet, or named with why it isn't. Enter in the empty
+// field asks to pay.
 
+import { beep } from "./beep.js";
 import { byId, element, show } from "./elements.js";
 import { button, onSubmit } from "./forms.js";
-import { announce, clearNoted } from "./notices.js";
-import { serialsIn } from "./spelling.js";
+import { notice } from "./notices.js";
+import { isTwice, receive } from "./scans.js";
+import { serialsIn } from "./typed.js";
 import { HAND } from "./words.js";
-
-// Some scanners send Enter twice. The second one is ignored if it comes within this many milliseconds.
-const TWICE = 150;
-
-let read_at = -TWICE;
 
 // What wasn't chosen, by its serial number, or by what was typed if that is none: the reason, and the elements that stand behind it.
 const missed = new Map();
@@ -21,7 +18,8 @@ function showMissed() {
     clearMissed();
     byId("in-hand").focus();
   });
-  const parts = [element("h2", { id: "missed-title" }, HAND.missed(items.length)), element("ul", { "aria-labelledby": "missed-title" }, ...items), clear];
+  const help = [...missed.values()].some(({ more }) => more.length > 0) ? [element("p", { class: "help" }, HAND.not_here)] : [];
+  const parts = [element("h2", { id: "missed-title" }, HAND.missed(items.length)), element("ul", { "aria-labelledby": "missed-title" }, ...items), ...help, clear];
   byId("missed").replaceChildren(...(items.length === 0 ? [] : parts));
 }
 
@@ -29,6 +27,13 @@ function showMissed() {
 export function miss(name, why, ...more) {
   missed.set(name, { why, more });
   showMissed();
+  notice("noted", why);
+  beep();
+}
+
+// Why it wasn't chosen, or null.
+export function whyMissed(name) {
+  return missed.get(name)?.why ?? null;
 }
 
 // Takes a bond that was chosen after all off the list.
@@ -51,27 +56,13 @@ export function showHand(is_shown) {
   show(byId("hand"), is_shown);
 }
 
-function isText(event) {
-  return event.key.length === 1 && event.key !== " " && !event.ctrlKey && !event.altKey && !event.metaKey;
-}
-
-// Starts the field. `take` chooses a bond by its serial number and returns what to say, `toPay` moves the keyboard to Pay, and `sumInWords` returns what is chosen.
-export function startHand({ take, toPay, sumInWords }) {
+// Starts the field. `pay` is what Enter does in the empty field.
+export function startHand(pay) {
   const field = byId("in-hand");
-  onSubmit(byId("hand"), () => {
+  onSubmit(byId("hand"), async () => {
     const texts = serialsIn(field.value);
-    const now = performance.now();
-    if (texts.length === 0 && now - read_at > TWICE) toPay();
-    if (texts.length === 0) return;
-    clearNoted();
-    const said = texts.map(take);
-    read_at = now;
     field.value = "";
-    byId("hand-last").textContent = said.at(-1);
-    announce(`${said.join(" ")} ${sumInWords()}`);
-  });
-  // A scanner's letters reach the field from wherever the keyboard is, unless that is another field.
-  document.addEventListener("keydown", (event) => {
-    if (isText(event) && field.checkVisibility() && !byId("confirm").open && !document.activeElement.matches("input:not([type=checkbox])")) field.focus();
+    if (texts.length > 0) receive(texts);
+    else if (!isTwice()) await pay();
   });
 }

@@ -8,6 +8,7 @@ import { asking, clearNotices, earlierSendings, endSteps, giveFocusBack, keepFoc
 import { askUser } from "./queries.js";
 import { startQuestions } from "./question.js";
 import { receiptOf, Receipts } from "./receipts.js";
+import { startScans } from "./scans.js";
 import { isNotDone, Sender } from "./sender.js";
 import { laterOf, readDesk } from "./spelling.js";
 import { dayReplied, deskSums, enterDay, offerActs, showDay, startDayView } from "./view_day.js";
@@ -15,13 +16,14 @@ import { clearPay, enterPay, followDay, hasGoneOn, markPaid, startPayView } from
 import { enterInterest, startInterest } from "./view_interest.js";
 import { startRecords } from "./view_records.js";
 import { enterBatches, enterTickets, lookUpTicket, showBatch, showTicket, startLookUps } from "./view_lookups.js";
-import { clearWalkIn, followWalkIn, offerWalkIn, startWalkIn } from "./view_walkin.js";
+import { nameMonths } from "./typed.js";
+import { clearWalkIn, enterWalkIn, focusWalkIn, followWalkIn, offerWalkIn, startWalkIn } from "./view_walkin.js";
 import { showOther, startViews } from "./views.js";
 import { ENTER, FORMATS, HEAD, PAY, TEXTS, unkeptInWords, WALK_IN } from "./words.js";
 
 const NOT_OPEN = [42, 43];
 const ALREADY_PAID = 52;
-const ENTERED = { day: enterDay, pay: enterPay, walkin: followWalkIn, tickets: enterTickets, batches: enterBatches, interest: enterInterest };
+const ENTERED = { day: enterDay, pay: enterPay, walkin: enterWalkIn, tickets: enterTickets, batches: enterBatches, interest: enterInterest };
 
 // What the views know of the page.
 class Page {
@@ -79,6 +81,7 @@ class Page {
     const { name, groups } = answer.kind === "user" ? answer : { name: null, groups: null };
     this.user = name;
     offerActs(groups);
+    offerPay(groups);
     offerWalkIn(groups);
     show(byId("user"), name !== null);
     byId("user").textContent = name === null ? "" : HEAD.user(name);
@@ -179,7 +182,7 @@ class Page {
     if (is_walk_in) clearWalkIn();
     if (!hasGoneOn()) {
       if (!is_walk_in) clearPay();
-      showTicket(this, ticket, receipt, entry);
+      showTicket(this, ticket, receipt, entry, is_walk_in ? focusWalkIn : undefined);
       return [];
     }
     markPaid(this, ticket.lines.map((line) => line.serial), ticket.ticket);
@@ -215,6 +218,13 @@ class Page {
   }
 }
 
+// A user who is no teller can look at sheets, and not pay. If the groups aren't known, anybody can.
+function offerPay(groups) {
+  const may = groups === null || groups.includes("teller");
+  show(byId("pay-barred"), !may);
+  /** @type {HTMLButtonElement} */ (byId("pay-button")).disabled = !may;
+}
+
 // What was registered before a payment, or that a registration without a reply of its own pays nothing.
 function registeredLines({ path, registered }, is_paid = false) {
   if (path === "/bonds") return [element("p", {}, WALK_IN.nothing_paid)];
@@ -247,8 +257,10 @@ function tellKept(why) {
 
 async function start() {
   fill(TEXTS, FORMATS.language);
+  nameMonths(FORMATS.months);
   startNotices();
   startQuestions();
+  startScans();
   const user = askUser();
   await takeJournal(() => showOther("waiting"));
   const journal = await Journal.open();

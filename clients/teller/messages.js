@@ -1,6 +1,7 @@
 // Sends one message to the counter and reads its answer. Paths are those of the page's own origin.
 
 import { readAnswer, readEntry } from "./answers.js";
+import { dayOf } from "./spelling.js";
 
 // Longer than the 30 seconds for which another client can hold the desk.
 export const TIME_LIMIT = 40_000;
@@ -31,6 +32,11 @@ function timeOf(response) {
 // The server's time now, in milliseconds; null before the first response. The machine's own clock may be wrong, and plays no part.
 export function serverTime() {
   return heard === null ? null : Math.round(heard.at + performance.now() - heard.since);
+}
+
+// Today by the server's clock, since this machine's may be wrong.
+export function serverToday() {
+  return dayOf(serverTime() ?? Date.now());
 }
 
 function failed(error, cancel) {

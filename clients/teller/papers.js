@@ -103,7 +103,7 @@ function screenTable(paper) {
 function shownPaper(paper, id, printing, ...more) {
   const title = element("h2", { id, tabindex: "-1" }, paper.title, ...(paper.is_copy ? [" ", element("span", { class: "badge" }, PAPER.copy)] : []));
   const help = paper.is_copy ? [element("p", { class: "help" }, PAPER.copy_help)] : [];
-  const buttons = element("p", { class: "buttons" }, button(PAPER.print, printing, { class: paper.is_copy ? "plain print" : "print" }), ...paper.buttons);
+  const buttons = element("p", { class: "buttons" }, button(PAPER.print, printing, { class: paper.is_copy ? "plain print" : "print", id: `${id}-print` }), ...paper.buttons);
   const shown = element("article", { class: "paper", "aria-labelledby": id }, title, ...seriesOf(paper), element("dl", {}, ...pairs(paper.facts)), ...lackOf(paper), ...screenTable(paper), ...more, ...help, buttons);
   return [shown, element("div", { class: "printed" }, ...printedSheets(paper))];
 }
@@ -147,8 +147,8 @@ function interestButtons(ticket, receipt) {
   return details === null ? [] : [button(INTEREST.save, () => saveText(`interest-ticket-${ticket.ticket}.csv`, csvOf([{ ticket, details }])), { class: "plain save" })];
 }
 
-// A ticket, with what this browser keeps of its payment (`receipt`, or null). It is a copy if this desk has printed it before, or didn't pay it.
-export function ticketPaper(app, ticket, receipt, entry, printing) {
+// A ticket, with what this browser keeps of its payment (`receipt`, or null). `next` leads to the next customer. It is a copy if this desk has printed it before, or didn't pay it.
+export function ticketPaper(app, ticket, receipt, entry, printing, next) {
   const is_copy = entry === null || entry.printed;
   const facts = [[PAPER.day, dayInWords(ticket.day)], [PAPER.payee, PAPER.customer(ticket.payee)], [PAPER.bonds, numberInWords(ticket.lines.length)], [PAPER.sum, moneyInWords(ticket.total)]];
   const paper = {
@@ -163,7 +163,7 @@ export function ticketPaper(app, ticket, receipt, entry, printing) {
     amount: amountInWords(ticket.total),
     signed: [PAPER.received, PAPER.signature],
     is_copy,
-    buttons: interestButtons(ticket, receipt),
+    buttons: [button(PAPER.next, next, { id: "next-customer" }), ...interestButtons(ticket, receipt)],
   };
   return shownPaper(paper, "paper-title", printing);
 }

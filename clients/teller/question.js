@@ -43,6 +43,13 @@ function place(focused) {
   }
 }
 
+// The question's text has changed, and with it the place of its buttons.
+export function placeAgain() {
+  if (!byId("confirm").open) return;
+  rest();
+  place(byId("confirm").contains(document.activeElement) ? document.activeElement : byId("confirm-no"));
+}
+
 // Asks the teller to confirm, with the keyboard on "Back", so that a key held too long confirms nothing. `lines` are texts or elements. Resolves to whether it was confirmed.
 export function confirmed(title, lines, yes) {
   const dialog = byId("confirm");
@@ -65,9 +72,5 @@ export function startQuestions() {
     rest();
   });
   // Another width or zoom moves the buttons.
-  addEventListener("resize", () => {
-    if (!byId("confirm").open) return;
-    rest();
-    place(byId("confirm").contains(document.activeElement) ? document.activeElement : byId("confirm-no"));
-  });
+  addEventListener("resize", placeAgain);
 }

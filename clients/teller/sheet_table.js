@@ -97,7 +97,7 @@ export class SheetTable {
     this.#acts = acts;
     const heading = (name) => element("th", { scope: "col", role: "columnheader", class: MONEY.includes(name) ? "money" : "" }, SHEET.columns[name]);
     this.#head = element("thead", { role: "rowgroup" }, element("tr", { role: "row", "aria-rowindex": 1 }, ...COLUMNS.map(heading)));
-    this.#table = element("table", { class: "sheet", role: "table" }, element("caption", {}, SHEET.caption(sheet.customer, sheet.month)), this.#head, this.#foot);
+    this.#table = element("table", { class: "sheet", role: "table" }, element("caption", { class: "unseen" }, SHEET.caption(sheet.customer, sheet.month)), this.#head, this.#foot);
     this.#table.addEventListener("click", (event) => this.#clicked(event));
     this.#table.addEventListener("change", ({ target }) => this.#acts.choose(this.#made.get(target.dataset.serial).row, target.checked));
     this.#table.addEventListener("keydown", (event) => this.#pressed(event));
@@ -218,5 +218,12 @@ export class SheetTable {
   focus(row) {
     this.#write(Math.floor(this.#rows.indexOf(row) / GROUP));
     this.#made.get(row.serial).box.focus();
+  }
+
+  // Brings a row into sight, if it is shown.
+  reveal(row) {
+    if (row === undefined) return;
+    this.#write(Math.floor(this.#rows.indexOf(row) / GROUP));
+    this.#made.get(row.serial).line.scrollIntoView({ block: "nearest" });
   }
 }

@@ -1,4 +1,4 @@
-// The spellings of docs/FORMATS.md: customers, desks, serial numbers, months, days and money. A reader returns null if the text spells no value. How the page says them is in words.js.
+// The spellings of docs/FORMATS.md: customers, desks, days and money. A reader returns null if the text spells no value. What is typed from paper is read by typed.js; how the page says values is in words.js.
 
 function wholeNumber(text, most_digits, least, most) {
   if (!/^[0-9]+$/.test(text) || text.length > most_digits) return null;
@@ -18,32 +18,10 @@ export function readTicketNumber(text) {
   return wholeNumber(text.trim(), 15, 1, Number.MAX_SAFE_INTEGER);
 }
 
-// The one printed spelling of a serial number. It may be typed in small letters or wide ones, and with spaces, points, commas and any dashes in it.
-export function readSerial(text) {
-  const parts = /^([A-Z])([0-9]{1,10})EE$/.exec(text.normalize("NFKC").replace(/[\s\p{Pd}\u2212.,]/gu, "").toUpperCase());
-  if (parts === null || Number(parts[2]) === 0) return null;
-  return `${parts[1]}${Number(parts[2])}EE`;
-}
-
-// The texts of serial numbers in a list. Each ends with EE; what is between them may be spaces, commas, semicolons or nothing.
-export function serialsIn(text) {
-  const texts = text.normalize("NFKC").trim().split(/(?<=EE)[\s,;.]*(?=[^\s,;.])/i);
-  return texts.filter((one) => one !== "");
-}
-
-// A month as YYYY-MM. It may be typed so, or as MM/YYYY.
-export function readMonth(text) {
-  const parts = /^([0-9]{4})-([0-9]{2})$/.exec(text.trim()) ?? /^(?<month>[0-9]{2})\/(?<year>[0-9]{4})$/.exec(text.trim());
-  if (parts === null) return null;
-  const [year, month] = parts.groups === undefined ? [parts[1], parts[2]] : [parts.groups.year, parts.groups.month];
-  const spelled = `${year}-${month}`;
-  return month >= "01" && month <= "12" && spelled >= "2005-05" && spelled <= "2199-12" ? spelled : null;
-}
-
 // A real day as YYYY-MM-DD.
 export function readDay(text) {
   const day = text.trim();
-  if (!/^[0-9]{4}-[0-9]{2}-[0-9]{2}$/.test(day) || readMonth(day.slice(0, 7)) === null) return null;
+  if (!/^[0-9]{4}-[0-9]{2}-[0-9]{2}$/.test(day) || day < "2005-05-01" || day > "2199-12-31") return null;
   const date = new Date(`${day}T00:00:00Z`);
   return !Number.isNaN(date.getTime()) && date.toISOString().slice(0, 10) === day ? day : null;
 }

@@ -1,15 +1,17 @@
 // The business day: opening it, joining it, what was paid on it so far, closing it.
 
+import { isRightMonth } from "./doubts.js";
 import { byId, element, show } from "./elements.js";
 import { button, onClick, onSubmit, readFields } from "./forms.js";
 import { Unstored } from "./journal.js";
 import { countDay, knowOwn } from "./latest.js";
 import { listTable, load, stopLoading } from "./lists.js";
-import { serverTime } from "./messages.js";
+import { serverToday } from "./messages.js";
 import { notice } from "./notices.js";
 import { askBatch, askFirstBatch, isMissing } from "./queries.js";
 import { confirmed } from "./question.js";
-import { dayOf, daysBefore, daysFrom, laterOf, readDay, today } from "./spelling.js";
+import { RELEASED } from "./released.js";
+import { daysBefore, daysFrom, laterOf, readDay, today } from "./spelling.js";
 import { lookUpTicket } from "./view_lookups.js";
 import { DAY, ENTER, LOOKUPS, moneyInWords, numberInWords } from "./words.js";
 
@@ -45,7 +47,7 @@ export function showDay(app) {
   byId("last-ticket").textContent = last === null ? "" : DAY.last(last);
 }
 
-// Puts the acts of a supervisor behind what a user who is none may do. If the groups aren't known, they come first.
+// Puts the acts of a supervisor behind what a user who is none may do, and their buttons can't be pressed. If the groups aren't known, they come first.
 export function offerActs(groups) {
   const may = groups === null || groups.includes("supervisor");
   const forms = [byId("open-day"), byId("join-day")];
@@ -53,7 +55,10 @@ export function offerActs(groups) {
   if (first.nextElementSibling !== second) first.after(second);
   first.querySelector("button").classList.remove("plain");
   second.querySelector("button").classList.add("plain");
-  for (const id of ["open-barred", "close-barred"]) show(byId(id), !may);
+  for (const act of ["open", "close"]) {
+    show(byId(`${act}-barred`), !may);
+    byId(`${act}-day`).querySelector("button").disabled = !may;
+  }
 }
 
 // Counts what all desks paid on the open day, from where the journal left it.
@@ -96,16 +101,12 @@ async function lastClosed(known, day, signal) {
   return found.kind === "batch" ? { day: laterOf(known, found.day) } : found;
 }
 
-// Today by the server's clock, since this machine's may be wrong.
-function serverToday() {
-  return dayOf(serverTime() ?? Date.now());
-}
-
 async function isConfirmed(day, closed) {
   const now = serverToday();
   const is_far = Math.abs(daysFrom(now, day)) > USUAL_DAYS;
-  const is_unusual = is_far || closed === null || daysFrom(closed, day) > USUAL_DAYS;
-  const distances = [DAY.open_line(day, closed, USUAL_DAYS), ...(is_far ? [DAY.today_line(day, now)] : [])];
+  const is_wrong = now < RELEASED;
+  const is_unusual = is_far || is_wrong || closed === null || daysFrom(closed, day) > USUAL_DAYS;
+  const distances = [DAY.open_line(day, closed, USUAL_DAYS), ...(is_far ? [DAY.today_line(day, now)] : []), ...(is_wrong ? [DAY.clock_line(now)] : [])];
   if (!(await confirmed(DAY.open_title(day), distances, is_unusual ? DAY.continue : DAY.open))) return false;
   return !is_unusual || (await isConfirmedAgain(day, distances));
 }
@@ -135,6 +136,7 @@ async function join(app, day) {
     app.showBatch(answer);
     notice("noted", DAY.is_closed_batch(day));
   } else if (isMissing(answer)) {
+    if (!(await isRightMonth(day, DAY.join(day)))) return;
     await app.keep({ day });
     notice("done", DAY.joined(day), DAY.joined_help);
     await countAll(app);

@@ -7,15 +7,17 @@ import { listTable, load } from "./lists.js";
 import { notice } from "./notices.js";
 import { batchPaper, ticketPaper } from "./papers.js";
 import { askBatch, askTicket, isMissing } from "./queries.js";
+import { restKeys } from "./scans.js";
 import { readDay, readTicketNumber } from "./spelling.js";
+import { focusPay } from "./view_pay.js";
 import { goTo } from "./views.js";
 import { dayInWords, ENTER, LOOKUPS, moneyInWords, numberInWords, PAPER } from "./words.js";
 
 // How many of the latest are listed, and how many more by the button.
 const LISTED = 10;
 
-// The ticket that is shown; what this browser keeps of its payment, if it does; and what the journal will have of it, if it was paid just now.
-const shown = { ticket: null, receipt: null, entry: null };
+// The ticket that is shown; what this browser keeps of its payment, if it does; what the journal will have of it, if it was paid just now; and what leads to the next customer.
+const shown = { ticket: null, receipt: null, entry: null, next: focusPay };
 
 // ---- tickets
 
@@ -25,9 +27,11 @@ function entryOf(app, number) {
 }
 
 function showPaper(app) {
-  const { ticket, receipt, entry } = shown;
+  const { ticket, receipt, entry, next } = shown;
   if (ticket === null) return;
-  byId("ticket").replaceChildren(...ticketPaper(app, ticket, receipt, entryOf(app, ticket.ticket) ?? entry, () => printTicket(app)));
+  const had_keyboard = byId("ticket").contains(document.activeElement);
+  byId("ticket").replaceChildren(...ticketPaper(app, ticket, receipt, entryOf(app, ticket.ticket) ?? entry, () => printTicket(app), next));
+  if (had_keyboard) byId("next-customer").focus();
 }
 
 // Writes down that a ticket is printed, if this desk paid it. What is being printed stays as it is until then.
@@ -47,15 +51,18 @@ async function printTicket(app) {
   }
   await markPrinted(app);
   print();
+  byId("next-customer").focus();
 }
 
-export function showTicket(app, ticket, receipt, entry = null) {
+// Shows a ticket. If it was paid just now (`entry`), the keyboard is on Print, and then on the way to the next customer.
+export function showTicket(app, ticket, receipt, entry = null, next = focusPay) {
   remember(ticket);
-  Object.assign(shown, { ticket, receipt, entry });
+  Object.assign(shown, { ticket, receipt, entry, next });
   goTo("tickets");
   byId("ticket-number").value = String(ticket.ticket);
   showPaper(app);
-  focusLater("paper-title");
+  focusLater(entry === null ? "paper-title" : "paper-title-print");
+  if (entry !== null) restKeys();
 }
 
 // After the change of view has put the keyboard on the view's own heading.

@@ -3,19 +3,22 @@
 // A bond is paid at its value in the month of the day that the page works on. So bonds are chosen only on a sheet of that month, and when another month's day begins, or the day ends,
 // nothing that was chosen stays: the sum that the teller confirms is the sum that is paid.
 
-import { agreesWithPaper, doubtsOf } from "./doubts.js";
+import { isWithoutDoubt } from "./doubts.js";
 import { byId, element, show } from "./elements.js";
 import { filtered } from "./filter.js";
 import { button, onSubmit, readFields, unmark } from "./forms.js";
-import { clearHand, found, miss, showHand, startHand } from "./hand.js";
+import { clearHand, found, miss, showHand, startHand, whyMissed } from "./hand.js";
 import { announce, clearNoted, notice } from "./notices.js";
 import { askSheet } from "./queries.js";
 import { confirmed } from "./question.js";
 import { bondsOf } from "./receipts.js";
+import { leadTo, takeScans, takeWaiting } from "./scans.js";
 import { isPaid, isPayable } from "./sheet.js";
 import { legend, SheetTable, unpaidRows } from "./sheet_table.js";
-import { monthOf, readCustomer, readMonth, readSerial, today } from "./spelling.js";
-import { ENTER, HAND, moneyInWords, PAY, SHEET, TEXTS } from "./words.js";
+import { monthOf, readCustomer, today } from "./spelling.js";
+import { readMonth, readSerial, typedSerial } from "./typed.js";
+import { goTo } from "./views.js";
+import { ENTER, HAND, moneyInWords, namesInWords, PAY, SHEET, TEXTS } from "./words.js";
 
 export const MOST_BONDS = 100;
 
@@ -23,8 +26,11 @@ export const MOST_BONDS = 100;
 const TYPED = 500;
 
 // The month in which bonds are paid now, or null; the sheet that is shown, its table, and its rows that the filter leaves; and the bonds that are chosen, each once, by its serial number: the rows of the
-// sheet, and (`is_added`) of other ones.
-const shown = { month: null, sheet: null, table: null, rows: [], chosen: new Map() };
+// sheet, and (`is_added`) of other ones. What was scanned, by serial number, or by its text if that is none; and whether the sheet has the columns that a payment doesn't need.
+const shown = { month: null, sheet: null, table: null, rows: [], chosen: new Map(), scans: new Set(), has_all_columns: false };
+
+// The look-up of a sheet that is under way, or null: scans wait for that sheet.
+let asks = null;
 
 // What was chosen and typed when the last payment was sent.
 let sent = null;
@@ -68,6 +74,7 @@ function showChosen() {
   const bonds = chosenBonds();
   byId("sum").textContent = moneyInWords(sumOf(bonds));
   byId("chosen").textContent = chosenInWords(bonds);
+  byId("chosen-names").textContent = namesInWords([...shown.chosen.keys()].reverse(), 2);
   byId("pay-button").textContent = payButtonText(bonds);
   show(byId("no-day"), shown.month === null);
   show(byId("add-bond"), shown.month !== null);
@@ -165,9 +172,33 @@ function followAllButton() {
   show(byId("choose-all"), chosenOf(rows) > 0 || roomFor(rows) > 0);
 }
 
-// What can be paid of the sheet, and the button that chooses all of it.
-function payableLine() {
-  return element("p", { class: "payable" }, element("strong", {}, payableInWords()), " ", button("", chooseAll, { id: "choose-all", class: "plain" }));
+// The form folds into one line, with what can be done with the sheet, so that the bonds have the room.
+function fold(is_folded) {
+  const { sheet } = shown;
+  show(byId("ask-sheet"), !is_folded);
+  show(byId("folded"), is_folded);
+  byId("pay").classList.toggle("folds", is_folded);
+  byId("pay").querySelector("h1").classList.toggle("unseen", is_folded);
+  if (!is_folded) return;
+  byId("facts").textContent = SHEET.facts(sheet.customer, sheet.month, payableInWords());
+  byId("sheet-acts").replaceChildren(button("", chooseAll, { id: "choose-all" }), button("", otherColumns, { id: "all-columns" }), button(SHEET.change, unfold, { id: "change" }));
+  showColumns();
+}
+
+function unfold() {
+  fold(false);
+  byId("customer").select();
+}
+
+// Columns that a payment doesn't need come on demand.
+function otherColumns() {
+  shown.has_all_columns = !shown.has_all_columns;
+  showColumns();
+}
+
+function showColumns() {
+  byId("sheet").classList.toggle("all", shown.has_all_columns);
+  byId("all-columns").textContent = shown.has_all_columns ? SHEET.fewer_columns : SHEET.all_columns;
 }
 
 function payableInWords() {
@@ -183,13 +214,15 @@ function followBoxes() {
   showChosen();
 }
 
-function showSheet(app) {
+// Folds the form, if bonds can be chosen: by itself only as it was.
+function showSheet(app, is_folded = byId("ask-sheet").hidden) {
   const { sheet } = shown;
   shown.table?.end();
   shown.table = sheet.rows.length === 0 ? null : new SheetTable(sheet, ACTS);
   const parts = [element("p", { class: "main-fact" }, SHEET.none(sheet.customer))];
-  if (shown.table !== null) parts.splice(0, 1, canChoose() ? payableLine() : otherMonth(app), shown.table.region, ...legend(sheet));
+  if (shown.table !== null) parts.splice(0, 1, ...(canChoose() ? [] : [otherMonth(app)]), shown.table.region, ...legend(sheet));
   byId("sheet").replaceChildren(...parts);
+  fold(is_folded && shown.table !== null && canChoose());
   showRows();
 }
 
@@ -237,9 +270,10 @@ function startFilter() {
 async function ask(app) {
   const fields = readFields([byId("customer"), readCustomer, ENTER.customer], [byId("month"), readMonth, ENTER.month]);
   if (fields === null) return;
-  const answer = await app.lookUp((signal) => askSheet(...fields, signal));
+  const answer = await app.lookUp((signal) => awaited(signal, askSheet(...fields, signal)));
   // A long sheet is read and shown in two turns.
   await new Promise((resolve) => setTimeout(resolve));
+  if (asks === answer) asks = null;
   if (answer.kind !== "sheet") {
     app.tellUnanswered(answer);
     return;
@@ -247,13 +281,24 @@ async function ask(app) {
   clearPay();
   shown.sheet = answer;
   byId("payee").value = String(answer.customer);
-  showSheet(app);
+  const had_keyboard = byId("ask-sheet").contains(document.activeElement);
+  showSheet(app, true);
   saySheet();
   const begin = byId(canChoose() ? "hand" : "sheet");
   // In a low or narrow window the sheet would begin below what is seen.
-  if (begin.getBoundingClientRect().top > innerHeight / 2) begin.scrollIntoView();
-  // After Enter in one of these fields the next is the one for the bonds in hand.
-  if (canChoose() && document.activeElement.matches("#ask-sheet input")) byId("in-hand").focus({ preventScroll: true });
+  if (begin.getBoundingClientRect().top > innerHeight / 4) begin.scrollIntoView();
+  // After this form the next field is the one for the bonds in hand.
+  if (canChoose() && had_keyboard) leadTo(byId("in-hand"));
+  takeWaiting();
+}
+
+// An answer, until which scans wait; or until the look-up is ended before it.
+async function awaited(signal, asked) {
+  asks = signal;
+  signal.addEventListener("abort", () => asks === signal && (asks = null));
+  const answer = await asked;
+  if (asks === signal) asks = answer;
+  return answer;
 }
 
 // ---- bonds in hand
@@ -275,10 +320,21 @@ function otherOwner(serial) {
   });
 }
 
+// Chooses the bonds of some texts, and says which. Returns their number.
+function takeAll(texts) {
+  const said = texts.map(take);
+  const serials = texts.map(readSerial);
+  texts.forEach((text, place) => shown.scans.add(serials[place] ?? text));
+  shown.table?.reveal(shown.rows.find((row) => row.serial === serials.at(-1)));
+  byId("hand-last").textContent = said.at(-1);
+  announce(`${said.join(" ")} ${sumInWords()}`);
+  return texts.length;
+}
+
 // Chooses a bond of the sheet by its serial number, or puts it on the list of what wasn't chosen. Returns what to say.
 function take(text) {
-  const serial = readSerial(text);
-  if (serial === null) return missing(text, HAND.no_serial(text));
+  const { value: serial, why } = typedSerial(text);
+  if (serial === null) return missing(text, HAND.no_serial(text, why));
   if (shown.chosen.has(serial)) return PAY.already(serial);
   const bar = barOf(serial);
   const row = shown.sheet.rows.find((one) => one.serial === serial);
@@ -310,7 +366,7 @@ function showAdded() {
 }
 
 async function add(app) {
-  const fields = readFields([byId("serial"), readSerial, ENTER.serial], [byId("owner"), readCustomer, ENTER.customer]);
+  const fields = readFields([byId("serial"), typedSerial, ENTER.serial], [byId("owner"), readCustomer, ENTER.customer]);
   if (fields === null) return;
   const [serial, owner] = fields;
   if (shown.month === null) tellNoDay();
@@ -359,11 +415,21 @@ async function payTo(app, day, bonds) {
   if (fields === null) return;
   const [payee] = fields;
   const sum = sumOf(bonds);
-  const lines = [PAY.pay_lines(bonds.length, day), bondList(bonds)];
-  if (doubtsOf(bonds).length > 0 && !(await agreesWithPaper(bonds))) return;
+  const lines = [...scanLines(), PAY.pay_lines(bonds.length, day, sum), bondList(bonds), element("p", { class: "help" }, PAY.window)];
+  if (!(await isWithoutDoubt(day, bonds, sum))) return;
   if (!(await confirmed(PAY.pay_title(sum, payee), lines, PAY.pay_to(sum, payee)))) return;
   noteSent();
   await app.act("/redeem", { day, payee, serials: bonds.map((bond) => bond.serial) }, { shown: sum.toString(), bonds: bondsOf(bonds) });
+  takeWaiting();
+}
+
+// How many of the scans are paid, and why the others aren't.
+function scanLines() {
+  const names = [...shown.scans];
+  const left = names.filter((name) => !shown.chosen.has(name));
+  if (names.length === 0) return [];
+  const items = left.map((name) => element("li", {}, whyMissed(name) ?? PAY.unticked(name)));
+  return [element("p", { class: left.length === 0 ? "" : "says" }, PAY.scans(names.length - left.length, names.length)), ...(left.length === 0 ? [] : [element("ul", { class: "left", tabindex: "0", "aria-label": PAY.left }, ...items)])];
 }
 
 // What one holds against the paper. The list has its name from the question's title, so that a screen reader says the bonds, and not the name, as it describes the question.
@@ -410,6 +476,7 @@ export function markPaid(app, serials, ticket) {
 
 function clearChosen() {
   shown.chosen.clear();
+  shown.scans.clear();
   byId("others").replaceChildren();
 }
 
@@ -420,6 +487,7 @@ export function clearPay() {
   clearChosen();
   clearHand();
   byId("sheet").replaceChildren();
+  fold(false);
   for (const field of ["payee", "in-hand", "filter", "serial", "owner"]) {
     byId(field).value = "";
     unmark(byId(field));
@@ -435,7 +503,7 @@ export function followDay(app) {
   shown.month = month;
   if (shown.sheet !== null && shown.sheet.month === month) {
     clearChosen();
-    showSheet(app);
+    showSheet(app, true);
   } else {
     clearPay();
     byId("month").value = month ?? monthOf(today());
@@ -447,6 +515,12 @@ export function enterPay(app) {
   if (shown.sheet === null) byId("month").value = monthOf(app.record.day ?? today());
 }
 
+// Leads to the next customer: to the number, or to the bonds if a sheet is shown already.
+export function focusPay() {
+  if (shown.sheet === null) byId("customer").value = "";
+  goTo("pay", byId("folded").hidden ? "customer" : "in-hand");
+}
+
 export function startPayView(app) {
   // A browser without a field for months has one for text.
   if (byId("month").type !== "month") document.querySelector("label[for=month]").textContent = TEXTS.month_typed;
@@ -454,7 +528,8 @@ export function startPayView(app) {
   onSubmit(byId("add-bond"), () => add(app));
   onSubmit(byId("pay-bonds"), () => pay(app));
   byId("payee").addEventListener("input", showChosen);
-  startHand({ take, toPay, sumInWords });
+  startHand(() => (readCustomer(byId("payee").value) === null ? toPay() : pay(app)));
+  takeScans(() => asks === null && byId("in-hand").checkVisibility(), takeAll);
   startFilter();
   showChosen();
 }

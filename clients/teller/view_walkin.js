@@ -2,16 +2,18 @@
 // which is in the journal with the first.
 
 import { byId, element, show } from "./elements.js";
-import { agreesWithPaper } from "./doubts.js";
+import { isWithoutDoubt } from "./doubts.js";
 import { button, onSubmit, readFields, unmark } from "./forms.js";
 import { announce, clearNoted, notice } from "./notices.js";
 import { askValue } from "./queries.js";
 import { confirmed } from "./question.js";
 import { bondsOf } from "./receipts.js";
+import { isTwice, takeScans, takeWaiting } from "./scans.js";
 import { isPayable } from "./sheet.js";
-import { monthOf, readCustomer, readSerial } from "./spelling.js";
-import { monthAsPrinted, readDenomination, readIssueMonth } from "./typed.js";
+import { monthOf, readCustomer } from "./spelling.js";
+import { monthAsPrinted, readIssueMonth, typedDenomination, typedIssue, typedSerial } from "./typed.js";
 import { bondList, MOST_BONDS, noteSent } from "./view_pay.js";
+import { goTo } from "./views.js";
 import { ENTER, moneyInWords, PAY, SHEET, WALK_IN } from "./words.js";
 
 const BOND_FIELDS = ["walkin-serial", "walkin-denom", "walkin-issued"];
@@ -56,9 +58,13 @@ function showBonds() {
   show(byId("pay-walkin"), isOffered() && bonds.length > 0);
 }
 
-// Enter in one field leads to the next, as long as that is empty: a scanner sends Enter too. Whether it did.
+// Enter in one field leads to the next, as long as that is empty: a scanner sends Enter too. In the empty form it leads from the bonds to their owner. Whether it did.
 function ledOn() {
   const at = /** @type {HTMLInputElement} */ (document.activeElement);
+  if (shown.bonds.size > 0 && BOND_FIELDS.every((id) => byId(id).value.trim() === "")) {
+    byId(isTwice() ? "walkin-serial" : "walkin-owner").focus();
+    return true;
+  }
   const next = byId(BOND_FIELDS[BOND_FIELDS.indexOf(at.id) + 1]);
   const leads_on = BOND_FIELDS.includes(at.id) && at.value.trim() !== "" && next !== null && next.value.trim() === "";
   if (leads_on) next.focus();
@@ -67,8 +73,8 @@ function ledOn() {
 
 async function add(app) {
   if (ledOn()) return;
-  const issued = [byId("walkin-issued"), readIssueMonth, ENTER.issue_month];
-  const fields = readFields([byId("walkin-serial"), readSerial, ENTER.serial], [byId("walkin-denom"), readDenomination, ENTER.denomination], issued);
+  const issued = [byId("walkin-issued"), typedIssue, ENTER.issue_month];
+  const fields = readFields([byId("walkin-serial"), typedSerial, ENTER.serial], [byId("walkin-denom"), typedDenomination, ENTER.denomination], issued);
   if (fields === null) return;
   const [serial] = fields;
   clearNoted();
@@ -92,6 +98,18 @@ function addRow(bond) {
   showBonds();
   byId("walkin-serial").focus();
   announce(`${WALK_IN.bond_line(bond).join(", ")}. ${PAY.chosen(shown.bonds.size, shown.month)}, ${moneyInWords(sumOf(typedBonds()))}`);
+  takeWaiting();
+}
+
+// The first scan that waits is the next bond's. The others wait for theirs.
+function canTake() {
+  return byId("walkin-serial").checkVisibility() && byId("walkin-serial").value.trim() === "";
+}
+
+function take([text]) {
+  byId("walkin-serial").value = text;
+  byId("walkin-denom").focus();
+  return 1;
 }
 
 // ---- registering and paying
@@ -118,8 +136,8 @@ async function pay(app) {
   const payee = named === 0 ? owner : named;
   const { day } = app.record;
   const sum = sumOf(bonds);
-  const lines = [WALK_IN.owners(owner, coowner), PAY.pay_lines(bonds.length, day), bondList(bonds)];
-  if (!(await agreesWithPaper(bonds))) return;
+  const lines = [WALK_IN.owners(owner, coowner), PAY.pay_lines(bonds.length, day, sum), bondList(bonds), element("p", { class: "help" }, PAY.window)];
+  if (!(await isWithoutDoubt(day, bonds, sum))) return;
   if (!(await confirmed(WALK_IN.title(bonds.length, sum, payee), lines, WALK_IN.act_to(sum, payee)))) return;
   noteSent();
   const rows = bonds.map(({ serial, denom, issued }) => ({ serial, denom: Number(denom), issued: readIssueMonth(issued), owner, ...(coowner === 0 ? {} : { coowner }) }));
@@ -149,6 +167,11 @@ export function followWalkIn(app) {
   showForms();
 }
 
+export function enterWalkIn(app) {
+  followWalkIn(app);
+  takeWaiting();
+}
+
 function showForms() {
   show(byId("walkin-barred"), shown.is_barred);
   show(byId("walkin-no-day"), shown.month === null && !shown.is_barred);
@@ -163,8 +186,14 @@ export function offerWalkIn(groups) {
   showForms();
 }
 
+// Leads to the next customer.
+export function focusWalkIn() {
+  goTo("walkin", "walkin-serial");
+}
+
 export function startWalkIn(app) {
   onSubmit(byId("add-walkin"), () => add(app));
   onSubmit(byId("pay-walkin"), () => pay(app));
+  takeScans(canTake, take);
   showForms();
 }

@@ -16,8 +16,13 @@ function showOnly(name) {
   document.title = HEAD.title(byId(name).querySelector("h1").textContent);
 }
 
-function focusHeading(name) {
-  byId(name).querySelector("h1").focus({ preventScroll: true });
+// What gets the keyboard in the view that comes, in place of its heading.
+let landing = null;
+
+function focusFirst(name) {
+  const first = landing === null ? byId(name).querySelector("h1") : byId(landing);
+  landing = null;
+  first.focus({ preventScroll: true });
   scrollTo(0, 0);
 }
 
@@ -32,9 +37,15 @@ export function showOther(name) {
   showOnly(name);
 }
 
-export function goTo(name) {
-  if (named() === name) showOnly(name);
-  else location.hash = name;
+// Shows a view. The keyboard goes to the element `id`, if one is given.
+export function goTo(name, id = null) {
+  if (named() !== name) {
+    landing = id;
+    location.hash = name;
+    return;
+  }
+  showOnly(name);
+  if (id !== null) byId(id).focus();
 }
 
 // Starts the views. `entered` is called with the name of each view that is shown.
@@ -45,6 +56,6 @@ export function startViews(entered) {
   addEventListener("hashchange", () => {
     showOnly(named());
     entered(named());
-    focusHeading(named());
+    focusFirst(named());
   });
 }

@@ -76,10 +76,11 @@ export const amountInWords = (cents) => FORMATS.amount(cents);
 const bonds = (count) => FORMATS.bonds(count);
 const tickets = (count) => FORMATS.tickets(count);
 
-// The number of a month by its name, or by the first three letters or more of it; null if there is none.
-export function monthNamed(name) {
-  const place = FORMATS.months.findIndex((month) => month.toLowerCase().startsWith(name.toLowerCase()));
-  return place < 0 ? null : place + 1;
+const MOST_NAMED = 3;
+
+// The first names of some, and how many more they are.
+export function namesInWords(names, most = MOST_NAMED) {
+  return names.length <= most ? names.join(", ") : `${names.slice(0, most).join(", ")} and ${numberInWords(names.length - most)} more`;
 }
 
 // ---- the texts of index.html, by their names there
@@ -97,6 +98,7 @@ export const TEXTS = {
   send_now: "Send it now",
   asking: "Asking the counter.",
   cancel: "Cancel",
+  forget_scans: "Forget them",
   choose_desk: "Choose a desk",
   choose_desk_help: "Each page that works at the counter has its own desk, a number from 0 to 999. You choose it once for this browser. No other browser or program may use it.",
   desk: "Desk",
@@ -121,6 +123,7 @@ export const TEXTS = {
   open_day_legend: "Open a day",
   open_day: "Open the day",
   open_barred: "This user may not open a day: ask a supervisor.",
+  pay_barred: "This user may not pay bonds: ask a teller.",
   join_day_legend: "Join the day that another desk opened",
   open_day_label: "Open day",
   join_day: "Join the day",
@@ -129,9 +132,9 @@ export const TEXTS = {
   month: "Month",
   month_typed: "Month (YYYY-MM)",
   show_sheet: "Show the unpaid bonds",
-  in_hand: "Bonds in hand (serial numbers)",
+  in_hand: "Bonds in hand",
   choose: "Choose",
-  in_hand_help: "Type or scan serial numbers, each with Enter. Enter in the empty field, or on a bond below, leads to Pay.",
+  in_hand_help: "Type or scan serial numbers, each with Enter. Enter in the empty field asks to pay.",
   filter: "Show only",
   filter_help: "Part of a serial number, a denomination, or an issue month. Enter leads to the first bond.",
   another_bond: "Another bond",
@@ -171,9 +174,9 @@ export const TEXTS = {
   issue_month: "Issue month (MM/YYYY)",
   walkin_customer: "Customers",
   walkin_owner: "Owner (customer number)",
-  walkin_coowner: "Coowner, if the paper names one",
+  walkin_coowner: "Coowner, if the paper says OR",
   walkin_payee: "Pay to, if not the owner",
-  walkin_customer_help: "A registered bond can't be changed: compare the names on the paper with the customer numbers.",
+  walkin_customer_help: "OR is a coowner; POD is a beneficiary: leave it empty. A registered bond can't be changed: compare the names on the paper with the customer numbers.",
 };
 
 // ---- fields
@@ -191,6 +194,15 @@ export const ENTER = {
   walk_in_payee: "Enter the owner's number or the coowner's, or nothing",
   last_day: "Enter a day that isn't before the first one",
   day_before: (day) => `Enter a day before ${dayInWords(day)}: the records of that day are in use`,
+};
+
+// Why this counter can't pay a bond that was typed, or what to type instead, by the reasons of typed.js.
+const TO_TREASURY = "The back office sends it to the Treasury, with FS Form 1522";
+
+export const TYPED = {
+  series: `If the paper isn't of Series EE, this counter can't pay it. ${TO_TREASURY}`,
+  early: `This counter can't pay a bond that was issued before May 2005. ${TO_TREASURY}`,
+  unclear: "Enter the month as MM/YYYY, without a day (such as 05/2010)",
 };
 
 // ---- the head of the page
@@ -235,12 +247,14 @@ export const DAY = {
   open: "Open the day",
   continue: "Continue",
   year_title: (year) => `Is the year ${year} right?`,
+  clock_line: (today) => `The server's clock says ${dayInWords(today)}, which can't be right: tell your administrator.`,
   year_line: (day) => `Bonds are then paid at their values in ${monthInWords(monthOf(day))}, and no earlier day can ever be opened again.`,
   year_back: "If the year or the day is mistyped, choose Back.",
   open_in: (year) => `Open the day in ${year}`,
   is_open: (day) => `${dayInWords(day)} is open.`,
   is_closed: (day) => `${dayInWords(day)} is closed.`,
   is_closed_batch: (day) => `${dayInWords(day)} is closed. This is its batch.`,
+  join: (day) => `Join ${dayInWords(day)}`,
   joined: (day) => `This desk joined ${dayInWords(day)}.`,
   joined_help: "If it isn't the open day, the first payment is refused, and nothing is changed.",
   close_title: (day, total) => `Close ${weekdayInWords(day)} with ${moneyInWords(total)}?`,
@@ -262,7 +276,11 @@ export const PAY = {
   pay_sum: (sum) => `Pay ${moneyInWords(sum)}`,
   pay_to: (sum, payee) => `Pay ${moneyInWords(sum)} to customer ${payee}`,
   pay_title: (sum, payee) => `Pay ${moneyInWords(sum)} to customer ${payee}?`,
-  pay_lines: (count, day) => `${bonds(count)}, on ${weekdayInWords(day)}:`,
+  pay_lines: (count, day, sum) => `${bonds(count)} on ${weekdayInWords(day)}, ${moneyInWords(sum)} in all:`,
+  window: "Identify the person, and see the request for payment signed on every bond. Stamp every bond PAID.",
+  scans: (count, all) => `${numberInWords(count)} of ${all === 1 ? "1 scan" : `${numberInWords(all)} scans`}${count === all ? "." : ". Not in this payment:"}`,
+  left: "Scanned, and not in this payment",
+  unticked: (serial) => `${serial} was scanned, and isn't chosen.`,
   bond_line: (serial, denom, issued, value) => [serial, SHEET.denom(denom), SHEET.issued(issued), moneyInWords(value)],
   box: (serial) => `Pay bond ${serial}`,
   no_day_sheet: "No business day is open, so nothing can be chosen here.",
@@ -295,11 +313,14 @@ export const PAY = {
 export const HAND = {
   taken: (serial, denom, issued, value) => `${serial} is chosen: ${SHEET.denom(denom)}, ${SHEET.issued(issued)}, ${moneyInWords(value)}.`,
   missed: (count) => `Not chosen: ${numberInWords(count)}`,
-  no_serial: (text) => `“${text}” isn't a serial number (such as C12EE).`,
+  no_serial: (text, why) => (TYPED[why] === undefined ? `“${text}” isn't a serial number (such as C12EE).` : `“${text}”: ${TYPED[why]}.`),
   paid: (serial, ticket) => `Bond ${serial} was paid already, on ticket ${ticket}.`,
   no_room: (serial, most) => `Bond ${serial} has no room: a ticket holds up to ${most}. Pay it on another one.`,
   other_owner: (serial) => `${serial} has another owner`,
   clear: "Clear this list",
+  not_here: `If its paper was issued before May 2005, this counter can't pay it. ${TO_TREASURY}.`,
+  waiting: (names) => `Scanned: ${namesInWords(names)}. ${names.length === 1 ? "It waits" : "They wait"} for a customer's sheet.`,
+  meanwhile: (names) => `Scanned, and not in this question: ${namesInWords(names)}.`,
 };
 
 // ---- sheets
@@ -314,16 +335,20 @@ export const SHEET = {
   },
   legend: "Notes",
   region: "Unpaid bonds",
+  facts: (customer, month, payable) => `Customer ${customer} · ${monthInWords(month)} · ${payable}`,
+  change: "Change",
+  all_columns: "All columns",
+  fewer_columns: "Fewer columns",
   caption: (customer, month) => `Unpaid bonds of customer ${customer} in ${monthInWords(month)}`,
   none: (customer) => `Customer ${customer} owns no unpaid bonds.`,
   total: "Total",
   total_shown: "Total shown",
   filtered: (count, all, hidden) => `${numberInWords(count)} of ${bonds(all)} shown.${hidden === 0 ? "" : ` Chosen, but not shown: ${numberInWords(hidden)}.`}`,
-  payable: (count, all, sum) => (count === 0 ? `None of ${bonds(all)} can be paid in this month.` : `${numberInWords(count)} of ${bonds(all)} can be paid: ${moneyInWords(sum)} in all.`),
+  payable: (count, all, sum) => (count === 0 ? `None of ${bonds(all)} can be paid in this month` : `${numberInWords(count)} of ${numberInWords(all)} can be paid: ${moneyInWords(sum)}`),
   payable_total: "Can be paid",
-  select: (count) => (count === 1 ? "Select the one that can be paid" : `Select all ${numberInWords(count)} that can be paid`),
-  select_shown: (count) => (count === 1 ? "Select the one shown that can be paid" : `Select the ${numberInWords(count)} shown that can be paid`),
-  select_first: (most) => `Select the first ${most}: a ticket holds no more`,
+  select: (count) => (count === 1 ? "Select it" : `Select all ${numberInWords(count)}`),
+  select_shown: (count) => `Select the ${numberInWords(count)} shown`,
+  select_first: (most) => `Select the first ${most}: a ticket's most`,
   select_none: "Select none",
   no_value: "–",
   denom: (dollars) => `$${numberInWords(Number(dollars))}`,
@@ -388,6 +413,7 @@ export const PAPER = {
   signature: "Signature",
   settled: "Settled by: name",
   print: "Print",
+  next: "Next customer",
   tickets_paid: "Tickets paid",
   bonds_paid: "Bonds paid",
   sum_paid: "Sum paid",
@@ -495,7 +521,7 @@ export const REFUSALS = {
   41: ["DayNotLater", () => "This day, or a later one, is closed already.", () => "Open a later day. A day is opened only once."],
   42: ["NoOpenDay", () => "No business day is open.", () => "Open the day first, and try again."],
   43: ["DayIsOther", () => "A different business day is open.", () => "Join the day that is open, and try again."],
-  44: ["DayFull", () => "The day has reached its limit of 1,000 tickets.", () => "Close it, and continue on a later day."],
+  44: ["DayFull", () => "The day has reached its limit of 1,000 tickets.", () => "Pay at the second counter, if the bond is in its register. Otherwise a supervisor closes the day and opens the next date, but never one of the next month: it pays that month's values."],
   50: ["UnknownSerial", (answer) => `${bondOf(answer)} isn't registered.`, () => "Compare the serial number with the paper. If it is right, have the bond registered first."],
   51: ["NotPayee", (answer) => `The payee is neither the owner nor the coowner of ${thatBond(answer)}.`, () => "Compare the customer number with the register. Nobody else can be paid."],
   52: ["AlreadyPaid", (answer) => `${bondOf(answer)} was paid already, on ticket ${answer.ticket}.`, () => "Don't pay it again. Look at that ticket to see who was paid, and when."],
@@ -651,18 +677,23 @@ export const WALK_IN = {
 
 // ---- what may be mistyped
 
-const MOST_NAMED = 3;
-const named = (serials) => (serials.length <= MOST_NAMED ? serials.join(", ") : `${serials.slice(0, MOST_NAMED).join(", ")} and ${numberInWords(serials.length - MOST_NAMED)} more`);
 
 export const DOUBTS = {
   title: "Do these bonds agree with the paper?",
   letter: (serials, letter, denom_of_letter, denom) => {
     const says = denom_of_letter === null ? `no denomination has the letter ${letter}` : `the letter ${letter} means ${SHEET.denom(denom_of_letter)}`;
-    return `${named(serials)}: ${says}, and the denomination here is ${SHEET.denom(denom)}.`;
+    return `${namesInWords(serials)}: ${says}, and the denomination here is ${SHEET.denom(denom)}.`;
   },
-  month: (serials, issued) => `${named(serials)}: issued ${issued}, and paper was sold only until 12/2011.`,
+  month: (serials, issued) => `${namesInWords(serials)}: issued ${issued}, and paper was sold only until 12/2011.`,
   back: "If anything differs from the paper, choose Back.",
   agree: "They agree: continue",
+  day_title: (day) => `Is ${dayInWords(day)} the right day?`,
+  other_month: (day, today) => `The open day is in ${monthInWords(monthOf(day))}; today is ${dayInWords(today)}. Bonds are then paid at their values in ${monthInWords(monthOf(day))}.`,
+  day_back: "If this day should be closed, choose Back: a supervisor closes it and opens today's.",
+  pay_in: (day) => `Pay at the values of ${monthInWords(monthOf(day))}`,
+  sum_title: (sum) => `Is ${moneyInWords(sum)} right?`,
+  sum: (most) => `It is more than ${moneyInWords(most)}, above which the bank asks once more. Compare every bond with the paper.`,
+  sum_act: "It is right: continue",
 };
 
 // ---- the bank's own words

@@ -2,8 +2,8 @@
 
 #include <stdio.h>
 
-int main(void) { /* a 50-dollar bond of May 2010 at 3.40 % and then 4.00 %, in November 2030 */
-    int64_t cents = ee_value_cents(50, 201005, 203011, 340, 400);
+int main(void) { /* a 50-dollar bond of November 2005 at 3.20 % and then an invented 4.00 %, in November 2026 */
+    int64_t cents = ee_value_cents(50, 200511, 202611, 320, 400);
     if (cents < 0) return 1;
     printf("%d.%02d\n", (int)(cents / 100), (int)(cents % 100));
     return 0;

@@ -1,14 +1,14 @@
        identification division.
        program-id. bond.
-      *> The row of a 50-dollar bond of May 2010 at 3.40 % and then
-      *> 4.00 %, in every month that is read from standard input.
+      *> The row of a 50-dollar bond of November 2005 at 3.20 % and then
+      *> an invented 4.00 %, in every month that is read from standard input.
        data division.
        working-storage section.
        01 question.
           05 dollars           binary-long unsigned value 50.
-          05 issued            binary-long unsigned value 201005.
+          05 issued            binary-long unsigned value 200511.
           05 asked             binary-long unsigned.
-          05 rate              binary-long unsigned value 340.
+          05 rate              binary-long unsigned value 320.
           05 extension         binary-long unsigned value 400.
        01 answer.
           05 payable-cents     binary-double unsigned.

@@ -9,6 +9,7 @@ from typing import Callable, Optional, Sequence, Tuple, Union
 from .answers import compact
 from .counter import Counter
 from .errors import (
+    REMEDIES,
     BadCall,
     CounterError,
     Fault,
@@ -381,6 +382,13 @@ def entry_of(error: CounterError) -> str:
     return "" if error.request_id is None else f" (log entry {error.request_id})"
 
 
+def second_of(refusal: Refused) -> str:
+    """The second line of a refusal: what to do."""
+    remedy = REMEDIES.get(refusal.code)
+    again = "nothing was changed, and a corrected request gets a new number"
+    return again if remedy is None else f"{remedy}; {again}"
+
+
 def status_of(error: CounterError) -> int:
     """The exit status of an error."""
     if isinstance(error, Refused) or (isinstance(error, Forbidden) and error.reason == "group"):
@@ -396,7 +404,9 @@ def main(line: Optional[Sequence[str]] = None) -> int:
         return run(words)
     except Refused as refusal:
         print(compact(refusal.reply), flush=True)
-        print(f"refused: {refusal}{entry_of(refusal)}", file=sys.stderr)
+        print(
+            f"refused: {refusal}{entry_of(refusal)}", second_of(refusal), sep="\n", file=sys.stderr
+        )
         return 1
     except Implausible as doubt:
         more = len(doubt.doubts) - MOST_LINES

@@ -50,16 +50,15 @@ from .spelling import (
     Json,
     ListOf,
     Rates,
-    bond_of,
     customer_of,
     day_of,
     key_of,
     list_of,
     rate_row_of,
     seconds_of,
-    serial_of,
     whole,
 )
+from .typed import bond_of, serial_of
 from .way import Deadline, Stop
 
 LOG = logging.getLogger("ee_counter_client")

@@ -421,6 +421,30 @@ REFUSALS: Dict[int, Type[Refused]] = {
 }
 
 
+#: What to do after a refusal, by its code.
+REMEDIES: Dict[int, str] = {
+    11: "send rows or serial numbers",
+    12: "send at most 500 rows, or 100 serial numbers, in one request",
+    13: "name each serial number once",
+    14: "name another coowner than the owner, or none",
+    20: "rates hold from a May or November: correct the month",
+    21: "entered rates can't be changed: compare them with Treasury's announcement",
+    22: "compare the rates with Treasury's announcement: these settle no value to the cent",
+    30: "enter the rates of the issue month first",
+    31: "a registered bond can't be changed: compare it with the paper",
+    40: "close the open day first",
+    41: "open a later day: a day opens once, and days rise",
+    42: "open the day first",
+    43: "name the day that is open",
+    44: "close the day, and pay on a later one: it has its 1,000 tickets",
+    50: "compare the serial number with the paper; if it is right, register the bond first",
+    51: "compare the payee with the register: only the owner or the coowner is paid",
+    52: "don't pay it again: look at the ticket that paid it",
+    53: "compare the issue month with the paper: the bond isn't issued yet",
+    54: "pay it from 12 months after its issue month on",
+}
+
+
 def refusal_of(reply: Mapping[str, Any], request: Optional["Request"] = None) -> Refused:
     """Returns the error of a refusal: of its own class, if the code and the name are known."""
     kind: Type[Refused] = REFUSALS.get(int(reply["code"]), Refused)

@@ -12,7 +12,8 @@ from .errors import BadFile, BadValue, Fault, Refused
 from .lookups import Path, path_of
 from .plausible import doubts_of_bond, question
 from .results import Added
-from .spelling import MOST_ROWS, Json, bond_of, rate_row_of, serial_of
+from .spelling import MOST_ROWS, Json, rate_row_of
+from .typed import bond_of, serial_of
 
 LOG = logging.getLogger("ee_counter_client")
 
@@ -29,16 +30,51 @@ def records_of(path: Path, headers: Sequence[List[str]]) -> List[List[str]]:
     """Reads the records of a CSV file, the header first. Each has a field for every column."""
     name = path_of(path, "a file")
     try:
+        with open(name, "rb") as begun:
+            named = other_kind(begun.read(1000))
         with open(name, encoding="utf-8-sig", newline="") as file:
-            records = [record for record in csv.reader(file, strict=True) if record]
+            records = (
+                [] if named else [record for record in csv.reader(file, strict=True) if record]
+            )
+    except IsADirectoryError:
+        raise BadFile(1, "it is a folder: name a file in it") from None
     except (csv.Error, ValueError, OSError) as fault:
         raise BadFile(1, f"the file can't be read: {fault}") from None
+    if named:
+        raise BadFile(1, f"it is {named}: save it as CSV, in UTF-8 and with commas")
     if not records or records[0] not in headers:
-        raise BadFile(1, f"the header isn't {','.join(headers[0])}")
+        raise BadFile(1, f"the header isn't {','.join(headers[0])}{separated(records[:1])}")
     for row, record in enumerate(records[1:], 2):
         if len(record) != len(records[0]):
-            raise BadFile(row, f"it has {len(record)} fields, and not {len(records[0])}")
+            fields = f"it has {len(record)} fields, and not {len(records[0])}"
+            raise BadFile(row, fields + separated([record]))
     return records
+
+
+#: What files are that begin so, and are no CSV.
+OTHERS = {
+    b"PK": "a zip, or a workbook as .xlsx and .ods",
+    b"\xd0\xcf\x11\xe0": "a workbook as .xls",
+    b"\xff\xfe": "UTF-16",
+    b"\xfe\xff": "UTF-16",
+    b"\x1f\x8b": "compressed by gzip",
+    b"%PDF": "a PDF",
+    b"SQLite format 3": "a database",
+    b"<": "HTML or XML",
+}
+
+
+def other_kind(begun: bytes) -> Optional[str]:
+    """What a file is that is no CSV, by how it begins."""
+    other = next((kind for first, kind in OTHERS.items() if begun.startswith(first)), None)
+    return "UTF-16" if other is None and b"\0" in begun else other
+
+
+def separated(records: Sequence[List[str]]) -> str:
+    """Says by what a row's fields are separated, if that isn't commas."""
+    whole = "".join(records[0]) if records and len(records[0]) == 1 else ""
+    signs = [name for sign, name in ((";", "semicolons"), ("\t", "tabs")) if sign in whole]
+    return f": its fields are separated by {signs[0]}" if signs else ""
 
 
 def rows_of(path: Path, headers: Sequence[List[str]], read: Callable[[object], Json]) -> List[Json]:

@@ -30,12 +30,10 @@ from .spelling import (
     MonthLike,
     customer_of,
     day_of,
-    denom_of,
-    issue_of,
-    month_of,
     seconds_of,
     whole,
 )
+from .typed import denom_of, issue_of, month_of
 from .version import __version__
 from .way import Deadline, Way
 

@@ -8,6 +8,7 @@ from decimal import Decimal
 from typing import (
     AbstractSet,
     Any,
+    Callable,
     Dict,
     ItemsView,
     Iterable,
@@ -235,7 +236,12 @@ def with_keys(row: object, needed: Sequence[str], other: str, what: str) -> Mapp
     return row
 
 
-def bond_of(bond: object) -> Json:
+def bond_of(
+    bond: object,
+    serial: Callable[[object], str] = serial_of,
+    denom: Callable[[object], int] = denom_of,
+    issued: Callable[[object], str] = issue_of,
+) -> Json:
     """Reads a bond as it is sent, with its keys in one order. BadValue names a key that is unknown or missing."""
     if isinstance(bond, Bond):
         bond = {
@@ -248,9 +254,9 @@ def bond_of(bond: object) -> Json:
     row = with_keys(bond, ("serial", "denom", "issued", "owner"), "coowner", "a bond")
     coowner = row.get("coowner")
     read: Json = {
-        "serial": serial_of(row["serial"]),
-        "denom": denom_of(row["denom"]),
-        "issued": issue_of(row["issued"]),
+        "serial": serial(row["serial"]),
+        "denom": denom(row["denom"]),
+        "issued": issued(row["issued"]),
         "owner": customer_of(row["owner"]),
     }
     return read if coowner in (None, "") else {**read, "coowner": customer_of(coowner)}
