@@ -1,10 +1,11 @@
-"""The archive of requests, as README.md has it: reading and testing it, and reading a store without touching it.
+"""The archive of requests, as README.md has it, and reading a store without touching it.
 
 The scripts beside this module share it. It needs Python's standard library alone, on Linux."""
+from __future__ import annotations
+
 import collections
 import contextlib
 import datetime
-import errno
 import fcntl
 import hashlib
 import json
@@ -17,58 +18,34 @@ import struct
 import subprocess
 import sys
 import tempfile
-from typing import (
-    IO,
-    Any,
-    ContextManager,
-    Dict,
-    Iterator,
-    List,
-    NamedTuple,
-    Optional,
-    Sequence,
-    Tuple,
-    TypedDict,
-)
+import time
+from pathlib import Path
+from typing import IO, Any, Callable, Iterable, Iterator, NamedTuple, NoReturn, Sequence
 
 LINES, END, FIRST = "requests.jsonl", "end.json", "first.db"
-#: The two files of a copy of a store: the key of each one's checksum in an archive's first line, and the end of its name.
+#: The files of a copy of a store: their names in an archive's first line, and how they end.
 PARTS = (("file", ""), ("log", "-wal"))
 #: What a text raises that is no JSON, or not the one that is wanted.
 UNREADABLE = (ValueError, KeyError, TypeError, AttributeError, RecursionError)
 #: With this the names of folders begin in which a copy of a store is read.
 READ = "counter-read-"
-TIME = rb"\d{4}-\d\d-\d\dT\d\d:\d\d:\d\d\.\d{3}Z"
-LINE = re.compile(
-    rb'\{"before":"([0-9a-f]{64})","time":"('
-    + TIME
-    + rb')","row":([1-9]\d*),"desk":(\d{1,3}),"number":([1-9]\d*),"act":(\{.*?\}),"reply":(\{.*\})\}'
-)
-SENT = re.compile(
-    rb'\{"before":"([0-9a-f]{64})","time":"('
-    + TIME
-    + rb')","desk":(\d{1,3}),"number":([1-9]\d*),"act":(\{.*?\})(?:,"reply":(\{.*\}))?\}'
-)
-#: Rows, and the checksums of their lines as they are found.
-Marks = Dict[int, Optional[str]]
+FRONT = rb'\{"before":"([0-9a-f]{64})","time":"(\d{4}-\d\d-\d\dT\d\d:\d\d:\d\d\.\d{3}Z)",'
+KEY = rb'"desk":(\d{1,3}),"number":([1-9]\d*),"act":(\{.*?\})'
+LINE = re.compile(FRONT + rb'"row":([1-9]\d*),' + KEY + rb',"reply":(\{.*\})\}')
 #: The bytes of a read, and of an archive's end.
 BLOCK, NEAR_END = 1 << 20, 1 << 18
 
 
-class BadArchive(Exception):
-    """The archive isn't as it was written."""
+class Refused(Exception):
+    """A store, an archive or a log isn't as it has to be, and no further try can help."""
 
 
-class BadStore(Exception):
-    """The store isn't one that this archive can be used with."""
-
-
-class Busy(Exception):
-    """Another process uses the store."""
+class Busy(OSError):
+    """Another process uses it, or what is asked doesn't answer. That may pass."""
 
 
 class Request(NamedTuple):
-    """A kept request. `row` is its row in the table `answers`, from 1 on, and `time` when the archive had it; a request of the first copy has no time."""
+    """A kept request: `row` is its row in `answers`, and `time` when the archive had it."""
 
     row: int
     desk: int
@@ -78,28 +55,46 @@ class Request(NamedTuple):
     time: str = ""
 
 
-class Head(TypedDict):
-    """The first line of an archive. `first` has the checksums of the two files of its first copy, if it has one."""
-
-    archive: int
-    of: str
-    id: str
-    time: str
-    row: int
-    first: Optional[Dict[str, Optional[str]]]
-
-
-class End(TypedDict):
-    """What an end.json says: the last row, the checksum of its line, and until when the store was seen."""
-
-    row: int
-    checksum: str
-    time: str
+#: The first line of an archive, or what its end.json says: the keys that docs/FORMATS.md names.
+Texts = dict[str, Any]
 
 
 def alert(text: object) -> None:
-    """Says why a unit ends for good. Under systemd it has the priority by which `call_somebody` finds it."""
+    """Says why a unit ends for good, with the priority by which `call_somebody` finds it."""
     print(f"{'<2>' if 'JOURNAL_STREAM' in os.environ else ''}{text}", file=sys.stderr, flush=True)
+
+
+def tell(text: object) -> None:
+    print(text, file=sys.stderr, flush=True)
+
+
+def status_of(name: str, run: Callable[[], int]) -> int:
+    """Runs a script. Status 1: no further try can help. 3: a file, SQLite or a command failed."""
+    try:
+        return run()
+    except Refused as fault:
+        alert(f"{name}: {fault}")
+        return 1
+    except (OSError, sqlite3.Error) as fault:
+        tell(f"{name}: {fault}")
+        return 3
+    except KeyboardInterrupt:
+        return 0
+
+
+def repeat(name: str, seconds: float, turn: Callable[[], object]) -> NoReturn:
+    """Does a turn every few seconds. What fails is reported once, and tried again."""
+    met = ""
+    while True:
+        begun, fault = time.monotonic(), ""
+        try:
+            turn()
+        except (OSError, sqlite3.Error) as failed:
+            fault = str(failed)
+        if fault != met:
+            tell(f"{name}: " + (f"fails, and tries again: {fault}" if fault else "works again"))
+        met = fault
+        time.sleep(max(0.0, seconds - (time.monotonic() - begun)))
 
 
 def now() -> str:
@@ -124,17 +119,16 @@ def file_checksum(path: str) -> str:
 
 def line_of(before: str, request: Request) -> bytes:
     """The line of a request, without its line feed."""
-    if "\n" in request.act or "\n" in request.reply:
-        raise BadStore(f"row {request.row} has a text of more than one line")
-    text = f'{{"before":"{before}","time":"{request.time}","row":{request.row},"desk":{request.desk},"number":{request.number},"act":{request.act},"reply":{request.reply}}}'
-    line = text.encode()
-    if request_in(line)[1] != request:
-        raise BadStore(f"row {request.row} has a text that isn't an act or a reply")
+    front = f'{{"before":"{before}","time":"{request.time}","row":{request.row}'
+    key = f'"desk":{request.desk},"number":{request.number}'
+    line = f'{front},{key},"act":{request.act},"reply":{request.reply}}}'.encode()
+    if b"\n" in line or request_in(line)[1] != request:
+        raise Refused(f"row {request.row} has a text that isn't an act or a reply")
     return line
 
 
-def request_in(line: bytes) -> Tuple[str, Optional[Request]]:
-    """The checksum that a line names, and its request. None if it isn't a line of an archive."""
+def request_in(line: bytes) -> tuple[str, Request | None]:
+    """The checksum that a line names, and its request; None if it isn't a line of an archive."""
     found = LINE.fullmatch(line)
     if found is None or not line.isascii():
         return "", None
@@ -142,7 +136,16 @@ def request_in(line: bytes) -> Tuple[str, Optional[Request]]:
     return before, Request(int(row), int(desk), int(number), act, reply, time)
 
 
-# ---- files that are whole on the disk
+def chained(file: IO[bytes], row: int, before: str) -> Iterator[tuple[Request, str, int]]:
+    """The next lines' requests that follow `row`, with their checksums, and where each ends."""
+    at = file.tell()
+    for line in file:
+        named, request = request_in(line[:-1])
+        is_next = request is not None and (named, request.row) == (before, row + 1)
+        if request is None or not is_next or not line.endswith(b"\n"):
+            return
+        row, before, at = row + 1, checksum(line[:-1]), at + len(line)
+        yield request, before, at
 
 
 def lock(folder: str) -> None:
@@ -163,7 +166,7 @@ def sync_folder(folder: str) -> None:
 
 @contextlib.contextmanager
 def replacing(path: str) -> Iterator[IO[bytes]]:
-    """A new file, which is whole on the disk before it takes the place of the old one. Until then its name ends with `.new`."""
+    """A new file `PATH.new`, which is whole on the disk before it takes the place of the old one."""
     with open(path + ".new", "wb") as file:
         yield file
         file.flush()
@@ -172,62 +175,52 @@ def replacing(path: str) -> Iterator[IO[bytes]]:
     sync_folder(os.path.dirname(path) or ".")
 
 
-def copied(source: ContextManager[IO[bytes]], target: str) -> str:
+def copied(source: contextlib.AbstractContextManager[IO[bytes]], target: str) -> str:
     """Copies a file that is read from, whole, and returns its checksum."""
     with source as read, replacing(target) as write:
         shutil.copyfileobj(read, write, BLOCK)
     return file_checksum(target)
 
 
-# ---- the archive
-
-
 def is_begun(folder: str) -> bool:
-    """Tells whether a folder has an archive. Raises BadArchive if only its lines are missing. An archive that a stop kept from beginning has them under a new name."""
+    """Tells whether a folder has an archive. Refuses one of which only the lines are missing."""
     names = sorted(os.listdir(folder))
     left = [name for name in names if not name.endswith(".new")]
     if LINES not in names and (END in names or (left and LINES + ".new" not in names)):
-        raise BadArchive(
-            f"{folder} has {END if END in names else left[0]}, and no {LINES}: its lines were lost"
-        )
+        lost = END if END in names else left[0]
+        raise Refused(f"{folder} has {lost}, and no {LINES}: its lines were lost")
     return LINES in names
 
 
-def head_in(line: bytes, where: str) -> Head:
-    try:
-        head: Head = json.loads(line)
-        is_head = (
-            list(head) == ["archive", "of", "id", "time", "row", "first"]
-            and head["archive"] == 1
-            and head["of"] == "store"
-        )
-    except UNREADABLE:
-        is_head = False
-    if not is_head or (compact(head) + "\n").encode() != line:
-        raise BadArchive(f"{where}: line 1 isn't the first line of an archive")
-    return head
+def head_in(line: bytes, where: str) -> Texts:
+    with contextlib.suppress(*UNREADABLE):
+        head: Texts = json.loads(line)
+        is_head = list(head) == ["archive", "of", "id", "time", "row", "first"]
+        is_ours = is_head and (head["archive"], head["of"]) == (1, "store")
+        if is_ours and (compact(head) + "\n").encode() == line:
+            return head
+    raise Refused(f"{where}: line 1 isn't the first line of an archive")
 
 
-def end_in(text: str, where: str) -> End:
-    try:
-        end: End = json.loads(text)
+def end_in(text: str, where: str) -> Texts:
+    with contextlib.suppress(*UNREADABLE):
+        end: Texts = json.loads(text)
         end["row"] + 0, end["checksum"] + "", end["time"] + ""
-    except UNREADABLE:
-        raise BadArchive(f"{where} is missing, or says nothing") from None
-    return end
+        return end
+    raise Refused(f"{where} is missing, or says nothing")
 
 
 class Archive:
-    """An archive in its folder. `head` is its first line, and `end` what end.json says: how far the archive reached when it was last written. As its lines are read,
-    `last_row` and `last_checksum` become those of the last whole line, `sealed` and `whole` the bytes up to the line of `end` and up to the last whole one, and `cut`
-    the bytes that stand behind it."""
+    """An archive in its folder. `head` is its first line, and `end` what end.json says.
+
+    As its lines are read, `last_row` and `last_checksum` become those of the last whole line. The
+    line of `end` ends at byte `sealed`, the last whole one at `whole`, and `cut` stands behind."""
 
     last_row: int
     last_checksum: str
-    sealed: Optional[int]
+    sealed: int
     whole: int
     cut: bytes
-    tail: List[Request]
 
     def __init__(self, folder: str) -> None:
         self.folder, self.path = folder, os.path.join(folder, LINES)
@@ -236,122 +229,103 @@ class Archive:
         with open(self.path, "rb") as file:
             self.head_line = file.readline()
             self.is_new = not file.read(1)
-        self.head = head_in(self.head_line, folder)
-        path = os.path.join(folder, END)
-        if os.path.exists(path):
-            with open(path, encoding="ascii", errors="replace") as file:
-                self.end = end_in(file.read(), path)
-        elif self.is_new:
-            self.end = {
-                "row": self.head["row"],
-                "checksum": checksum(self.head_line[:-1]),
-                "time": self.head["time"],
-            }
-        elif is_begun(folder):
-            raise BadArchive(f"{path} is missing")
-        else:
-            raise FileNotFoundError(f"{folder} is away")
+        self.head, path = head_in(self.head_line, folder), os.path.join(folder, END)
+        row, found = self.head["row"], checksum(self.head_line[:-1])
+        self.end: Texts = {"row": row, "checksum": found, "time": self.head["time"]}
+        if not self.is_new or os.path.exists(path):
+            try:
+                self.end = end_in(Path(path).read_text("ascii", "replace"), path)
+            except FileNotFoundError:
+                raise Refused(f"{path} is missing") from None
 
-    def checked(self, marks: Optional[Marks] = None, near_end: bool = False) -> Iterator[Request]:
-        """Yields the request of every line, or of the last lines, and tests the chain. `marks` gets the checksum of every row that it names."""
-        before: Optional[str] = checksum(self.head_line[:-1])
-        row: Optional[int] = self.head["row"]
-        marks = {} if marks is None else marks
-        self.sealed, self.cut = None, b""
+    def checked(self, near_end: bool = False) -> Iterator[tuple[Request, str]]:
+        """Yields request and checksum of every line, or of the last ones, and tests them."""
+        row, before, at = self.head["row"], checksum(self.head_line[:-1]), len(self.head_line)
+        self.sealed, self.cut = 0, b""
         with open(self.path, "rb") as file:
-            at = len(file.readline())
-            if near_end and file.seek(0, os.SEEK_END) - NEAR_END > at:
-                at = file.tell() - NEAR_END
-                file.seek(at)
-                at, before, row = at + len(file.readline()), None, None
+            start = file.seek(0, os.SEEK_END) - NEAR_END
+            if near_end and start > at:
+                file.seek(start)
+                at = start + len(file.readline())
+                before, first = request_in(file.readline()[:-1])
+                if first is None:
+                    yield from self.checked()
+                    return
+                row = first.row - 1
             file.seek(at)
-            self.mark(marks, row, before, at)
-            for line in file:
-                if not line.endswith(b"\n"):
-                    self.cut = line
-                    break
-                named, request = request_in(line[:-1])
-                if request is None or (
-                    row is not None
-                    and before is not None
-                    and (named != before or request.row != row + 1)
-                ):
-                    raise BadArchive(
-                        f"{self.folder}: the line behind {'byte ' + str(at) if row is None else 'row ' + str(row)} isn't the one that was written"
-                    )
-                before, row, at = checksum(line[:-1]), request.row, at + len(line)
-                self.mark(marks, row, before, at)
-                yield request
-        if row is None or before is None:
-            yield from self.checked(marks)
-            return
+            self.mark(row, before, at)
+            for request, before, at in chained(file, row, before):
+                row = request.row
+                self.mark(row, before, at)
+                yield request, before
+            file.seek(at)
+            rest = file.readline()
         self.last_row, self.last_checksum, self.whole = row, before, at
-        if row < self.end["row"] or (self.sealed is None and not near_end):
-            raise BadArchive(
-                f"{self.folder}: it ends with row {row}, and had {self.end['row']} rows on {self.end['time']}"
-            )
+        if rest.endswith(b"\n"):
+            where = f"{self.folder}: the line behind row {row}"
+            raise Refused(f"{where} isn't the one that was written")
+        self.cut, wanted = rest, self.end
+        if row < wanted["row"] or not (self.sealed or near_end):
+            had = f"had {wanted['row']} rows on {wanted['time']}"
+            raise Refused(f"{self.folder}: it ends with row {row}, and {had}")
 
-    def mark(self, marks: Marks, row: Optional[int], found: Optional[str], at: int) -> None:
-        if row in marks:
-            marks[row] = found
+    def mark(self, row: int, found: str, at: int) -> None:
         if row == self.end["row"]:
             self.sealed = at
             if found != self.end["checksum"]:
-                raise BadArchive(f"{self.folder}: row {row} isn't the one that {END} names")
+                raise Refused(f"{self.folder}: row {row} isn't the one that {END} names")
 
     def check(self) -> None:
         """Tests every line, and the first copy."""
-        for _ in self.checked():
-            pass
+        collections.deque(self.checked(), 0)
         self.first()
 
-    def last(self, most: int = 1) -> List[Request]:
-        """The last requests, which `tail` keeps."""
+    def last(self, most: int = 1) -> list[Request]:
+        """The last requests."""
         found = collections.deque(self.checked(near_end=True), most)
-        self.tail = list(
-            found if self.sealed is not None else collections.deque(self.checked(), most)
-        )
-        return self.tail
+        found = found if self.sealed else collections.deque(self.checked(), most)
+        return [request for request, _ in found]
 
-    def checksum_of(self, row: int) -> Optional[str]:
-        """The checksum of the line of a row, or None if the archive doesn't reach it. Reads the whole archive if the row isn't among the last ones."""
-        marks: Marks = {row: None}
-        for near_end in (True, False):
-            if marks[row] is None and (near_end or row <= self.last_row):
-                for _ in self.checked(marks, near_end):
-                    pass
-        return marks[row]
+    def compare(self, store: Store, most: int = 1) -> int:
+        """Refuses a store that isn't what the archive ends with. Returns how many it has more."""
+        last, has = self.last(most), store.last()
+        refuse_fewer(has, self.last_row, self.folder)
+        refuse_differing(store, last[0].row - 1 if last else has, last, self.folder)
+        return has - self.last_row
 
-    def first(self) -> Optional[str]:
-        """The file of the first copy, after a test of its checksums. None if the archive begins with an empty store."""
-        if self.head["first"] is None:
-            return None
-        path = os.path.join(self.folder, FIRST)
-        for part, end in PARTS:
+    def checksum_of(self, row: int) -> str | None:
+        """The checksum of a row's line, None if the archive doesn't reach it."""
+        if row in (self.head["row"], self.last_row):
+            return self.last_checksum if row == self.last_row else checksum(self.head_line[:-1])
+        for near_end in (True, False) if row < self.last_row else ():
+            for request, found in self.checked(near_end):
+                if request.row == row:
+                    return found
+        return None
+
+    def first(self) -> str | None:
+        """The file of the first copy, once its checksums are tested; None if there is none."""
+        path, sums = os.path.join(self.folder, FIRST), self.head["first"]
+        for part, end in PARTS if sums else ():
             found = file_checksum(path + end) if os.path.exists(path + end) else None
-            if found != self.head["first"][part]:
-                raise BadArchive(f"{path}{end} isn't the file with which the archive begins")
-        return path
+            if sums and found != sums[part]:
+                raise Refused(f"{path}{end} isn't the file with which the archive begins")
+        return path if sums else None
 
     def rows(self, room: str) -> Iterator[Request]:
-        """All requests from row 1 on: those of the first copy, which is read in the folder `room`, then those of the lines."""
+        """All requests from row 1 on. The first copy is read in the folder `room`."""
         first = self.first()
         if first is not None:
             with opened(first, room=room) as store:
                 yield from store.requests()
-        yield from self.checked()
+        yield from (request for request, _ in self.checked())
 
     def cut_back(self) -> None:
-        """Takes off what stands behind the line that end.json names, as a stop or a full disk leaves it. Its requests are archived again."""
-        assert self.sealed is not None  # `last` found it
+        """Takes off what a stop or a full disk left behind the line that end.json names."""
         if os.path.getsize(self.path) > self.sealed:
             os.truncate(self.path, self.sealed)
-        self.last_row, self.last_checksum, self.whole, self.cut = (
-            self.end["row"],
-            self.end["checksum"],
-            self.sealed,
-            b"",
-        )
+        self.last_row, self.last_checksum = self.end["row"], self.end["checksum"]
+        self.whole, self.cut = self.sealed, b""
 
     def seal(self) -> None:
         """Writes end.json before the first line is written behind the head."""
@@ -359,45 +333,26 @@ class Archive:
             self.say_end(self.end["row"], self.end["checksum"], self.end["time"])
 
     def say_end(self, row: int, found: str, time: str) -> None:
-        with replacing(os.path.join(self.folder, END)) as file:
-            file.write((compact({"row": row, "checksum": found, "time": time}) + "\n").encode())
         self.end = {"row": row, "checksum": found, "time": time}
+        with replacing(os.path.join(self.folder, END)) as file:
+            file.write((compact(self.end) + "\n").encode())
         self.last_row, self.last_checksum = row, found
 
 
-def begin(folder: str, row: int, first: Optional[str], time: str) -> Archive:
-    """Begins an archive in an empty folder: with a copy of the store's file and log at `first`, which had rows up to `row` at `time`, or with an empty store."""
+def begin(folder: str, row: int, first: str | None, time: str) -> Archive:
+    """Begins an archive in an empty folder, with a copy of the store at `first` if there is one."""
     with replacing(os.path.join(folder, LINES)) as file:
-        target = os.path.join(folder, FIRST)
-        sums = first and {
-            part: copied(open(first + end, "rb"), target + end)
-            if os.path.exists(first + end)
-            else None
-            for part, end in PARTS
-        }
-        file.write(
-            (
-                compact(
-                    {
-                        "archive": 1,
-                        "of": "store",
-                        "id": os.urandom(16).hex(),
-                        "time": time,
-                        "row": row,
-                        "first": sums,
-                    }
-                )
-                + "\n"
-            ).encode()
-        )
+        sums: dict[str, str | None] = {}
+        for part, end in PARTS if first else ():
+            is_there, target = os.path.exists(f"{first}{end}"), os.path.join(folder, FIRST + end)
+            sums[part] = copied(open(f"{first}{end}", "rb"), target) if is_there else None
+        head: Texts = {"archive": 1, "of": "store", "id": os.urandom(16).hex(), "time": time}
+        file.write((compact({**head, "row": row, "first": sums or None}) + "\n").encode())
     return Archive(folder)
 
 
-# ---- from one folder to another
-
-
 class Source:
-    """An archive that is read by `tail`: in a folder of this machine, or on another one by the command that is put before it, as `ssh counter.bank.example`."""
+    """An archive that is read by `tail`: here, or on another machine by the command `over`."""
 
     def __init__(self, folder: str, over: Sequence[str] = ()) -> None:
         self.folder, self.over = folder, over
@@ -409,23 +364,17 @@ class Source:
     def read(self, name: str, start: int = 0) -> Iterator[IO[bytes]]:
         """The bytes of a file from `start` on. Raises OSError if the command failed."""
         words = ["tail", "-c", f"+{start + 1}", os.path.join(self.folder, name)]
-        process = subprocess.Popen(
-            [*self.over, shlex.join(words)] if self.over else words,
-            stdin=subprocess.DEVNULL,
-            stdout=subprocess.PIPE,
-        )
-        assert process.stdout is not None
-        try:
-            yield process.stdout
-            is_read = not process.stdout.read(1)
-            if is_read and process.wait() != 0:
-                raise OSError(
-                    f"{name} of {self.folder} can't be read: the command ended with status {process.returncode}"
-                )
-        finally:
-            process.kill()
-            process.stdout.close()
-            process.wait()
+        command = [*self.over, shlex.join(words)] if self.over else words
+        nothing, pipe = subprocess.DEVNULL, subprocess.PIPE
+        with subprocess.Popen(command, stdin=nothing, stdout=pipe) as process:
+            assert process.stdout is not None
+            try:
+                yield process.stdout
+                if not process.stdout.read(1) and (status := process.wait()) != 0:
+                    what = f"{name} of {self.folder} can't be read"
+                    raise OSError(f"{what}: the command ended with status {status}")
+            finally:
+                process.kill()
 
 
 def begin_as(source: Source, folder: str) -> Archive:
@@ -434,83 +383,57 @@ def begin_as(source: Source, folder: str) -> Archive:
         line = lines.readline()
     first = head_in(line, source.folder)["first"] or {}
     with replacing(os.path.join(folder, LINES)) as file:
-        for part, end in PARTS:
-            if (
-                first.get(part)
-                and copied(source.read(FIRST + end), os.path.join(folder, FIRST + end))
-                != first[part]
-            ):
-                raise BadArchive(
-                    f"{FIRST}{end} of {source.folder} isn't the file with which the archive begins"
-                )
+        for name, wanted in ((FIRST + end, first.get(part)) for part, end in PARTS):
+            if wanted and copied(source.read(name), os.path.join(folder, name)) != wanted:
+                what = f"{name} of {source.folder}"
+                raise Refused(f"{what} isn't the file with which the archive begins")
         file.write(line)
     return Archive(folder)
 
 
 def bring(source: Source, folder: str) -> Archive:
-    """Appends what `source` has more than the archive in `folder`, up to the row that its end.json names. Every line is verified before the first is appended; until then they
-    are in a file of their own, which a broken connection leaves for the next time. Raises BadArchive if `source` has less, or lines that don't chain on to those that are there.
-    """
+    """Appends what `source` has more, up to the row that its end.json names. All lines are verified
+    before the first is appended. Until then they are in a file of their own, which a broken
+    connection leaves for the next time. Refuses a source that has less, or that was changed."""
     archive = Archive(folder) if is_begun(folder) else begin_as(source, folder)
     archive.last()
     archive.seal()
-    until, part = source.end, archive.path + ".part"
-    if until["row"] < archive.last_row:
-        raise BadArchive(
-            f"{source.folder} has {until['row']} requests, and {folder} {archive.last_row}: {source.folder} was taken back"
-        )
+    end, part = source.end, archive.path + ".part"
+    if end["row"] < archive.last_row:
+        less = f"{source.folder} has {end['row']} requests, and {folder} {archive.last_row}"
+        raise Refused(f"{less}: {source.folder} was taken back")
     with open(part, "a+b") as file:
-        is_there, row, before = chained(archive, file, until["row"])
-        if row < until["row"]:
-            with source.read(LINES, archive.whole + is_there) as lines:
-                for line in lines:
-                    if row == until["row"] or not line.endswith(b"\n"):
-                        break
-                    named, request = request_in(line[:-1])
-                    is_next = request is not None and named == before and request.row == row + 1
-                    if not is_next or (
-                        row == archive.last_row and not line.startswith(archive.cut)
-                    ):
-                        os.remove(part)
-                        raise BadArchive(
-                            f"{source.folder} doesn't go on from row {row} of {folder}: it was changed, or is another archive"
-                        )
-                    file.write(line)
-                    row, before = row + 1, checksum(line[:-1])
-        if (row, before) != (until["row"], until["checksum"]):
+        row, found = reached(archive, file, end["row"])
+        if row < end["row"]:
+            with source.read(LINES, archive.whole + file.tell()) as lines:
+                shutil.copyfileobj(lines, file, BLOCK)
+            row, found = reached(archive, file, end["row"])
+        file.seek(0)
+        is_behind = file.read(len(archive.cut)) == archive.cut or row == archive.last_row
+        if (row, found) != (end["row"], end["checksum"]) or not is_behind:
             os.remove(part)
-            raise BadArchive(
-                f"{source.folder} doesn't have the row {until['row']} that its {END} names, or {folder} has another row {row}"
-            )
-        file.seek(len(archive.cut))
-        with open(archive.path, "ab") as end:
-            shutil.copyfileobj(file, end, BLOCK)
-            end.flush()
-            os.fsync(end.fileno())
-    archive.say_end(row, before, until["time"])
+            what = f"{source.folder} doesn't go on from row {row} of {folder}"
+            raise Refused(f"{what} to the row {end['row']} of its {END}: it was changed")
+        with open(archive.path, "ab") as target:
+            shutil.copyfileobj(file, target, BLOCK)
+            target.flush()
+            os.fsync(target.fileno())
+    archive.say_end(row, found, end["time"])
     os.remove(part)
     return archive
 
 
-def chained(archive: Archive, file: IO[bytes], most: int) -> Tuple[int, int, str]:
-    """How many bytes of lines that an earlier connection left chain on to the archive, with the last one's row and checksum. Others are taken off: they come again."""
-    at, row, before = 0, archive.last_row, archive.last_checksum
+def reached(archive: Archive, file: IO[bytes], most: int) -> tuple[int, str]:
+    """The last row of a file's lines that follow an archive, up to `most`. Takes off the others."""
+    row, found, at = archive.last_row, archive.last_checksum, 0
     file.seek(0)
-    for line in file:
-        named, request = request_in(line[:-1])
-        if (
-            request is None
-            or not line.endswith(b"\n")
-            or (named, request.row) != (before, row + 1)
-            or row == most
-        ):
+    for request, checksum, end in chained(file, row, found) if row < most else ():
+        row, found, at = request.row, checksum, end
+        if row == most:
             break
-        at, row, before = at + len(line), row + 1, checksum(line[:-1])
     file.truncate(at)
-    return at, row, before
-
-
-# ---- the store
+    file.seek(at)
+    return row, found
 
 
 class Store:
@@ -518,116 +441,101 @@ class Store:
 
     def __init__(self, books: sqlite3.Connection) -> None:
         self.books = books
+        tables = [name for (name,) in self.ask("SELECT name FROM sqlite_schema")]
+        self.is_new = not tables
+        if tables and "answers" not in tables:
+            first = "Let any command of the program open a store of version 1 first"
+            raise Refused(f"it isn't a store of version 2. {first}")
 
-    def ask(self, statement: str, *values: Any) -> List[Tuple[Any, ...]]:
+    def ask(self, statement: str, *values: Any) -> list[tuple[Any, ...]]:
         return self.books.execute(statement, values).fetchall()
+
+    def last(self) -> int:
+        most = "SELECT ifnull(max(rowid), 0) FROM answers"
+        return 0 if self.is_new else int(self.ask(most)[0][0])
 
     def count(self) -> int:
         """How many requests are kept. Rows are numbered from 1 on, and none is taken out."""
-        rows, most = (
-            self.ask("SELECT count(*), ifnull(max(rowid), 0) FROM answers")[0]
-            if self.has_table("answers")
-            else (0, 0)
-        )
-        if rows != most:
-            raise BadStore(f"the store has {rows} requests, and its last row is {most}")
+        rows = 0 if self.is_new else self.ask("SELECT count(*) FROM answers")[0][0]
+        if rows != self.last():
+            raise Refused(f"the store has {rows} requests, and its last row is {self.last()}")
         return int(rows)
 
-    def last(self) -> int:
-        return (
-            int(self.ask("SELECT ifnull(max(rowid), 0) FROM answers")[0][0])
-            if self.has_table("answers")
-            else 0
-        )
-
-    def has_table(self, name: str) -> bool:
-        tables = [
-            table for (table,) in self.ask("SELECT name FROM sqlite_schema WHERE type = 'table'")
-        ]
-        if tables and "answers" not in tables:
-            raise BadStore(
-                "it isn't a store of version 2. Let any command of the program open a store of version 1 first"
-            )
-        return name in tables
-
     def requests(self, above: int = 0) -> Iterator[Request]:
-        if not self.has_table("answers"):
-            return
-        for row in self.books.execute(
-            "SELECT rowid, desk, number, act, reply FROM answers WHERE rowid > ? ORDER BY rowid",
-            (above,),
-        ):
+        wanted = "SELECT rowid, desk, number, act, reply FROM answers WHERE rowid > ? ORDER BY 1"
+        for row in () if self.is_new else self.books.execute(wanted, (above,)):
             yield Request(*row)
 
-    def reply(self, desk: int, number: int) -> Optional[str]:
+    def reply(self, desk: int, number: int) -> str | None:
         found = self.ask("SELECT reply FROM answers WHERE desk = ? AND number = ?", desk, number)
         return found[0][0] if found else None
 
 
+def refuse_fewer(has: int, row: int, where: str) -> None:
+    if has < row:
+        missing = f"{row - has} that were done are missing, and what they paid could be paid again"
+        raise Refused(f"the store has {has} requests, and {where} has {row}: {missing}")
+
+
+def refuse_differing(store: Store, above: int, wanted: Iterable[Request], where: str) -> None:
+    """Refuses a store whose rows above one aren't those of an archive, as far as both go."""
+    for held, one in zip(store.requests(above), wanted):
+        if held[:5] != one[:5]:
+            both = f"{held.desk}/{held.number} in the store and {one.desk}/{one.number} in {where}"
+            differ = "or their texts differ: it has another history"
+            raise Refused(f"row {one.row} is {both}, {differ}")
+
+
 @contextlib.contextmanager
 def read_here(path: str, how: str = "mode=ro") -> Iterator[Store]:
-    """Reads a store whose folder is a snapshot or a copy: SQLite makes its index of the log beside it, and writes neither file."""
-    books = sqlite3.connect(f"file:{path}?{how}", uri=True)
-    try:
-        yield Store(books)
-    except sqlite3.OperationalError:
-        raise
-    except sqlite3.DatabaseError as fault:
-        raise BadStore(f"SQLite can't read it: {fault}") from None
-    finally:
-        books.close()
+    """Reads a store in a snapshot or a copy: SQLite puts its index of the log beside it."""
+    with contextlib.closing(sqlite3.connect(f"file:{path}?{how}", uri=True)) as books:
+        try:
+            yield Store(books)
+        except sqlite3.OperationalError:
+            raise
+        except sqlite3.DatabaseError as fault:
+            raise Refused(f"SQLite can't read it: {fault}") from None
 
 
 @contextlib.contextmanager
-def opened(path: str, room: Optional[str] = None) -> Iterator[Store]:
-    """Reads a store that no process uses, from a copy of both files in the folder `room`, or beside it. The copy is removed again. On btrfs and XFS it takes no room."""
+def opened(path: str, room: str | None = None) -> Iterator[Store]:
+    """Reads a store that no process uses, from a copy of both files in `room`, or beside it."""
     refuse_use(path)
-    room = room or os.path.dirname(os.path.abspath(path))
-    folder = tempfile.mkdtemp(prefix=READ, dir=room)
-    try:
-        for end in ("", "-wal"):
+    beside = os.path.dirname(os.path.abspath(path))
+    with tempfile.TemporaryDirectory(prefix=READ, dir=room or beside) as folder:
+        for _, end in PARTS:
             if os.path.exists(path + end):
                 copy(path + end, f"{folder}/store{end}")
         with read_here(f"{folder}/store") as store:
             yield store
-    finally:
-        shutil.rmtree(folder)
 
 
 def copy(path: str, target: str) -> None:
     """Copies a file, by reflink if the file system can."""
-    ran = subprocess.run(
-        ["cp", "--reflink=auto", "--", path, target], stderr=subprocess.PIPE, text=True
-    )
+    words = ["cp", "--reflink=auto", "--", path, target]
+    ran = subprocess.run(words, stderr=subprocess.PIPE, text=True)
     if ran.returncode != 0:
-        free, size = shutil.disk_usage(os.path.dirname(target)).free, os.path.getsize(path)
-        full = (
-            f": {os.path.dirname(os.path.dirname(target))} has no room for a copy of {path}: {size >> 10} KiB are needed, and {free >> 10} are free"
-            if "No space" in ran.stderr
-            else ""
-        )
-        raise OSError(errno.ENOSPC if full else errno.EIO, (full or ran.stderr.strip()).strip(": "))
+        raise OSError(f"{path} can't be copied: {ran.stderr.strip()}")
 
 
 def refuse_use(path: str) -> None:
     """Raises Busy if another process has a lock on the store."""
     with open(path, "rb") as file:
         asked = struct.pack("hhqqi", fcntl.F_WRLCK, os.SEEK_SET, 0, 0, 0)
-        lock, _, _, _, _ = struct.unpack("hhqqi", fcntl.fcntl(file, fcntl.F_GETLK, asked))
-    if lock != fcntl.F_UNLCK:
+        found = struct.unpack("hhqqi", fcntl.fcntl(file, fcntl.F_GETLK, asked))
+    if found[0] != fcntl.F_UNLCK:
         raise Busy(f"another process uses {path}")
 
 
 def refuse_older_log(path: str, together: int) -> None:
-    """Refuses a file beside a log of an earlier moment, as far as it shows: the file alone, which is read without its log, then has requests which both `together` don't have."""
-    if not os.path.exists(path + "-wal"):
-        return
-    try:
-        with read_here(path, "immutable=1") as store:
-            alone = store.last()
-    except (BadStore, sqlite3.Error):
-        return
+    """Refuses a file that has more requests alone than `together` with the log beside it."""
+    alone = 0
+    with contextlib.suppress(Refused, sqlite3.Error):
+        if os.path.exists(path + "-wal"):
+            with read_here(path, "immutable=1") as store:
+                alone = store.last()
     if alone > together:
-        raise BadStore(
-            f"the file has {alone} requests, and with the log beside it {together}: the log is of an earlier moment. Put both files of one copy there, or restore"
-        )
+        both = f"the file has {alone} requests, and with the log beside it {together}"
+        older = "the log is of an earlier moment. Put both files of one copy there, or restore"
+        raise Refused(f"{both}: {older}")
