@@ -1,7 +1,9 @@
 """Lays out the source package that debhelper packs: what the repository has, with the paths of the packages in place of /opt/counter."""
 from __future__ import annotations
 
+import hashlib
 import os
+import re
 import shutil
 from pathlib import Path
 
@@ -44,6 +46,7 @@ def lay_out(tree: Path, program: Path, library: Path, version: str, epoch: int) 
     write_pkgconfig(tree / "program" / "ee_value.pc", version.rsplit("-", 1)[0])
     for path in files(tree):
         put_paths(path)
+    name_page(tree / "clients" / "teller")
     settle(tree, epoch)
 
 
@@ -54,6 +57,19 @@ def copy(old: Path, new: Path) -> None:
 
 def files(tree: Path) -> list[Path]:
     return sorted(path for path in tree.rglob("*") if path.is_file())
+
+
+def name_page(folder: Path) -> None:
+    """Gives the tellers' page a second path, whose name is the digest of its files, so that browsers may keep them: nginx lets them keep nothing else. The scripts that start the page keep their path, so
+    that an upgrade in the middle of a load is noticed."""
+    kept = sorted(path for path in folder.iterdir() if path.name not in ("index.html", "bank.js"))
+    digest = hashlib.sha256(
+        b"".join(b"%s\0%s" % (path.name.encode(), path.read_bytes()) for path in kept)
+    )
+    name, index = digest.hexdigest()[:16], folder / "index.html"
+    files = r'(<(?:link|script) [^>]*?(?:href|src)=")(?!start\.js|old\.js)(?=[a-z_]+\.[a-z]+")'
+    index.write_text(re.sub(files, rf"\g<1>{name}/", index.read_text()))
+    (folder / name).symlink_to(".")
 
 
 def write_pkgconfig(path: Path, version: str) -> None:
