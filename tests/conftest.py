@@ -10,10 +10,12 @@ import shutil
 import subprocess
 import sys
 import tempfile
+import time
+from concurrent.futures import ThreadPoolExecutor
 from importlib.abc import MetaPathFinder
 from importlib.machinery import PathFinder
 from pathlib import Path
-from typing import Iterator
+from typing import Callable, Iterator, TypeVar
 
 import pytest
 
@@ -49,6 +51,14 @@ PACKAGES = {
     "aarch64-linux-gnu-gcc": "gcc-aarch64-linux-gnu and libc6-dev-arm64-cross",
     "qemu-aarch64": "qemu-user",
     "node": "nodejs",
+    "dh": "debhelper",
+    "glusterd": "glusterfs-server",
+    "inetd": "openbsd-inetd",
+    "ip": "iproute2",
+    "pdftoppm": "poppler-utils",
+    "ssh-keygen": "openssh-client",
+    "systemd-analyze": "systemd",
+    "systemd-sysusers": "systemd",
 }
 #: What makes a file that a test needs: pytest.mark.needs("file:clients/value/out/libee_value.a").
 MAKES = {
@@ -65,8 +75,11 @@ MODULES = {
     "hatchling": "python3-hatchling",
     "hypothesis": "python3-hypothesis",
     "jsonschema": "python3-jsonschema",
+    "markdown": "python3-markdown",
     "openpyxl": "python3-openpyxl",
     "selenium": "python3-selenium",
+    "venv": "python3-venv",
+    "weasyprint": "python3-weasyprint",
 }
 
 #: Commands that can be there and not work, for lack of leave to trace or of headers.
@@ -113,7 +126,8 @@ def missing(item: pytest.Item) -> list[str]:
         elif kind == "file" and not (TOP / rest).exists():
             found.append(f"{rest} ({MAKES[rest]} makes it)" if rest in MAKES else rest)
         elif not kind and not works(rest):
-            found.append(f"{rest} (Debian's {wanted.get(rest, rest)})")
+            package = f"Debian's {wanted.get(rest, rest)}"
+            found.append(f"{rest} ({'the toolchain' if rest == 'rt' else package})")
     return found
 
 
@@ -122,6 +136,29 @@ def pytest_collection_modifyitems(items: list[pytest.Item]) -> None:
         lacks = missing(item)
         if lacks:
             item.add_marker(pytest.mark.skip(reason=f"needs {', '.join(lacks)}"))
+
+
+def until(is_so: Callable[[], object], what: object = "", seconds: float = 60) -> None:
+    """Waits until it is so. A test fails with `what`, or what it returns, if it never is."""
+    end = time.monotonic() + seconds
+    while not is_so():
+        assert time.monotonic() < end, what() if callable(what) else what
+        time.sleep(0.05)
+
+
+def is_listening(port: int, process: int | str = "self") -> bool:
+    """Whether somebody listens there, in a process's network. A connection would be a request."""
+    listening = f" 0100007F:{port:04X} 00000000:0000 0A "
+    return listening in Path(f"/proc/{process}/net/tcp").read_text()
+
+
+Made = TypeVar("Made")
+
+
+def at_once(do: Callable[[int], Made], count: int) -> list[Made]:
+    """What it returns for each number below `count`, all at the same time."""
+    with ThreadPoolExecutor(count) as pool:
+        return list(pool.map(do, range(count)))
 
 
 @pytest.fixture(scope="session")

@@ -3,6 +3,7 @@
 from __future__ import annotations
 
 import csv
+import datetime
 import http.client
 import json
 import shutil
@@ -16,7 +17,8 @@ from typing import Any, Iterable, Mapping
 
 from tests.browser.gate import Gate
 from tests.conftest import TOP
-from tests.fence.site import Site, free_port
+from tests.fence.site import Site
+from tests.shared.counter_calls import free_port
 
 PAGE = TOP / "clients" / "teller"
 #: A limit of a user's requests that a test doesn't meet.
@@ -24,6 +26,14 @@ RATE = {"zone=staff:10m rate=10r/s": "zone=staff:10m rate=1000r/s", "burst=200":
 USER, GROUPS = "nora", "teller supervisor office registrar"
 BANK, BRANCH = "First Bank of Testing", "Main Street"
 DAY = "2012-02-06"
+#: Has the page read this day as the server's, at the true time of day.
+TODAY = """
+const real = Headers.prototype.get;
+Headers.prototype.get = function (name) {
+    const text = real.call(this, name);
+    return name === "Date" && text !== null ? text.replace(/[0-9]{2} [A-Z][a-z]{2} [0-9]{4}/, "%s") : text;
+};
+"""
 #: What sound books have none of: a bond paid twice; a ticket that isn't its lines; a batch that isn't its tickets; a paid bond that names another ticket.
 NONE_OF = (
     "SELECT letter, number FROM paid GROUP BY letter, number HAVING count(*) > 1",
@@ -32,6 +42,11 @@ NONE_OF = (
     "SELECT p.ticket FROM paid AS p JOIN bonds AS b ON b.letter = p.letter AND b.number = p.number WHERE b.ticket IS NOT p.ticket",
     "SELECT 1 WHERE (SELECT count(*) FROM bonds WHERE ticket IS NOT NULL) != (SELECT count(*) FROM paid)",
 )
+
+
+def released_in(top: Path) -> str:
+    """The day of the release of a checkout, as its page has it."""
+    return (top / "clients/teller/released.js").read_text().split('"')[1]
 
 
 def bond(serial: str, denom: int, issued: str, owner: int, **more: int) -> dict[str, Any]:
@@ -176,7 +191,8 @@ class Bank:
         #: The page, which a test may change.
         self.teller = folder / "teller"
         shutil.copytree(PAGE, self.teller)
-        self.write_own({})
+        (self.teller / "released.js").write_text('export const RELEASED = "2012-02-01";\n')
+        self.write_own()
         self.fronts: list[Front] = []
         self.nginx = self.front("nginx")
         #: The numbers of the requests of desk 900.
@@ -201,12 +217,21 @@ class Bank:
         self.nginx.staff.hire(USER)
         self.certificate = self.nginx.exported(USER)
 
-    def write_own(self, words: Mapping[str, object] | None) -> None:
-        """The bank's own file of the page, with these words. Without any it is one of release 1.0.0."""
+    def write_own(
+        self,
+        words: Mapping[str, object] | None = {},
+        today: str | None = DAY,
+        ask_above: int | None = None,
+    ) -> None:
+        """The bank's own file of the page, with these words. Without any it is one of release 1.0.0. `today` is the server's, or None for the true one."""
         branches = json.dumps([{"name": BRANCH, "from": 1, "to": 9}])
         lines = [f"export const BANK = {json.dumps(BANK)};", f"export const BRANCHES = {branches};"]
         old = "export function branchOf(desk) {}"
         lines.append(old if words is None else f"export const WORDS = {json.dumps(words)};")
+        if ask_above is not None:
+            lines.append(f"export const ASK_ABOVE = {ask_above};")
+        if today is not None:
+            lines.append(TODAY % datetime.date.fromisoformat(today).strftime("%d %b %Y"))
         (self.teller / "bank.js").write_text("\n".join(lines) + "\n")
 
     def change_page(self, file: str, *changes: tuple[str, str]) -> None:

@@ -33,19 +33,15 @@ COMMANDS = dict(
 """.split()
 )
 #: No page of Mozilla's is asked for, a page's data is kept without a question, and scrollbars take no room, as on a phone.
-PREFERENCES = {
-    "marionette.port": 0,
-    "app.update.enabled": False,
-    "browser.shell.checkDefaultBrowser": False,
+OFF = """app.update.enabled browser.shell.checkDefaultBrowser browser.aboutwelcome.enabled
+datareporting.policy.dataSubmissionEnabled dom.disable_open_during_load
+network.captive-portal-service.enabled network.connectivity-service.enabled""".split()
+PREFERENCES: dict[str, object] = {
+    **dict.fromkeys(OFF, False),
+    **dict.fromkeys(("marionette.port", "browser.startup.page"), 0),
     "browser.startup.homepage": "about:blank",
-    "browser.startup.page": 0,
-    "browser.aboutwelcome.enabled": False,
-    "datareporting.policy.dataSubmissionEnabled": False,
-    "dom.disable_open_during_load": False,
     "dom.storageManager.prompt.testing": True,
     "dom.storageManager.prompt.testing.allow": True,
-    "network.captive-portal-service.enabled": False,
-    "network.connectivity-service.enabled": False,
     "intl.accept_languages": "en-US",
     "layout.css.devPixelsPerPx": "1",
     "ui.useOverlayScrollbars": 1,
@@ -98,12 +94,8 @@ class Firefox:
         active = profile / "MarionetteActivePort"
         active.unlink(missing_ok=True)
         words = ["firefox-esr", way, "--marionette", "--remote-allow-system-access", "--no-remote"]
-        self.process = subprocess.Popen(
-            [*within, *words, "--profile", profile],
-            stdout=subprocess.DEVNULL,
-            stderr=subprocess.DEVNULL,
-            start_new_session=True,
-        )
+        line, none = [*within, *words, "--profile", str(profile)], subprocess.DEVNULL
+        self.process = subprocess.Popen(line, stdout=none, stderr=none, start_new_session=True)
         self.marionette = Marionette(self.port_of(active))
 
     @staticmethod

@@ -5,11 +5,13 @@ from __future__ import annotations
 import time
 from typing import Any, Callable
 
-from tests.browser.browser import Browser
+from tests.browser.browser import Browser, Keys
 
 #: Dollars of the bonds of `bank.bonds_of` in February 2012, by the published rates, in cents.
 VALUES = {"L": 2516, "K": 3807, "M": 502400}
 DOUBT = "Do these bonds agree with the paper?"
+#: What is in the title of a question about what may be wrong.
+DOUBTS = (DOUBT, " the right day?", " right?")
 #: What a reply that came late or twice adds.
 EARLIER = "The connection was interrupted."
 #: Opens the page's own databases.
@@ -43,6 +45,18 @@ RESTS = """
     new MutationObserver(() => window.rests.push([button.hasAttribute("aria-disabled"), performance.now()])).observe(button, { attributeFilter: ["aria-disabled"] });
 """
 
+#: No dialogue of the browser's; how often the page printed.
+NO_PRINTER = "window.prints = 0; window.print = () => { window.prints += 1; };"
+#: Counts tones in place of making them.
+BEEPS = """
+    window.beeps = 0;
+    const tone = () => ({ frequency: {}, connect() {}, stop() {}, start() { window.beeps += 1; } });
+    window.AudioContext = class {
+        get currentTime() { return performance.now() / 1000; }
+        resume() { return Promise.resolve(); }
+        createOscillator() { return tone(); }
+    };
+"""
 #: Keeps each step that the page says of a request, also one that is in sight for half a second alone.
 STEPS = """
     const progress = document.getElementById("progress-text");
@@ -162,11 +176,17 @@ class Page(Browser):
         self.press("#join-day button")
 
     def joins(self, day: str = "2012-02-06", desk: int | None = None) -> None:
-        """At a desk, if one is to be chosen, until the day is joined."""
+        """At a desk, if one is to be chosen, until the day is joined. The page asks about one of another month than the server's."""
         if desk is not None:
             self.choose_desk(desk)
         self.join_day(day)
-        self.waits_for("This desk joined")
+        joined = "This desk joined"
+        self.until(
+            lambda: self.is_shown("#confirm") or joined in self.text("#notices"), "the day is found"
+        )
+        if self.is_shown("#confirm"):
+            self.press("#confirm-yes")
+        self.waits_for(joined)
 
     def ask_to_close(self, patience: float = 60) -> str:
         """Up to the page's question, before which it counts the day."""
@@ -188,6 +208,8 @@ class Page(Browser):
 
     def show_sheet_begun(self, customer: int, month: str | None = None) -> None:
         self.go("pay")
+        if self.is_shown("#folded"):
+            self.press("#change")
         self.type("#customer", str(customer))
         if month is not None:
             self.type("#month", month)
@@ -201,11 +223,15 @@ class Page(Browser):
         self.show_sheet_begun(customer, month)
         self.answered(
             lambda: self.all("#sheet .earlier") == []
-            and f"ustomer {customer} " in self.text("#sheet"),
+            and f"ustomer {customer} " in self.text("#folded") + self.text("#sheet"),
             "the sheet",
             "#ask-sheet button",
             60,
         )
+
+    def caption(self) -> str:
+        """Whose sheet is shown, and of which month."""
+        return str(self.run("return document.querySelector('.sheet').caption.textContent"))
 
     def shows_sum(self, count: int, cents: int, month: str = "February 2012") -> None:
         """The sum beside Pay, and of how many bonds it is."""
@@ -248,17 +274,40 @@ class Page(Browser):
         self.waits_for(dollars(sum(cents)), "#ticket tfoot")
         self.settled()
 
-    def pays(self, ticket: int, owner: int, *serials: str, payee: int | None = None) -> None:
-        """The whole payment of bonds of a sheet."""
+    def chooses(self, owner: int, *serials: str) -> None:
+        """Bonds of a sheet."""
         self.show_sheet(owner)
         self.choose(*serials)
-        self.pay(payee)
+
+    def sends(self, owner: int, *serials: str, payee: int | None = None) -> str:
+        """Pays bonds of a sheet, up to the sending; the texts of the question."""
+        self.chooses(owner, *serials)
+        return self.pay(payee)
+
+    def pays(self, ticket: int, owner: int, *serials: str, payee: int | None = None) -> None:
+        """The whole payment of bonds of a sheet."""
+        self.sends(owner, *serials, payee=payee)
         self.is_paid(ticket, *(VALUES[serial[0]] for serial in serials))
 
     def look_up(self, ticket: int) -> None:
         self.go("tickets")
         self.type("#ticket-number", str(ticket))
         self.press("#ask-ticket button")
+
+    # ---- scans
+
+    def scan(self, *texts: str) -> None:
+        """As a scanner types, wherever the keyboard is: each text at once, with Enter."""
+        for text in texts:
+            self.keys(text + Keys.ENTER)
+
+    def watch_beeps(self) -> None:
+        """From here on, for `beeps`."""
+        self.run(BEEPS)
+
+    def beeps(self) -> int:
+        """How many tones were begun."""
+        return int(self.run("return window.beeps"))
 
     # ---- walk-ins
 
@@ -297,17 +346,17 @@ class Page(Browser):
     def bonds_asked(self) -> list[list[str]]:
         """The bonds of the question: of each the texts of its line."""
         lines: list[list[str]] = self.run(
-            "return [...document.querySelectorAll('#confirm li')].map((line) => [...line.children].map((part) => part.textContent))"
+            "return [...document.querySelectorAll('#confirm .bonds li')].map((line) => [...line.children].map((part) => part.textContent))"
         )
         return lines
 
     def asked_without_doubt(self) -> str:
-        """The texts of the page's question. Before it the page asks about letters that don't fit the denomination, as many here, and about issue months."""
+        """The texts of the page's question. Before it the page asks about letters that don't fit the denomination, as many here, about issue months, the open day and large sums."""
         self.asks()
-        if DOUBT in self.question():
+        while any(words in (title := self.text("#confirm-title")) for words in DOUBTS):
             self.press("#confirm-yes")
             self.until(
-                lambda: self.is_shown("#confirm") and DOUBT not in self.question(),
+                lambda: self.is_shown("#confirm") and self.text("#confirm-title") != title,
                 "the page asks again",
             )
         return self.question()

@@ -25,14 +25,15 @@ HELPERS = """
         return "rgb(255, 255, 255)";
     };
     const has_text = (e) => [...e.childNodes].some((n) => n.nodeType === 3 && n.data.trim() !== "") || e.matches("input");
-    const contrast = (e) => {
-        const [more, less] = [light(getComputedStyle(e).color), light(ground(e))].sort((x, y) => y - x);
+    const ratio = (color, other) => {
+        const [more, less] = [light(color), light(other)].sort((x, y) => y - x);
         return (more + 0.05) / (less + 0.05);
     };
+    const contrast = (e) => ratio(getComputedStyle(e).color, ground(e));
     const references = (e) => ["aria-labelledby", "aria-describedby"].flatMap((name) => (e.getAttribute(name) ?? "").split(" ").filter((id) => id !== ""));
     const target = (e) => (e.closest("tr.choosable, tr.barred") ?? e).getBoundingClientRect();
     const in_text = (e) => e.matches("a:not(.button)") && getComputedStyle(e).display === "inline";
-    const levels = all("h1, h2, h3, h4").filter(shown).map((e) => Number(e.tagName[1]));
+    const levels = all("h1, h2, h3, h4").filter((e) => e.checkVisibility()).map((e) => Number(e.tagName[1]));
 """
 #: By rule: an expression whose list has what breaks it.
 RULES = {
@@ -45,13 +46,14 @@ RULES = {
     "the page names its language and its title": 'document.documentElement.lang === "en" && document.title.length > 3 ? [] : ["lang or title"]',
     "what describes an element is there": 'all("*").flatMap((e) => references(e).filter((id) => document.getElementById(id) === null))',
     "each text has a contrast of 4.5 to 1": 'all("body *").filter(shown).filter(has_text).filter((e) => contrast(e) < 4.5).map(brief)',
+    "each field's border has a contrast of 3 to 1": 'all("input:not([type=checkbox]), select, textarea").filter(shown).filter((e) => ratio(getComputedStyle(e).borderTopColor, ground(e.parentElement)) < 3).map(brief)',
     "each heading of a table says of what": 'all("th").filter((e) => !["col", "row"].includes(e.scope)).map(brief)',
     "each table has a caption": 'all("table").filter(shown).filter((e) => e.caption === null || e.caption.textContent === "").map(brief)',
     "there is one live region": 'all("[aria-live], [role=status], [role=alert], [role=log], output").length === 1 ? [] : ["live regions"]',
     "banner, main and a named navigation": '["header", "main"].filter((name) => all(name).length !== 1).concat(all("nav").filter((e) => !e.getAttribute("aria-label")).map(brief))',
     "a dialog has a name and a description": 'all("dialog").filter((e) => references(e).length < 2).map(brief)',
     "a field that is marked is described": 'all("[aria-invalid=true]").filter((e) => !(e.getAttribute("aria-describedby") ?? "").includes(e.id + "-error")).map(brief)',
-    "what can be pressed is 44 pixels high and 44 wide": 'all("button, input, a[href], label input").filter(shown).filter((e) => !in_text(e)).filter((e) => target(e).height < 43.5 || target(e).width < 43.5).map(brief)',
+    "what can be pressed is 44 pixels high and 44 wide, a row 36 high": 'all("button, input, a[href], label input").filter(shown).filter((e) => !in_text(e)).filter((e) => target(e).height < (e.closest("tr") ? 35.5 : 43.5) || target(e).width < 43.5).map(brief)',
     "nothing goes over the edge": 'document.documentElement.scrollWidth <= innerWidth ? [] : [document.documentElement.scrollWidth + " of " + innerWidth]',
     "no text is cut": 'all("body *").filter(shown).filter((e) => has_text(e) && !e.matches("input") && getComputedStyle(e).overflowX !== "visible" && e.scrollWidth > e.clientWidth + 1).map(brief)',
 }
@@ -66,13 +68,14 @@ BREAKS = {
     "the page names its language and its title": "document.documentElement.lang = ''",
     "what describes an element is there": "all('button')[0].setAttribute('aria-describedby', 'nowhere')",
     "each text has a contrast of 4.5 to 1": "all('h1').filter(shown)[0].style.color = '#999999'",
+    "each field's border has a contrast of 3 to 1": "all('input').filter(shown)[0].style.borderColor = '#aaaaaa'",
     "each heading of a table says of what": "document.body.append(document.createElement('th'))",
     "each table has a caption": "all('section:not([hidden])')[0].append(document.createElement('table'))",
     "there is one live region": "all('h1')[0].setAttribute('aria-live', 'polite')",
     "banner, main and a named navigation": "all('nav')[0].removeAttribute('aria-label')",
     "a dialog has a name and a description": "all('dialog')[0].removeAttribute('aria-describedby')",
     "a field that is marked is described": "all('input')[0].setAttribute('aria-invalid', 'true')",
-    "what can be pressed is 44 pixels high and 44 wide": "all('button').filter(shown)[0].style.cssText = 'min-height: 0; height: 30px; padding: 0'",
+    "what can be pressed is 44 pixels high and 44 wide, a row 36 high": "all('button').filter(shown)[0].style.cssText = 'min-height: 0; height: 30px; padding: 0'",
     "nothing goes over the edge": "all('h1').filter(shown)[0].style.cssText = 'width: 120vw'",
     "no text is cut": "all('h1').filter(shown)[0].style.cssText = 'width: 1em; overflow: hidden; white-space: nowrap'",
 }

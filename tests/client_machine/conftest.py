@@ -8,13 +8,15 @@ import shutil
 import subprocess
 import tempfile
 from pathlib import Path
-from typing import Iterator, Sequence
+from typing import Callable, Iterator, Optional, Sequence
 
 import pytest
 
 from tests.client_machine.machine import Library
-from tests.client_machine.page_client import Node
+from tests.client_machine.page_client import InBrowser, Node, page_in
+from tests.client_machine.python_client import Edit
 
+NewPage = Callable[..., Node]
 TOP = Path(__file__).resolve().parents[2]
 CRATE = TOP / "crates" / "ee_client"
 WASM = "wasm64-unknown-unknown"
@@ -71,9 +73,25 @@ def library(built: Path) -> Library:
     return Library(built / "libee_client.so")
 
 
-@pytest.fixture
-def node(built: Path) -> Iterator[Node]:
-    """The page's rules in Node, with the machine."""
-    process = Node(built / "ee_client.wasm")
-    yield process
-    process.close()
+@pytest.fixture(
+    params=[
+        "node",
+        pytest.param("chromium", marks=pytest.mark.browser),
+        pytest.param("firefox", marks=[pytest.mark.browser, pytest.mark.slow]),
+    ]
+)
+def new_page(request: pytest.FixtureRequest, built: Path, folder: Path) -> Iterator[NewPage]:
+    """Starts the page's rules, with the machine, in Node and in each browser; `edit` makes a wrong page."""
+    made: list[Node] = []
+
+    def start(edit: Optional[Edit] = None) -> Node:
+        files = folder / "files"
+        files.mkdir()
+        page_in(files, built / "ee_client.wasm", edit)
+        name = request.param
+        made.append(Node(files) if name == "node" else InBrowser(files, name, folder))
+        return made[-1]
+
+    yield start
+    for page in made:
+        page.close()

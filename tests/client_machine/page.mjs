@@ -1,17 +1,22 @@
-// Runs sender.js of the tellers' page in Node, and the machine beside it: node page.mjs FOLDER WASM. FOLDER has the page's modules. Each line of standard input is a command as JSON; each line of
-// standard output is what the page does, and waits for its answer, or how a request ended.
+// Runs sender.js of the tellers' page, and the machine beside it, which are in its folder. A command is JSON; what it tells is JSON too: what the page does, and waits for its answer, or how a request
+// ended. In Node each is a line. In a browser `exchanged` takes commands, and resolves to what the page tells next.
 
-import { readFile } from "node:fs/promises";
-import { createInterface } from "node:readline";
-import { pathToFileURL } from "node:url";
-
-const [folder, wasm] = process.argv.slice(2);
+const is_node = typeof process !== "undefined";
+const wasm = await file(new URL("ee_client.wasm", import.meta.url));
+const told = [];
+let resolve_told = () => {};
 let life = 0;
 let resolve_asked = () => {};
 let sender = null;
 
+async function file(url) {
+  return is_node ? (await import("node:fs/promises")).readFile(url) : (await fetch(url)).arrayBuffer();
+}
+
 function tell(item) {
-  process.stdout.write(`${JSON.stringify(item)}\n`);
+  told.push(JSON.stringify(item));
+  if (is_node) process.stdout.write(`${told.shift()}\n`);
+  resolve_told();
 }
 
 // Tells what the page does, and resolves to what then happens. A page that was killed hears nothing.
@@ -23,7 +28,7 @@ function ask(item) {
   });
 }
 
-globalThis.location = { origin: "https://counter.test" };
+globalThis.location ??= { origin: "https://counter.test" };
 globalThis.setTimeout = (wake, milliseconds) => {
   ask({ pause: milliseconds }).then(wake);
   return 0;
@@ -35,8 +40,8 @@ globalThis.fetch = async (url, options) => {
   return { type: "basic", status: response.status, headers: { get: () => null }, text: async () => response.text };
 };
 
-const { Sender } = await import(pathToFileURL(`${folder}/sender.js`));
-const { Unstored } = await import(pathToFileURL(`${folder}/journal.js`));
+const { Sender } = await import(new URL("sender.js", import.meta.url).href);
+const { Unstored } = await import(new URL("journal.js", import.meta.url).href);
 
 // A journal as journal.js has it: a change is written whole, or what was there stays.
 class Journal {
@@ -59,7 +64,7 @@ function ended(promise) {
   );
 }
 
-const machine = (await WebAssembly.instantiate(await readFile(wasm), {})).instance.exports;
+const machine = (await WebAssembly.instantiate(wasm, {})).instance.exports;
 
 // 6 numbers of the journal, 16 of the turn, and then 5 for each event, behind all that the module has for itself.
 function turn(most, journal, events) {
@@ -85,7 +90,17 @@ const COMMANDS = {
   turn: ({ most, journal, events }) => tell({ turn: turn(most, journal, events) }),
 };
 
-for await (const line of createInterface({ input: process.stdin })) {
-  const command = JSON.parse(line);
+function run(command) {
   COMMANDS[command.do](command);
+}
+
+globalThis.exchanged = async (commands) => {
+  JSON.parse(commands).forEach(run);
+  while (told.length === 0) await new Promise((resolve) => (resolve_told = resolve));
+  return told.shift();
+};
+
+if (is_node) {
+  const { createInterface } = await import("node:readline");
+  for await (const line of createInterface({ input: process.stdin })) run(JSON.parse(line));
 }

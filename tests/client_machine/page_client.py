@@ -4,88 +4,42 @@ from __future__ import annotations
 import json
 import shutil
 import subprocess
-import tempfile
 from pathlib import Path
 from typing import Any, Optional, Sequence
 
-from tests.client_machine.counter import (
-    Counter,
-    Fate,
-    Json,
-    Response,
-    name_of,
-    redemption,
-    registration,
-)
-from tests.client_machine.machine import (
-    ANSWERED,
-    DONE,
-    GO_ON,
-    KILLED,
-    NOT_DONE,
-    NOTHING,
-    REFUSE,
-    REFUSED,
-    SUBMIT,
-    UNWRITTEN,
-    WRITTEN,
-    Beside,
-    Event,
-    Record,
-    Turn,
-    turn_of,
-)
-from tests.client_machine.python_client import answered_kind
+from tests.client_machine.counter import Counter, Fate, Json, name_of, redemption, registration
+from tests.client_machine import machine as proved
+from tests.client_machine.machine import Beside, Event, Record, Turn, turn_of
+from tests.client_machine.python_client import Edit, answered_kind, edited, record_of
 
 HERE = Path(__file__).resolve().parent
-PAGE = HERE.parent.parent / "clients" / "teller"
+PAGE = HERE.parents[1] / "clients" / "teller"
 #: The greatest whole number that JavaScript has.
 MOST = 2**53 - 1
 REPLIES = ("ticket", "added", "opened", "batch")
 NONE_LEFT = "this desk has no numbers left"
 
 
-def record_of(record: Json) -> Record:
-    """What the rules know of a journal of the page."""
-    still = record["open"]
-    if still is None:
-        return Record(record["next"])
-    follower = name_of(still["then"]["fields"]) if "then" in still else 0
-    return Record(
-        record["next"],
-        still["number"],
-        still["step"],
-        still["sent"],
-        name_of(still["fields"]),
-        follower,
-    )
+def page_in(folder: Path, wasm: Path, edit: Optional[Edit] = None) -> None:
+    """Puts the page's rules with page.mjs and the machine into a folder; `edit` makes a wrong page."""
+    for path in (*PAGE.glob("*.js"), HERE / "page.mjs", wasm):
+        shutil.copy(path, folder)
+    (folder / "package.json").write_text('{"type":"module"}')
+    (folder / "index.html").write_text('<script type="module" src="page.mjs"></script>')
+    if edit is not None:
+        edited(folder, edit)
 
 
 class Node:
-    """A process of Node with the page's rules and the machine; `edits` make a wrong page."""
+    """A process of Node with the page's rules and the machine, which are in a folder."""
 
-    def __init__(self, wasm: Path, edits: Sequence[tuple[str, str, str]] = ()) -> None:
-        self.folder = Path(tempfile.mkdtemp())
-        for path in PAGE.glob("*.js"):
-            shutil.copy(path, self.folder)
-        (self.folder / "package.json").write_text('{"type":"module"}')
-        for file, old, new in edits:
-            path = self.folder / file
-            text = path.read_text()
-            assert text.count(old) == 1, f"{old!r} isn't once in {file}"
-            path.write_text(text.replace(old, new))
-        command = ["node", str(HERE / "page.mjs"), str(self.folder), str(wasm)]
-        self.process = subprocess.Popen(
-            command, stdin=subprocess.PIPE, stdout=subprocess.PIPE, text=True
-        )
+    def __init__(self, folder: Path) -> None:
+        words, pipe = ["node", str(folder / "page.mjs")], subprocess.PIPE
+        self.process = subprocess.Popen(words, stdin=pipe, stdout=pipe, text=True)
 
     def close(self) -> None:
         """Ends it."""
-        assert self.process.stdin is not None and self.process.stdout is not None
-        self.process.stdin.close()
-        self.process.wait(timeout=10)
-        self.process.stdout.close()
-        shutil.rmtree(self.folder)
+        self.process.communicate(timeout=10)
 
     def does(self, command: str, **more: Any) -> None:
         """Gives a command."""
@@ -96,9 +50,7 @@ class Node:
     def said(self) -> Json:
         """What it does next."""
         assert self.process.stdout is not None
-        line = self.process.stdout.readline()
-        assert line, "Node has ended"
-        found: Json = json.loads(line)
+        found: Json = json.loads(self.process.stdout.readline())
         return found
 
     def turn(self, most: int, journal: Record, events: Sequence[Event]) -> Turn:
@@ -106,6 +58,30 @@ class Node:
         texts = [[str(number) for number in event] for event in events]
         self.does("turn", most=str(most), journal=[str(number) for number in journal], events=texts)
         return turn_of([int(number) for number in self.said()["turn"]])
+
+
+class InBrowser(Node):
+    """The same in a browser, with a server of the folder."""
+
+    def __init__(self, folder: Path, name: str, profile: Path) -> None:
+        from tests.browser.browser import Browser
+        from tests.clients.calculator import Site
+
+        self.site, self.given = Site(folder), list[Json]()
+        self.browser = Browser(name, self.site.url, profile)
+        self.browser.until(lambda: self.browser.run("return 'exchanged' in window"), "it is there")
+
+    def close(self) -> None:
+        self.browser.quit()
+        self.site.stop()
+
+    def does(self, command: str, **more: Any) -> None:
+        self.given.append({"do": command, **more})
+
+    def said(self) -> Json:
+        given, self.given = json.dumps(self.given), []
+        found: Json = json.loads(self.browser.run_module("return exchanged(given[0])", given))
+        return found
 
 
 class PageClient:
@@ -137,10 +113,10 @@ class PageClient:
         if outcome in ("kept", "killed after"):
             self.record = record
         if outcome.startswith("killed"):
-            self.beside.happens(KILLED, detail=int(outcome == "killed after"))
+            self.beside.happens(proved.KILLED, detail=int(outcome == "killed after"))
             self.start()
             return False
-        self.beside.happens(WRITTEN if outcome == "kept" else UNWRITTEN)
+        self.beside.happens(proved.WRITTEN if outcome == "kept" else proved.UNWRITTEN)
         self.node.does("answer", answer=outcome)
         return True
 
@@ -149,9 +125,9 @@ class PageClient:
         number, act = body["number"], name_of(body)
         self.beside.sends(number, act)
         fate = self.fates.pop(0) if self.fates else Fate.LOST
-        response: Optional[Response] = self.counter.meets(path, body, fate)
-        kind = NOTHING if response is None else answered_kind(*response)
-        self.beside.happens(ANSWERED, number, detail=kind)
+        response = self.counter.meets(path, body, fate)
+        kind = proved.NOTHING if response is None else answered_kind(*response)
+        self.beside.happens(proved.ANSWERED, number, detail=kind)
         self.node.does("answer", answer=None if response is None else response._asdict())
 
     def called(self) -> Optional[Json]:
@@ -165,7 +141,7 @@ class PageClient:
                 self.sent(said["send"]["path"], said["send"]["body"])
             elif "pause" in said:
                 if not self.fates and not self.writes:
-                    self.beside.happens(KILLED)
+                    self.beside.happens(proved.KILLED)
                     self.start()
                     return None
                 self.node.does("answer", answer="wake")
@@ -184,17 +160,17 @@ class PageClient:
             return
         kind = said["ended"]["kind"]
         if kind in REPLIES or kind == "refused":
-            self.told(DONE if kind in REPLIES else REFUSED)
+            self.told(proved.DONE if kind in REPLIES else proved.REFUSED)
         self.node.does("forget")
         if self.called() is not None and kind not in REPLIES and kind != "refused":
-            self.told(NOT_DONE)
+            self.told(proved.NOT_DONE)
 
     def failed(self, why: str) -> None:
         """A call failed: nothing could be written, or no number is left, in which the page stays as it is until it is loaded again."""
         if why == NONE_LEFT:
-            if self.beside.turn.action != REFUSE:
-                self.beside.happens(GO_ON)
-            assert self.beside.turn.action == REFUSE, self.beside.turn
+            if self.beside.turn.action != proved.REFUSE:
+                self.beside.happens(proved.GO_ON)
+            assert self.beside.turn.action == proved.REFUSE, self.beside.turn
             self.kill()
         else:
             assert why == "unstored", why
@@ -215,12 +191,12 @@ class PageClient:
         path, fields = registration(act) if follower else redemption(act)
         then = dict(zip(("path", "fields"), redemption(follower)))
         more: Json = {"then": then} if follower else {}
-        self.beside.happens(SUBMIT, act=act, follower=follower)
+        self.beside.happens(proved.SUBMIT, act=act, follower=follower)
         if follower and not self.is_open:
             self.followers[follower] = act
         self.node.does("submit", path=path, fields=fields, more=more)
         if self.is_open:
-            assert self.beside.turn.action == REFUSE
+            assert self.beside.turn.action == proved.REFUSE
             assert self.node.said() == {"failed": "a request is open"}
             return
         self.ends()
@@ -231,12 +207,12 @@ class PageClient:
             self.node.does("finish")
             self.ends()
         else:
-            self.beside.happens(GO_ON)
+            self.beside.happens(proved.GO_ON)
 
     def give_up(self) -> None:
         """The page gives nothing up."""
 
     def kill(self) -> None:
         """Kills it at rest."""
-        self.beside.happens(KILLED)
+        self.beside.happens(proved.KILLED)
         self.start()

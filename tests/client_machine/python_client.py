@@ -9,30 +9,14 @@ import sys
 import tempfile
 from pathlib import Path
 from types import ModuleType
-from typing import Any, Optional, Sequence
+from typing import Any, Optional
 
 from tests.client_machine.counter import DAY, PAYEE, STOPPED, Counter, Fate, Json, name_of
-from tests.client_machine.machine import (
-    ANSWERED,
-    DONE,
-    FAULT,
-    GIVE_UP,
-    GIVEN_UP,
-    KILLED,
-    NOT_DONE,
-    NOTHING,
-    REFUSE,
-    REFUSED,
-    REUSED,
-    SUBMIT,
-    UNWRITTEN,
-    WRITTEN,
-    Beside,
-    Machine,
-    Record,
-)
+from tests.client_machine import machine as proved
+from tests.client_machine.machine import Beside, Machine, Record
 
-SOURCES = Path(__file__).resolve().parent.parent.parent / "clients" / "python" / "src"
+Edit = tuple[str, str, str]
+SOURCES = Path(__file__).resolve().parents[2] / "clients" / "python" / "src"
 #: Where files are in memory.
 MEMORY = "/dev/shm"
 #: The greatest number that a journal of Python holds as its next.
@@ -43,31 +27,35 @@ class Killed(BaseException):
     """The client is killed."""
 
 
-def package(edits: Sequence[tuple[str, str, str]] = ()) -> ModuleType:
-    """The client's package; with edits a copy of it, in which a text of a file is another."""
-    if not edits:
+def edited(folder: Path, edit: Edit) -> None:
+    """Makes a wrong client: a text of a file, which is there once, is another."""
+    file, old, new = edit
+    text = (folder / file).read_text()
+    assert text.count(old) == 1, f"{old!r} isn't once in {file}"
+    (folder / file).write_text(text.replace(old, new))
+
+
+def package(edit: Optional[Edit] = None) -> ModuleType:
+    """The client's package; with an `edit` a wrong copy of it."""
+    if edit is None:
         sys.path.insert(0, str(SOURCES))
         return importlib.import_module("ee_counter_client")
     folder = Path(tempfile.mkdtemp())
     name = f"wrong_{folder.name}"
     shutil.copytree(SOURCES / "ee_counter_client", folder / name)
-    for file, old, new in edits:
-        path = folder / name / file
-        text = path.read_text()
-        assert text.count(old) == 1, f"{old!r} isn't once in {file}"
-        path.write_text(text.replace(old, new))
+    edited(folder / name, edit)
     sys.path.insert(0, str(folder))
     return importlib.import_module(name)
 
 
 def record_of(record: Json) -> Record:
-    """What the rules know of a journal of Python."""
+    """What the rules know of a journal."""
     still = record["open"]
     if still is None:
         return Record(record["next"])
-    return Record(
-        record["next"], still["number"], still["step"], still["sent"], name_of(still["fields"])
-    )
+    follower = name_of(still["then"]["fields"]) if "then" in still else 0
+    number, step, sent = (still[key] for key in ("number", "step", "sent"))
+    return Record(record["next"], number, step, sent, name_of(still["fields"]), follower)
 
 
 def answered_kind(status: int, text: str) -> int:
@@ -75,13 +63,13 @@ def answered_kind(status: int, text: str) -> int:
     try:
         value = json.loads(text)
     except ValueError:
-        return NOTHING
+        return proved.NOTHING
     if status == 200:
-        return DONE
+        return proved.DONE
     if status == 409:
-        return REUSED if value["code"] == 10 else REFUSED
+        return proved.REUSED if value["code"] == 10 else proved.REFUSED
     is_fault = status == 400 and value["code"] not in (60, 61, 63, 68)
-    return FAULT if is_fault or (status, text) == STOPPED[Fate.FORBIDDEN] else NOTHING
+    return proved.FAULT if is_fault or (status, text) == STOPPED[Fate.FORBIDDEN] else proved.NOTHING
 
 
 class PythonClient:
@@ -130,16 +118,15 @@ class PythonClient:
             self.beside.writes(record_of(record))
             outcome = self.writes.pop(0) if self.writes else "kept"
             if outcome == "failed":
-                self.beside.happens(UNWRITTEN)
+                self.beside.happens(proved.UNWRITTEN)
                 raise OSError("the disk is full")
             if outcome in ("kept", "killed after"):
                 real_write(record)
             is_killed[0] = outcome != "kept"
-            self.beside.happens(
-                *((KILLED, 0, 0, 0, int(outcome == "killed after")) if is_killed[0] else (WRITTEN,))
-            )
             if is_killed[0]:
+                self.beside.happens(proved.KILLED, detail=int(outcome == "killed after"))
                 raise Killed
+            self.beside.happens(proved.WRITTEN)
 
         def exchanged(
             method: str, path: str, value: Optional[Json], read: Any, deadline: Any
@@ -150,8 +137,8 @@ class PythonClient:
             fate = self.fates.pop(0) if self.fates else Fate.LOST
             response = self.counter.meets(path, value, fate)
             answers = importlib.import_module(f"{self.package.__name__}.answers")
-            kind = NOTHING if response is None else answered_kind(*response)
-            self.beside.happens(ANSWERED, number, detail=kind)
+            kind = proved.NOTHING if response is None else answered_kind(*response)
+            self.beside.happens(proved.ANSWERED, number, detail=kind)
             return (
                 answers.Answer("none", met="nothing came")
                 if response is None
@@ -177,22 +164,25 @@ class PythonClient:
             self.dropped()
             self.client = self.started()
         except errors.Refused:
-            self.told(REFUSED)
+            self.told(proved.REFUSED)
         except (errors.Fault, errors.Forbidden):
-            self.told(NOT_DONE)
+            self.told(proved.NOT_DONE)
         except errors.FileFailed as failure:
             last = [(event.kind, event.detail) for event in self.beside.events[-2:]]
-            assert self.is_ended or last != [(ANSWERED, FAULT), (UNWRITTEN, 0)], "a fault ended it"
+            assert self.is_ended or last != [
+                (proved.ANSWERED, proved.FAULT),
+                (proved.UNWRITTEN, 0),
+            ], "a fault ended it"
             assert not (self.is_ended and failure.may_be_done)
             if not self.is_ended:
-                self.beside.happens(KILLED)
+                self.beside.happens(proved.KILLED)
         except errors.NoReply:
             pass
         else:
             if isinstance(result, self.package.Ticket):
                 act = int(result.lines[0].serial[1:-2])
-                self.beside.shows(act, DONE)
-                self.told(DONE)
+                self.beside.shows(act, proved.DONE)
+                self.told(proved.DONE)
         if not self.is_ended:
             self.beside.holds(record_of(self.client._journal.record))
 
@@ -218,9 +208,9 @@ class PythonClient:
             self.go_on()
         if self.is_ended:
             return
-        self.beside.happens(SUBMIT, act=act)
+        self.beside.happens(proved.SUBMIT, act=act)
         if self.is_open:
-            assert self.beside.turn.action == REFUSE
+            assert self.beside.turn.action == proved.REFUSE
             try:
                 self.client.redeem(DAY, PAYEE, [f"L{act}EE"])
             except self.package.StillOpen:
@@ -236,16 +226,16 @@ class PythonClient:
         """Gives the open request up."""
         if not self.is_open:
             return
-        self.beside.happens(GIVE_UP)
+        self.beside.happens(proved.GIVE_UP)
 
         def call() -> None:
             given_up = self.client.abandon("tried")
-            self.told(GIVEN_UP if given_up.may_be_done else NOT_DONE)
+            self.told(proved.GIVEN_UP if given_up.may_be_done else proved.NOT_DONE)
 
         self.called(call)
 
     def kill(self) -> None:
         """Kills it at rest."""
-        self.beside.happens(KILLED)
+        self.beside.happens(proved.KILLED)
         self.dropped()
         self.client = self.started()

@@ -19,6 +19,8 @@ from tests.browser.browser import Browser
 from tests.conftest import TOP
 
 OUT = TOP / "clients/calculator/out"
+NEEDS = [pytest.mark.browser]
+NEEDS += [pytest.mark.needs("module:selenium", "file:clients/calculator/out/calculator.js")]
 #: A file of the page, a text of it, and another one in its place.
 Change = tuple[str, str, str]
 Changes = tuple[Change, ...]
@@ -27,6 +29,10 @@ WIDTHS = (13, 6, 6, 7, 7, 7, 12, 14, 6, 14, 0)
 RIGHT = (2, 6, 7, 8, 9)
 #: Money as the counter prints it: the page writes it with a dollar sign and commas.
 ROWS = "return [...document.querySelectorAll('#table tbody tr')].map((row) => [...row.children].map((cell) => (cell.querySelector('.code') ?? cell).textContent.replace(/[$,]/g, '')));"
+#: What the browser keeps is read and written beside the page.
+OPENED = "const request = indexedDB.open('savings-bond-calculator', 1); request.onupgradeneeded = () => request.result.createObjectStore('kept'); await new Promise((resolve) => { request.onsuccess = resolve; }); const database = request.result;"
+RECORD = f"{OPENED} const got = database.transaction('kept').objectStore('kept').get('inventory'); await new Promise((resolve) => {{ got.onsuccess = resolve; }}); database.close(); return got.result ?? null;"
+PUT = f"{OPENED} const act = database.transaction('kept', 'readwrite'); act.objectStore('kept').put(given[0], 'inventory'); await new Promise((resolve) => {{ act.oncomplete = resolve; }}); database.close();"
 
 
 def variants(**changes: Change | Changes) -> pytest.MarkDecorator:
@@ -94,14 +100,13 @@ class Calculator(Browser):
         self.sites: list[Site] = []
 
     def begins(self, folder: Path) -> None:
-        """A test begins."""
         self.folder, self.patience = folder, 60.0
         self.downloads = folder / "downloads"
         self.downloads.mkdir()
         self.engine.downloads(self.downloads)
 
     def ends(self) -> None:
-        """A test ends: one tab is left."""
+        """One tab is left."""
         first, *others = self.driver.window_handles
         self.driver.switch_to.window(first)
         for tab in others:
@@ -130,6 +135,12 @@ class Calculator(Browser):
     def ready(self) -> None:
         script = "return document.documentElement.dataset.ready !== undefined"
         self.until(lambda: self.run(script), "the page starts")
+
+    @contextlib.contextmanager
+    def serving(self, changes: Changes) -> Iterator[None]:
+        self.serve(changes)
+        with self.holds_not(changes):
+            yield
 
     @contextlib.contextmanager
     def holds_not(self, changes: Changes) -> Iterator[None]:
@@ -237,14 +248,55 @@ class Calculator(Browser):
         path = self.downloads / name
         path.unlink(missing_ok=True)
         self.click(press)
-        parts = ("*.part", "*.crdownload")
-        self.until(
-            lambda: path.exists()
-            and path.stat().st_size > 0
-            and not any(list(self.downloads.glob(part)) for part in parts),
-            f"{name} is saved",
-        )
+
+        def is_whole() -> bool:
+            parts = [*self.downloads.glob("*.part"), *self.downloads.glob("*.crdownload")]
+            return path.exists() and path.stat().st_size > 0 and parts == []
+
+        self.until(is_whole, f"{name} is saved")
         return path.read_bytes().decode()
+
+    # ---- what the browser keeps
+
+    def record(self) -> dict[str, Any] | None:
+        found: dict[str, Any] | None = self.run_module(RECORD)
+        return found
+
+    def put(self, record: object) -> None:
+        self.run_module(PUT, record)
+
+    def inventory(self) -> str:
+        found = self.record()
+        assert found is not None
+        return str(found["inventory"])
+
+    def kept_serials(self) -> list[str]:
+        """The bonds that the browser keeps."""
+        return [line.split(",")[0] for line in self.inventory().splitlines()[1:]]
+
+    def is_ticked(self) -> bool:
+        return bool(self.run("return document.querySelector('#keep').checked"))
+
+    def tick(self) -> None:
+        """Ticks the box, and waits until the page says that all is kept."""
+        self.click("#keep")
+        self.is_written()
+
+    def is_said(self) -> bool:
+        """Whether the page says that it keeps the bonds."""
+        return self.texts("#keep-state")[0].startswith("Kept")
+
+    def is_written(self) -> None:
+        self.until(self.is_said, "the inventory is kept")
+
+    def adds(self, *serials: str) -> None:
+        lines = ["serial,denom,issued,owner,coowner", *(f"{one},50,2010-05,7," for one in serials)]
+        self.open_inventory("\n".join([*lines, ""]).encode())
+
+    def keeps_nothing(self) -> None:
+        self.click("#keep")
+        self.is_told("Nothing is kept any more")
+        assert self.record() is None
 
 
 def line_of(cells: list[str]) -> str:

@@ -105,7 +105,7 @@ def calculators(
 
 
 @pytest.fixture
-def calculator(
+def calc(
     calculators: Callable[[str], Calculator], browser: str, folder: Path
 ) -> Iterator[Calculator]:
     """A browser for the calculator's page. Each page that a test serves has an address, and so a storage, of its own."""

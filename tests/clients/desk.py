@@ -19,18 +19,14 @@ import pytest
 import ee_counter_client as client
 from ee_counter_client.testing import FakeCounter, Gate
 from tests.conftest import TOP
-from tests.fence.site import free_port
+from tests.shared.counter_calls import free_port
 
 DAY = "2012-02-06"
 #: What a server does with a connection.
 Serving = Callable[[socket.socket], None]
 #: The environment of a program that uses the client's sources.
-OWN = {
-    **os.environ,
-    "PYTHONPATH": f"{TOP / 'clients/python/src'}:{TOP}",
-    "PYTHONDONTWRITEBYTECODE": "1",
-    "COLUMNS": "200",
-}
+OWN = {**os.environ, "PYTHONPATH": f"{TOP / 'clients/python/src'}:{TOP}"}
+OWN |= {"PYTHONDONTWRITEBYTECODE": "1", "COLUMNS": "200"}
 logging.getLogger("ee_counter_client").addHandler(logging.NullHandler())
 
 

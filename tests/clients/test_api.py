@@ -53,9 +53,6 @@ def spelled(fields: dict[str, Any]) -> dict[str, Any]:
     return {**fields, **more}
 
 
-# ---- the description
-
-
 def fits(api: Api, schema: dict[str, Any], value: object) -> None:
     whole = {"allOf": [schema], "components": api["components"]}
     faults = list(jsonschema.Draft202012Validator(whole).iter_errors(value))
@@ -119,16 +116,12 @@ def wanted_of(example: Example) -> tuple[str, int | None, str | None]:
     return kind, value["code"], value[kind]
 
 
-# ---- the Python client
-
-
 def python_sends(desk: Desk, api: Api) -> None:
     """Each of its calls sends a message of the description, and it has each path."""
     desk.journal.unlink(missing_ok=True)
     with desk.counter(desk=999) as counter:
-        counter.add_rates(
-            [client.Rates("11/2010", "3.5", "4"), {"from": "2010-05", "rate": "3.50%"}]
-        )
+        rates = client.Rates("11/2010", "3.5", "4")
+        counter.add_rates([rates, {"from": "2010-05", "rate": "3.50%"}])
         bonds = [client.Bond("L-5-EE", 50, "2010-11", 7)]
         bonds += [client.Bond("A9999999999EE", 10000, "10/2010", 999_999_999, 8)]
         counter.add_bonds(bonds, even_so=True)
@@ -151,12 +144,8 @@ def python_sends(desk: Desk, api: Api) -> None:
 
 def python_reads(desk: Desk, api: Api) -> None:
     """Each example is read as what it is."""
-    readers: dict[str, Callable[[str], object]] = {
-        "inventory": sheets.sheet_in,
-        "ticket": answers.ticket_in,
-        "batch": answers.batch_in,
-        "value": answers.row_in,
-    }
+    readers: dict[str, Callable[[str], object]] = {"inventory": sheets.sheet_in}
+    readers |= {"ticket": answers.ticket_in, "batch": answers.batch_in, "value": answers.row_in}
     found = list(examples_of(api))
     assert len(found) > 50
     for one in found:
@@ -183,19 +172,14 @@ def python_refusals(desk: Desk, api: Api) -> None:
         properties.pop("refused")
         codes.add(code)
         kind = errors.REFUSALS[code]
-        types = {
-            key: int if "integer" in json.dumps(resolved(api, part)) else str
-            for key, part in properties.items()
-        }
+        texts = {key: json.dumps(resolved(api, part)) for key, part in properties.items()}
+        types = {key: int if "integer" in text else str for key, text in texts.items()}
         assert (kind.__name__, dict(kind.keys)) == (name, types)
-        texts = {"month": "2010-06", "serial": "L1EE"}
-        named = {key: 7 if form is int else texts[key] for key, form in types.items()}
+        words = {"month": "2010-06", "serial": "L1EE"}
+        named = {key: 7 if form is int else words[key] for key, form in types.items()}
         value = dict(sorted({"code": code, "refused": name, **named}.items()))
         assert type(errors.refusal_of(value)) is kind and errors.is_known_shape(value)
     assert codes == set(errors.REFUSALS)
-
-
-# ---- the page
 
 
 def page_does(desk: Desk, api: Api) -> None:
@@ -211,15 +195,12 @@ def page_does(desk: Desk, api: Api) -> None:
         "/inventory/{customer}/{month}": [7, "2012-02"],
         "/value/{denom}/{issued}/{month}": [50, "2010-11", "2012-02"],
     }
-    calls = [
-        {
-            "path": path,
-            "fields": one.fields,
-            "parts": parts.get(path),
-            "answer": {"status": 200, "text": one.text},
-        }
-        for path, one in first.items()
-    ]
+    calls = []
+    for path, one in first.items():
+        answer = {"status": 200, "text": one.text}
+        calls.append(
+            {"path": path, "fields": one.fields, "parts": parts.get(path), "answer": answer}
+        )
     modules = desk.place / "teller"
     shutil.copytree(TOP / "clients/teller", modules, dirs_exist_ok=True)
     (modules / "package.json").write_text('{"type":"module"}')
@@ -238,14 +219,9 @@ def page_does(desk: Desk, api: Api) -> None:
             others = ("none", "refused", "fault", "unserved", "forbidden")
             assert answer["kind"] not in others, one
         else:
-            assert (answer["kind"], answer.get("code"), answer.get("name")) == (
-                kind,
-                code,
-                name,
-            ), one
+            named = (answer["kind"], answer.get("code"), answer.get("name"))
+            assert named == (kind, code, name), one
 
-
-# ---- the tests, and a description that is changed by one thing
 
 needs_node = pytest.mark.needs("node")
 CHECKS = [python_sends, python_reads, python_refusals, pytest.param(page_does, marks=needs_node)]
@@ -260,7 +236,8 @@ def schema(api: Api, name: str) -> Any:
     return api["components"]["schemas"][name]
 
 
-def renamed(part: dict[str, Any], old: str, new: str) -> None:
+def renamed(api: Api, name: str, old: str, new: str) -> None:
+    part = schema(api, name)
     part["properties"][new] = part["properties"].pop(old)
     part["required"] = [new if name == old else name for name in part["required"]]
 
@@ -272,57 +249,28 @@ def with_key(api: Api, status: str, key: str) -> None:
     next(iter(examples.values()))["value"][key] = 5
 
 
-WRONG: dict[str, tuple[Callable[[Api], object], list[Any]]] = {
-    "a field with another name": (
-        lambda api: renamed(schema(api, "Redemption"), "payee", "customer"),
-        [python_sends, page_does],
-    ),
-    "a field more": (
-        lambda api: schema(api, "DayRequest")["required"].append("teller"),
-        [python_sends, page_does],
-    ),
-    "a path with another name": (
-        lambda api: api["paths"].update({"/pay": api["paths"].pop("/redeem")}),
-        [python_sends],
-    ),
-    "a path more": (
-        lambda api: api["paths"].update({"/tickets": api["paths"]["/day/open"]}),
-        [python_sends],
-    ),
-    "least desk 1000": (
-        lambda api: schema(api, "Desk").update({"minimum": 1000, "maximum": 2000}),
-        [python_sends, page_does],
-    ),
-    "a ticket with a key more": (
-        lambda api: with_key(api, "200", "teller"),
-        [python_reads, page_does],
-    ),
-    "a refusal with a key more": (
-        lambda api: with_key(api, "409", "zone"),
-        [python_reads, page_does],
-    ),
-    "a refusal that names an age": (
-        lambda api: renamed(schema(api, "RateUnsettled"), "month", "age"),
-        [python_refusals],
-    ),
-    "a refusal with another code": (
-        lambda api: schema(api, "DayFull")["properties"]["code"].update({"const": 45}),
-        [python_refusals],
-    ),
+CODE: Any = {"code": {"const": 45}}
+SENDS: list[Any] = [python_sends, page_does]
+READS: list[Any] = [python_reads, page_does]
+WRONG: dict[str, tuple[list[Any], Callable[[Api], object]]] = {
+    "a field with another name": (SENDS, lambda a: renamed(a, "Redemption", "payee", "customer")),
+    "a field more": (SENDS, lambda a: schema(a, "DayRequest")["required"].append("teller")),
+    "another path": (SENDS[:1], lambda a: a["paths"].update({"/pay": a["paths"].pop("/redeem")})),
+    "a path more": (SENDS[:1], lambda a: a["paths"].update({"/new": a["paths"]["/day/open"]})),
+    "least desk 1000": (SENDS, lambda a: schema(a, "Desk").update(minimum=1000, maximum=2000)),
+    "a ticket with a key more": (READS, lambda a: with_key(a, "200", "teller")),
+    "a refusal with a key more": (READS, lambda a: with_key(a, "409", "zone")),
+    "an age": ([python_refusals], lambda a: renamed(a, "RateUnsettled", "month", "age")),
+    "another code": ([python_refusals], lambda a: schema(a, "DayFull")["properties"].update(CODE)),
 }
+CASES = [(what, check) for what, (checks, _) in WRONG.items() for check in checks]
 
 
-@pytest.mark.parametrize(
-    "what, check",
-    [
-        pytest.param(what, check, marks=[needs_node] if check is page_does else [])
-        for what, (_, checks) in WRONG.items()
-        for check in checks
-    ],
-)
+@needs_node
+@pytest.mark.parametrize("what, check", CASES)
 def test_changed_description(desk: Desk, what: str, check: Callable[[Desk, Api], None]) -> None:
     """Control: a description that is changed by one thing is found."""
     other = copy.deepcopy(API)
-    WRONG[what][0](other)
+    WRONG[what][1](other)
     with pytest.raises((AssertionError, KeyError)):
         check(desk, other)

@@ -4,52 +4,32 @@ from __future__ import annotations
 
 import asyncio
 import contextlib
+import functools
 import inspect
-import os
 import random
 import socket
-import subprocess
 import time
-from pathlib import Path
-from typing import Any, AsyncIterator, Awaitable, Iterator
+from typing import Any, AsyncIterator, Awaitable, Callable
 from unittest import mock
 
 import pytest
 
 import ee_counter_client as client
-from ee_counter_client.testing import FakeCounter, Gate
-from tests.conftest import TOP
+from tests.clients.desk import DAY, Desk
 
-DAY = "2012-02-06"
 BONDS = [f"L{number}EE" for number in range(1, 41)]
 
 
-class Bank:
-    """A fake counter with an open day and bonds of 50 dollars of customer 7, a gate before it, and a journal."""
-
-    def __init__(self, folder: Path, fake: FakeCounter, gate: Gate) -> None:
-        self.journal, self.fake, self.gate = folder / "a.journal", fake, gate
-        fake.answered("POST", "/day/open", b'{"number":1,"day":"2012-02-06"}')
-        for serial in BONDS:
-            bond = {"serial": serial, "denom": 50, "issued": "2010-11", "owner": 7}
-            fake.bonds[serial] = bond
-
-    def counter(self, **options: Any) -> client.AsyncCounter:
-        return client.AsyncCounter(self.journal, self.gate.address, desk=3, **options)
-
-    def is_free(self) -> bool:
-        """Whether the journal was given back."""
-        try:
-            client.Counter(self.journal, self.gate.address).close()
-        except client.JournalInUse:
-            return False
-        return True
+def counter_at(desk: Desk, **options: Any) -> client.AsyncCounter:
+    return client.AsyncCounter(desk.journal, desk.gate.address, desk=3, **options)
 
 
-@pytest.fixture
-def bank(folder: Path) -> Iterator[Bank]:
-    with FakeCounter() as fake, Gate(fake) as gate:
-        yield Bank(folder, fake, gate)
+def in_a_loop(test: Callable[..., Awaitable[None]]) -> Callable[..., None]:
+    @functools.wraps(test)
+    def run(*words: Any, **named: Any) -> None:
+        asyncio.run(test(*words, **named))  # type: ignore[arg-type]
+
+    return run
 
 
 @contextlib.asynccontextmanager
@@ -82,9 +62,9 @@ async def ended(call: Awaitable[object], kind: type[BaseException], within: floa
     assert time.monotonic() - begun < within
 
 
-def test_calls_and_errors_are_those_of_a_counter(bank: Bank) -> None:
+def test_calls_and_errors_are_those_of_a_counter(desk: Desk) -> None:
     async def run() -> None:
-        async with bank.counter() as counter:
+        async with counter_at(desk) as counter:
             ticket = await counter.redeem(DAY, 7, ["L1EE", "L2EE"], key="invoice 1")
             assert (ticket.number, str(ticket.total)) == (1, "50.00")
             assert await counter.redeem(DAY, 7, ["L1EE", "L2EE"], key="invoice 1") == ticket
@@ -103,7 +83,7 @@ def test_calls_and_errors_are_those_of_a_counter(bank: Bank) -> None:
         await counter.close()
 
     asyncio.run(run())
-    with client.Counter(bank.journal, bank.gate.address) as counter:
+    with client.Counter(desk.journal, desk.gate.address) as counter:
         assert counter.find("invoice 1") is not None
 
 
@@ -120,48 +100,42 @@ def test_it_has_the_calls_of_a_counter() -> None:
             assert inspect.iscoroutinefunction(found) or name == "find"
 
 
-def test_leaving_does_not_hold_the_loop(bank: Bank) -> None:
+@in_a_loop
+async def test_leaving_does_not_hold_the_loop(desk: Desk) -> None:
     """A call that gets no answer has a limit as the counter is closed, and other tasks go on."""
-
-    async def run() -> None:
-        async with ticking(0.5):
-            async with bank.counter() as counter:
-                await counter.ticket(1)
-                bank.gate.faults = ["silent"]
-                call = asyncio.create_task(counter.redeem(DAY, 7, ["L1EE"], key="invoice 1"))
-                await asyncio.sleep(0.2)
-                await counter.close(0.3)
-                await ended(call, client.NoReply)
-        assert bank.is_free()
-
-    asyncio.run(run())
-
-
-def test_leaving_a_counter_holds_the_loop(bank: Bank) -> None:
-    """Control: a Counter that is closed in the loop holds it for as long as its call lasts."""
-
-    async def run() -> None:
-        with client.Counter(bank.journal, bank.gate.address, desk=3, timeout=1.5) as counter:
-            counter.ticket(1)
-            bank.gate.faults = ["silent"] * 9
-            call = asyncio.create_task(asyncio.to_thread(counter.redeem, DAY, 7, ["L1EE"]))
+    async with ticking(0.5):
+        async with counter_at(desk) as counter:
+            await counter.ticket(1)
+            desk.gate.faults = ["silent"]
+            call = asyncio.create_task(counter.redeem(DAY, 7, ["L1EE"], key="invoice 1"))
             await asyncio.sleep(0.2)
-            with pytest.raises(AssertionError, match="the loop was held"):
-                async with ticking(0.5):
-                    counter.close()
+            await counter.close(0.3)
             await ended(call, client.NoReply)
+    desk.counter().close()  # the journal was given back
 
-    asyncio.run(run())
+
+@in_a_loop
+async def test_leaving_a_counter_holds_the_loop(desk: Desk) -> None:
+    """Control: a Counter that is closed in the loop holds it for as long as its call lasts."""
+    with client.Counter(desk.journal, desk.gate.address, desk=3, timeout=1.5) as counter:
+        counter.ticket(1)
+        desk.gate.faults = ["silent"] * 9
+        call = asyncio.create_task(asyncio.to_thread(counter.redeem, DAY, 7, ["L1EE"]))
+        await asyncio.sleep(0.2)
+        with pytest.raises(AssertionError, match="the loop was held"):
+            async with ticking(0.5):
+                counter.close()
+        await ended(call, client.NoReply)
 
 
 @pytest.mark.parametrize("timeout", [0.2, 0.0])
-def test_a_counter_is_closed_within_a_time(bank: Bank, timeout: float) -> None:
+def test_a_counter_is_closed_within_a_time(desk: Desk, timeout: float) -> None:
     """The call of another thread is stopped, and its request stays open."""
 
     async def run() -> None:
-        counter = client.Counter(bank.journal, bank.gate.address, desk=3)
+        counter = client.Counter(desk.journal, desk.gate.address, desk=3)
         counter.ticket(1)
-        bank.gate.faults = ["silent"]
+        desk.gate.faults = ["silent"]
         call = asyncio.create_task(asyncio.to_thread(counter.redeem, DAY, 7, ["L1EE"]))
         await asyncio.sleep(0.2)
         begun = time.monotonic()
@@ -170,59 +144,50 @@ def test_a_counter_is_closed_within_a_time(bank: Bank, timeout: float) -> None:
         await ended(call, client.NoReply)
 
     asyncio.run(run())
-    with client.Counter(bank.journal, bank.gate.address) as counter:
+    with client.Counter(desk.journal, desk.gate.address) as counter:
         assert counter.open_request is not None
         ticket = counter.finish()
         assert isinstance(ticket, client.Ticket) and ticket.number == 1
-    assert len(bank.fake.tickets) == 1
+    assert len(desk.fake.tickets) == 1
 
 
-def test_a_cancelled_call_is_stopped(bank: Bank) -> None:
+@in_a_loop
+async def test_a_cancelled_call_is_stopped(desk: Desk) -> None:
     """wait_for ends at its time. The request is open, and the same call gets its one ticket."""
-
-    async def run() -> None:
-        async with ticking(0.5), bank.counter() as counter:
-            await counter.ticket(1)
-            bank.gate.faults = ["silent"]
-            call = counter.redeem(DAY, 7, ["L1EE"], key="invoice 1")
-            await ended(asyncio.wait_for(call, 0.3), asyncio.TimeoutError)
-            assert counter.open_request is not None
-            ticket = await counter.redeem(DAY, 7, ["L1EE"], key="invoice 1")
-            assert ticket.request is not None
-            assert (ticket.number, ticket.request.sent) == (1, 2)
-        assert len(bank.fake.tickets) == 1
-
-    asyncio.run(run())
+    async with ticking(0.5), counter_at(desk) as counter:
+        await counter.ticket(1)
+        desk.gate.faults = ["silent"]
+        call = counter.redeem(DAY, 7, ["L1EE"], key="invoice 1")
+        await ended(asyncio.wait_for(call, 0.3), asyncio.TimeoutError)
+        assert counter.open_request is not None
+        ticket = await counter.redeem(DAY, 7, ["L1EE"], key="invoice 1")
+        assert ticket.request is not None
+        assert (ticket.number, ticket.request.sent) == (1, 2)
+    assert len(desk.fake.tickets) == 1
 
 
-def test_a_pause_is_cancelled(bank: Bank) -> None:
+@in_a_loop
+async def test_a_pause_is_cancelled(desk: Desk) -> None:
     """Nothing listens: the call waits between two attempts."""
-
-    async def run() -> None:
-        with socket.create_server(("127.0.0.1", 0)) as gone:
-            address = f"http://127.0.0.1:{gone.getsockname()[1]}"
-        async with client.AsyncCounter(bank.journal, address, desk=3) as counter:
-            await ended(asyncio.wait_for(counter.ticket(1), 1), asyncio.TimeoutError, 3)
-
-    asyncio.run(run())
+    with socket.create_server(("127.0.0.1", 0)) as gone:
+        address = f"http://127.0.0.1:{gone.getsockname()[1]}"
+    async with client.AsyncCounter(desk.journal, address, desk=3) as counter:
+        await ended(asyncio.wait_for(counter.ticket(1), 1), asyncio.TimeoutError, 3)
 
 
-def test_a_waiting_call_is_cancelled(bank: Bank) -> None:
+@in_a_loop
+async def test_a_waiting_call_is_cancelled(desk: Desk) -> None:
     """A call that waits for another one isn't made."""
-
-    async def run() -> None:
-        async with bank.counter() as counter:
-            await counter.ticket(1)
-            bank.gate.faults = ["silent"]
-            first = asyncio.create_task(counter.redeem(DAY, 7, ["L1EE"], key="invoice 1"))
-            await asyncio.sleep(0.2)
-            second = counter.redeem(DAY, 7, ["L2EE"], key="invoice 2")
-            await ended(asyncio.wait_for(second, 0.2), asyncio.TimeoutError)
-            first.cancel()
-            await ended(first, asyncio.CancelledError)
-            assert len(bank.gate.bodies) == 1
-
-    asyncio.run(run())
+    async with counter_at(desk) as counter:
+        await counter.ticket(1)
+        desk.gate.faults = ["silent"]
+        first = asyncio.create_task(counter.redeem(DAY, 7, ["L1EE"], key="invoice 1"))
+        await asyncio.sleep(0.2)
+        second = counter.redeem(DAY, 7, ["L2EE"], key="invoice 2")
+        await ended(asyncio.wait_for(second, 0.2), asyncio.TimeoutError)
+        first.cancel()
+        await ended(first, asyncio.CancelledError)
+        assert len(desk.gate.bodies) == 1
 
 
 def slow_resolver(*words: object, **named: object) -> object:
@@ -233,36 +198,34 @@ def slow_resolver(*words: object, **named: object) -> object:
 
 
 @pytest.mark.parametrize("what", ["connecting", "a handshake", "the resolver"])
-def test_each_wait_of_the_network_is_stopped(bank: Bank, what: str) -> None:
-    async def run() -> None:
-        with contextlib.ExitStack() as stack:
-            server = stack.enter_context(socket.create_server(("127.0.0.1", 0), backlog=0))
-            port = server.getsockname()[1]
-            scheme, host = "http", "127.0.0.1"
-            if what == "connecting":  # the backlog is full
-                for _ in range(4):
-                    other = stack.enter_context(socket.socket())
-                    other.setblocking(False)
-                    other.connect_ex(("127.0.0.1", port))
-            elif what == "a handshake":
-                scheme = "https"
-            else:
-                host = "counter.bank.example"
-                stack.enter_context(mock.patch("socket.getaddrinfo", slow_resolver))
-            address = f"{scheme}://{host}:{port}"
-            async with client.AsyncCounter(bank.journal, address, desk=3) as counter:
-                await ended(asyncio.wait_for(counter.ticket(1), 0.5), asyncio.TimeoutError)
-
-    asyncio.run(run())
+@in_a_loop
+async def test_each_wait_of_the_network_is_stopped(desk: Desk, what: str) -> None:
+    with contextlib.ExitStack() as stack:
+        server = stack.enter_context(socket.create_server(("127.0.0.1", 0), backlog=0))
+        port = server.getsockname()[1]
+        scheme, host = "http", "127.0.0.1"
+        if what == "connecting":  # the backlog is full
+            for _ in range(4):
+                other = stack.enter_context(socket.socket())
+                other.setblocking(False)
+                other.connect_ex(("127.0.0.1", port))
+        elif what == "a handshake":
+            scheme = "https"
+        else:
+            host = "counter.desk.example"
+            stack.enter_context(mock.patch("socket.getaddrinfo", slow_resolver))
+        address = f"{scheme}://{host}:{port}"
+        async with client.AsyncCounter(desk.journal, address, desk=3) as counter:
+            await ended(asyncio.wait_for(counter.ticket(1), 0.5), asyncio.TimeoutError)
 
 
-def test_a_call_that_is_not_woken_goes_on(bank: Bank) -> None:
+def test_a_call_that_is_not_woken_goes_on(desk: Desk) -> None:
     """Control: if nothing wakes the socket, a cancelled call holds its desk for the time of a sending."""
 
     async def run() -> None:
-        async with bank.counter(time_limit=4) as counter:
+        async with counter_at(desk, time_limit=4) as counter:
             await counter.ticket(1)
-            bank.gate.faults = ["silent"]
+            desk.gate.faults = ["silent"]
             call = counter.redeem(DAY, 7, ["L1EE"])
             with pytest.raises(AssertionError):
                 await ended(asyncio.wait_for(call, 0.3), asyncio.TimeoutError)
@@ -271,26 +234,23 @@ def test_a_call_that_is_not_woken_goes_on(bank: Bank) -> None:
         asyncio.run(run())
 
 
-def test_an_error_stops_what_is_under_way(bank: Bank) -> None:
+@in_a_loop
+async def test_an_error_stops_what_is_under_way(desk: Desk) -> None:
     """Leaving after an error doesn't wait for the call of another task."""
-
-    async def run() -> None:
-        call = None
-        begun = time.monotonic()
-        with pytest.raises(ZeroDivisionError):
-            async with bank.counter() as counter:
-                await counter.ticket(1)
-                bank.gate.faults = ["silent"]
-                call = asyncio.create_task(counter.redeem(DAY, 7, ["L1EE"]))
-                await asyncio.sleep(0.2)
-                1 / 0
-        assert time.monotonic() - begun < 2 and call is not None
-        await ended(call, client.NoReply)
-
-    asyncio.run(run())
+    call = None
+    begun = time.monotonic()
+    with pytest.raises(ZeroDivisionError):
+        async with counter_at(desk) as counter:
+            await counter.ticket(1)
+            desk.gate.faults = ["silent"]
+            call = asyncio.create_task(counter.redeem(DAY, 7, ["L1EE"]))
+            await asyncio.sleep(0.2)
+            1 / 0
+    assert time.monotonic() - begun < 2 and call is not None
+    await ended(call, client.NoReply)
 
 
-async def pay_all(bank: Bank, dice: random.Random) -> int:
+async def pay_all(desk: Desk, dice: random.Random) -> int:
     """Pays each bond under its key, by tasks that are cancelled at any moment and begin again. Returns the cancellations."""
     cancelled = 0
 
@@ -303,43 +263,20 @@ async def pay_all(bank: Bank, dice: random.Random) -> int:
             except asyncio.TimeoutError:
                 cancelled += 1
 
-    async with bank.counter() as counter:
+    async with counter_at(desk) as counter:
         tickets = await asyncio.gather(*(pay(counter, serial) for serial in BONDS))
     assert sorted(ticket.number for ticket in tickets) == list(range(1, len(BONDS) + 1))
     assert sorted(ticket.lines[0].serial for ticket in tickets) == sorted(BONDS)
     return cancelled
 
 
-def test_cancelled_jobs_pay_once(bank: Bank, dice: random.Random) -> None:
+def test_cancelled_jobs_pay_once(desk: Desk, dice: random.Random) -> None:
+    desk.has(*BONDS)
     faults = ["lost request", "lost answer", "cut answer", "failed after", "too many"]
-    bank.gate.faults = dice.choices(faults, k=40)
+    desk.gate.faults = dice.choices(faults, k=40)
     with mock.patch("ee_counter_client.lookups.PAUSES", (0.02,)):
-        cancelled = asyncio.run(pay_all(bank, dice))
+        cancelled = asyncio.run(pay_all(desk, dice))
     assert cancelled > 10
-    assert len(bank.fake.tickets) == len(BONDS)
-    paid = [line["serial"] for ticket in bank.fake.tickets for line in ticket["lines"]]
+    assert len(desk.fake.tickets) == len(BONDS)
+    paid = [line["serial"] for ticket in desk.fake.tickets for line in ticket["lines"]]
     assert sorted(paid) == sorted(BONDS)
-
-
-PROGRAM = """
-from ee_counter_client import AsyncCounter, Ticket
-
-async def pay(counter: AsyncCounter) -> Ticket:
-    await counter.redeem("2012-02-06", "seven", ["L1EE"])  # wrong
-    number: str = (await counter.redeem("2012-02-06", 7, ["L1EE"])).number  # wrong
-    await counter.redeem("2012-02-06", 7, ["L1EE"], keys="invoice 1")  # wrong
-    return await counter.redeem("2012-02-06", 7, ["L1EE"], key="invoice 1", bookmark=[1])
-"""
-
-
-@pytest.mark.needs("mypy")
-def test_types(folder: Path) -> None:
-    """mypy knows each call's arguments and result."""
-    program = folder / "program.py"
-    program.write_text(PROGRAM)
-    words = ["mypy", "--strict", "--config-file=", "--cache-dir", str(folder / "cache")]
-    paths = {**os.environ, "MYPYPATH": str(TOP / "clients/python/src")}
-    done = subprocess.run([*words, str(program)], env=paths, capture_output=True, text=True)
-    wrong = [n for n, line in enumerate(PROGRAM.splitlines(), 1) if "# wrong" in line]
-    assert [f"program.py:{n}: error" in done.stdout for n in wrong] == [True] * 3, done.stdout
-    assert "Found 3 errors" in done.stdout

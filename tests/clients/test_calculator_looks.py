@@ -13,20 +13,15 @@ import pytest
 from selenium.webdriver.common.keys import Keys
 
 from tests.browser.engines import Chromium, said
-from tests.clients.calculator import SIZE, Calculator, Changes, script, variants
+from tests.clients.calculator import NEEDS, SIZE, Calculator, Changes, script, variants
 from tests.clients.calculator_data import INVENTORY, KNOWN, inventory_file, random_bonds
 from tests.clients.test_calculator_uses import put
 
-pytestmark = [
-    pytest.mark.browser,
-    pytest.mark.needs("module:selenium", "file:clients/calculator/out/calculator.js"),
-]
+pytestmark = NEEDS
 BONDS = """C1204415EE,100,2006-03,7, C1204416EE,100,2006-03,7, K20488EE,75,2010-10,7,8
 L77031EE,50,2010-11,7, L77032EE,50,2010-11,7,8 D9910EE,500,2005-05,7, D9911EE,500,2007-12,7,
 M801EE,1000,2011-08,7, R802EE,200,2011-11,7, V4400127EE,5000,2009-06,7, X300519EE,10000,2011-02,7,"""
 FILE = INVENTORY + "".join(f"{line}\n" for line in BONDS.split()).encode()
-
-# ---- what fits
 
 OVER = """
     const wide = [...document.querySelectorAll("body *")].filter((one) => one.checkVisibility() && one.getBoundingClientRect().right > innerWidth + 1 && one.closest(".skip") === null);
@@ -60,63 +55,55 @@ LONG = "Serial\tDenom\tIssued\tOwner\tCoowner\nW9999999999EE\t10000\tSeptember 2
 SHORT = "W9999999999EE\t10000\tSeptember 2010\nC1EE\t50\t5/2010\n"
 
 
-def fits(page: Calculator) -> None:
+def fits(calc: Calculator) -> None:
     """Nothing goes over the edge, no cell is cut, no word and no sum is broken."""
-    assert page.run(BROKEN) == []
-    assert page.run(OVER) == [False, []]
-    assert page.run(CUT) == []
+    assert calc.run(BROKEN) == []
+    assert calc.run(OVER) == [False, []]
+    assert calc.run(CUT) == []
 
 
-def widest(page: Calculator) -> None:
+def widest(calc: Calculator) -> None:
     """Bonds with the longest texts that a row can have: 1522468.00 at 20 %, and a serial number of 13 characters."""
-    page.remove_all()
-    page.open_rates(b"from,rate\n2005-05,20.00\n")
-    page.open_inventory(
-        INVENTORY + b"W9999999999EE,10000,2005-05,7,8\nM8888888888EE,10000,2005-06,7,\n"
-    )
-    page.choose_month("2035-05")
+    calc.remove_all()
+    calc.open_rates(b"from,rate\n2005-05,20.00\n")
+    longest = b"W9999999999EE,10000,2005-05,7,8\nM8888888888EE,10000,2005-06,7,\n"
+    calc.open_inventory(INVENTORY + longest)
+    calc.choose_month("2035-05")
 
 
 WIDE = ("style.css", "max-width: 84rem;", "min-width: 30rem;")
 CARDS = (
-    (
-        "style.css",
-        "repeat(auto-fill, minmax(7.6rem, 1fr))",
-        "repeat(auto-fill, minmax(1.8rem, 1fr))",
-    ),
+    ("style.css", "auto-fill, minmax(7.6rem, 1fr)", "auto-fill, minmax(1.8rem, 1fr)"),
     ("style.css", "  min-width: 0;\n", "  min-width: 0;\n  overflow-wrap: anywhere;\n"),
 )
 
 
 @variants(thirty_letters_wide=WIDE, cards_that_break_words=CARDS)
-def test_narrow(calculator: Calculator, changes: Changes) -> None:
+def test_narrow(calc: Calculator, changes: Changes) -> None:
     """At 320 pixels, at 200 % zoom of 1280, and with letters of twice the size; long faults and the longest rows too."""
-    page = calculator
-    page.serve(changes)
-    page.open_inventory(FILE)
-    page.choose_month("2012-02")
-    with page.holds_not(changes):
+    calc.serve(changes)
+    calc.open_inventory(FILE)
+    calc.choose_month("2012-02")
+    with calc.holds_not(changes):
         for width in (320, 360, 640):
-            page.resize(width, 800)
-            page.run(DETAILS)
+            calc.resize(width, 800)
+            calc.run(DETAILS)
             for text in (LONG, SHORT):
-                put(page, text)
-                fits(page)
-            put(page, "")
-            assert page.run(SMALL) == [] and page.run(VALUE_FIRST)
-            page.open_inventory(INVENTORY + b"x" * 200 + b",50,2010-05,7,\n")
-            fits(page)
-        widest(page)
+                put(calc, text)
+                fits(calc)
+            put(calc, "")
+            assert calc.run(SMALL) == [] and calc.run(VALUE_FIRST)
+            calc.open_inventory(INVENTORY + b"x" * 200 + b",50,2010-05,7,\n")
+            fits(calc)
+        widest(calc)
         for width in (320, 480, 700, 1000, 1060, 1110, 1280):
-            page.resize(width, 900)
+            calc.resize(width, 900)
             for column in ("series", "denom", "value"):
-                page.click(f"#table [data-column='{column}']")
-                fits(page)
-        page.run("document.documentElement.style.fontSize = '200%'")
-        fits(page)
+                calc.click(f"#table [data-column='{column}']")
+                fits(calc)
+        calc.run("document.documentElement.style.fontSize = '200%'")
+        fits(calc)
 
-
-# ---- a bond's dialog
 
 PARTS = "dialog[open], dialog h2, dialog h3, dialog dt, dialog table, dialog th, dialog svg, dialog button"
 #: Of bond L77031EE in February 2012, with the chart's table open: what a screen reader is given, by role and name.
@@ -141,22 +128,22 @@ OUTSIDE = """
 CHARTED = "return document.querySelector('#bond-figure svg') !== null"
 
 
-def whole_dialog(page: Calculator, serial: str) -> None:
+def whole_dialog(calc: Calculator, serial: str) -> None:
     """It opens at its title, and nothing is cut or broken; Tab reaches what it has, and shows it."""
-    page.open_bond(serial)
-    page.until(lambda: page.run(CHARTED), "the chart")
-    assert page.run("return document.querySelector('#bond').scrollTop") == 0
-    assert page.has_keyboard("#bond-title")
-    fits(page)
-    page.run("document.querySelector('#bond details').open = true")
-    fits(page)
+    calc.open_bond(serial)
+    calc.until(lambda: calc.run(CHARTED), "the chart")
+    assert calc.run("return document.querySelector('#bond').scrollTop") == 0
+    assert calc.has_keyboard("#bond-title")
+    fits(calc)
+    calc.run("document.querySelector('#bond details').open = true")
+    fits(calc)
     for _ in range(3):
-        page.keys(Keys.TAB)
-        assert not page.run(OUTSIDE)
-    assert page.has_keyboard("#bond-remove")
-    page.keys(Keys.ESCAPE)
+        calc.keys(Keys.TAB)
+        assert not calc.run(OUTSIDE)
+    assert calc.has_keyboard("#bond-remove")
+    calc.keys(Keys.ESCAPE)
     focused = "return document.activeElement.textContent"
-    page.until(lambda: page.run(focused) == serial, "Escape gives the keyboard back")
+    calc.until(lambda: calc.run(focused) == serial, "Escape gives the keyboard back")
 
 
 @variants(
@@ -167,37 +154,32 @@ def whole_dialog(page: Calculator, serial: str) -> None:
         ("style.css", "dialog .small td:last-child {", ".none {"),
     ),
 )
-def test_dialogs(calculator: Calculator, changes: Changes) -> None:
+def test_dialogs(calc: Calculator, changes: Changes) -> None:
     """In windows from 1440 to 320 pixels; a screen reader is given each part by role and name, and the dialog alone."""
-    page = calculator
-    page.serve(changes)
-    with page.holds_not(changes):
+    with calc.serving(changes):
         for width, height in ((1440, 900), (1024, 768), (768, 1024), (360, 640), (320, 568)):
-            page.resize(width, height)
-            page.remove_all()
-            page.click("#shipped")
-            page.open_inventory(FILE + b"C12EE,50,2012-04,7,\n")
-            page.choose_month("2012-02")
+            calc.resize(width, height)
+            calc.remove_all()
+            calc.click("#shipped")
+            calc.open_inventory(FILE + b"C12EE,50,2012-04,7,\n")
+            calc.choose_month("2012-02")
             for serial in ("L77031EE", "C12EE", "K20488EE"):
-                whole_dialog(page, serial)
-            page.open_bond("L77031EE")
-            shown = [one for one in page.all(PARTS) if one.is_displayed()]
+                whole_dialog(calc, serial)
+            calc.open_bond("L77031EE")
+            shown = [one for one in calc.all(PARTS) if one.is_displayed()]
             assert [(one.aria_role, one.accessible_name) for one in shown] == GIVEN
-            found = page.engine.dialog()
+            found = calc.engine.dialog()
             if found is not None:
                 assert found[2] and found[4] == ["Close", "Remove this bond"], "modal, and alone"
-            page.run("document.querySelector('#bond').close()")
-            widest(page)
-            whole_dialog(page, "W9999999999EE")
+            calc.run("document.querySelector('#bond').close()")
+            widest(calc)
+            whole_dialog(calc, "W9999999999EE")
 
 
-# ---- paper
-
-
-def paper(page: Calculator) -> list[str]:
+def paper(calc: Calculator) -> list[str]:
     """The printed pages as texts."""
-    path = page.folder / "page.pdf"
-    path.write_bytes(page.engine.pdf(colored=True))
+    path = calc.folder / "page.pdf"
+    path.write_bytes(calc.engine.pdf(colored=True))
     words = ["pdftotext", "-layout", str(path), "-"]
     return subprocess.run(words, capture_output=True, text=True, check=True).stdout.split("\f")[:-1]
 
@@ -208,63 +190,51 @@ NOT_PRINTED += ["Filter", "Choose"]
 
 @pytest.mark.needs("pdftotext")
 @variants(without_rules_for_paper=("style.css", "@media print", "@media speech"))
-def test_paper(calculator: Calculator, changes: Changes) -> None:
+def test_paper(calc: Calculator, changes: Changes) -> None:
     """Sums, all rows under headings on each page; no field and no button."""
-    page = calculator
-    page.serve(changes)
+    calc.serve(changes)
     bonds = random_bonds(random.Random(4), 150, months=KNOWN)
-    page.open_inventory(inventory_file(bonds))
-    page.choose_month("2030-06")
+    calc.open_inventory(inventory_file(bonds))
+    calc.choose_month("2030-06")
     time.sleep(1)
-    with page.holds_not(changes):
-        pages = paper(page)
+    with calc.holds_not(changes):
+        pages = paper(calc)
         text = "\n".join(pages)
         assert [bond[0] for bond in bonds if bond[0] not in text] == []
-        for words in (
-            f"${float(page.total()[9]):,.2f}",
-            "Value of the inventory",
-            "What is proved",
-        ):
-            assert words in text
+        value = f"${float(calc.total()[9]):,.2f}"
+        assert all(words in text for words in (value, "Value of the inventory", "What is proved"))
         assert [words for words in NOT_PRINTED if words in text] == []
         with_rows = [one for one in pages if any(bond[0] in one for bond in bonds)]
         assert all("Denom" in one and "Final" in one for one in with_rows)
 
 
 TOTAL_ALONE = (
-    (
-        "style.css",
-        "#curve,\n  #about {\n    break-inside: avoid;",
-        "#curve {\n    break-inside: avoid;",
-    ),
+    ("style.css", "#curve,\n  #about {\n    break-inside", "#curve {\n    break-inside"),
     script("this.foot.prepend(last)", "last"),
 )
 
 
 @pytest.mark.needs("pdftotext")
 @variants(total_alone=TOTAL_ALONE)
-def test_last_pages(calculator: Calculator, changes: Changes) -> None:
+def test_last_pages(calc: Calculator, changes: Changes) -> None:
     """Of inventories of different lengths no page begins with the total or has less than four lines, and the first one has the date."""
-    page = calculator
-    page.serve(changes)
+    calc.serve(changes)
     today = datetime.date.today()
-    with page.holds_not(changes):
+    with calc.holds_not(changes):
         for count in (1, 5, 11, 20, *range(27, 33)):
-            page.remove_all()
+            calc.remove_all()
             lines = "".join(f"C{place + 1}EE,50,2010-05,7,\n" for place in range(count))
-            page.open_inventory(INVENTORY + lines.encode())
-            page.choose_month("2026-11")
+            calc.open_inventory(INVENTORY + lines.encode())
+            calc.choose_month("2026-11")
             time.sleep(0.5)
-            pages = [[line for line in text.splitlines() if line.strip()] for text in paper(page)]
+            pages = [[line for line in text.splitlines() if line.strip()] for text in paper(calc)]
             assert f"Printed {today:%B} {today.day}, {today.year}" in pages[0][2]
             for printed in pages:
                 has_total = any(line.startswith("Total") for line in printed)
                 has_bonds = any(line.startswith("C") and "EE" in line for line in printed)
                 assert len(printed) > 3 and (has_bonds or not has_total), (count, printed[:4])
-            assert len(page.rows()) == count, "the table has its rows again"
+            assert len(calc.rows()) == count, "the table has its rows again"
 
-
-# ---- names and contrast
 
 NAMES = """
     const shown = (one) => one.checkVisibility();
@@ -298,54 +268,50 @@ POOR = """
 """
 
 
-def reads_well(page: Calculator) -> None:
+def reads_well(calc: Calculator) -> None:
     """Each field, button and drawing has a name, headings are in order, there are two live regions, and each text has a contrast of 4.5 to 1."""
-    assert page.run(NAMES) == WANTED
-    count, poor = page.run(POOR)
+    assert calc.run(NAMES) == WANTED
+    count, poor = calc.run(POOR)
     assert count > 50 and poor == []
 
 
-def test_reading(calculator: Calculator) -> None:
+def test_reading(calc: Calculator) -> None:
     """On a dark ground too, and in Chromium what a screen reader is given: the bonds and the chart's values as tables."""
-    page = calculator
-    page.serve()
-    page.open_inventory(FILE)
-    page.choose_month("2012-02")
-    page.until(lambda: page.all("#curve-figure svg") != [], "the chart")
-    page.run(DETAILS)
-    reads_well(page)
-    page.open_inventory(b"x\n")
-    reads_well(page)
-    page.open_bond("L77031EE")
-    reads_well(page)
-    page.run("document.querySelector('#bond').close()")
-    if isinstance(page.engine, Chromium):
-        screen_reader(page, page.engine)
-    page.engine.dark(True)
-    reads_well(page)
-    page.engine.dark(False)
-    page.run("document.querySelector('#told-text').style.color = '#999999'")
-    assert page.run(POOR)[1] != [], "control: a pale text"
-    page.run("document.querySelector('label[for=serial]').remove()")
-    assert page.run(NAMES) != WANTED, "control: a field without a label"
+    calc.serve()
+    calc.open_inventory(FILE)
+    calc.choose_month("2012-02")
+    calc.until(lambda: calc.all("#curve-figure svg") != [], "the chart")
+    calc.run(DETAILS)
+    reads_well(calc)
+    calc.open_inventory(b"x\n")
+    reads_well(calc)
+    calc.open_bond("L77031EE")
+    reads_well(calc)
+    calc.run("document.querySelector('#bond').close()")
+    if isinstance(calc.engine, Chromium):
+        screen_reader(calc, calc.engine)
+    calc.engine.dark(True)
+    reads_well(calc)
+    calc.engine.dark(False)
+    calc.run("document.querySelector('#told-text').style.color = '#999999'")
+    assert calc.run(POOR)[1] != [], "control: a pale text"
+    calc.run("document.querySelector('label[for=serial]').remove()")
+    assert calc.run(NAMES) != WANTED, "control: a field without a label"
 
 
 def roles_of(engine: Chromium) -> list[Any]:
     return [said(node)[0] for node in engine.tree().values() if not node["ignored"]]
 
 
-def screen_reader(page: Calculator, engine: Chromium) -> None:
+def screen_reader(calc: Calculator, engine: Chromium) -> None:
     roles, bonds = roles_of(engine), FILE.count(b"\n") - 1
     assert roles.count("columnheader") >= 11 + 2 and roles.count("table") >= 2
     assert roles.count("rowheader") >= bonds + 1 + 31
     assert {"banner", "main", "region"} <= set(roles) and {"image", "img"} & set(roles)
-    page.resize(320, 800)
-    page.run("scrollTo(0, 0)")
+    calc.resize(320, 800)
+    calc.run("scrollTo(0, 0)")
     assert roles_of(engine).count("rowheader") >= bonds + 1, "rows in a narrow window too"
-    page.resize(*SIZE)
-
-
-# ---- the pictures of docs/pictures
+    calc.resize(*SIZE)
 
 
 def few_colors(paths: Iterable[Path]) -> None:
@@ -358,29 +324,29 @@ def few_colors(paths: Iterable[Path]) -> None:
 
 
 @pytest.mark.needs("module:PIL", "pdftoppm")
-def test_pictures(calculator: Calculator, pictures: Path | None) -> None:
+def test_pictures(calc: Calculator, pictures: Path | None) -> None:
     """By Chromium, if $PICTURES names their folder."""
-    if pictures is None or calculator.name != "chromium":
+    if pictures is None or calc.name != "chromium":
         pytest.skip("PICTURES names no folder")
-    page, folder = calculator, pictures
-    page.serve()
-    page.open_inventory(FILE)
-    page.choose_month("2026-11")
-    page.run("document.querySelector('#told-close').click(); document.activeElement.blur()")
+    folder = pictures
+    calc.serve()
+    calc.open_inventory(FILE)
+    calc.choose_month("2026-11")
+    calc.run("document.querySelector('#told-close').click(); document.activeElement.blur()")
 
     def takes(name: str, width: int, height: int, scroll: str = "scrollTo(0, 0)") -> None:
-        page.resize(width, height)
-        page.run(scroll)
+        calc.resize(width, height)
+        calc.run(scroll)
         time.sleep(0.6)
-        page.picture(folder / name)
+        calc.picture(folder / name)
 
     takes("calculator.png", 1160, 1640)
-    page.click("#table .open")
+    calc.click("#table .open")
     takes("calculator-bond.png", 820, 880)
-    page.run("document.querySelector('#bond').close(); document.activeElement.blur()")
+    calc.run("document.querySelector('#bond').close(); document.activeElement.blur()")
     takes("calculator-phone.png", 320, 900, "document.querySelector('#shown').scrollIntoView()")
-    page.resize(*SIZE)
-    (page.folder / "page.pdf").write_bytes(page.engine.pdf(colored=True))
-    words = ["pdftoppm", "-r", "70", "-png", "-singlefile", str(page.folder / "page.pdf")]
+    calc.resize(*SIZE)
+    (calc.folder / "page.pdf").write_bytes(calc.engine.pdf(colored=True))
+    words = ["pdftoppm", "-r", "70", "-png", "-singlefile", str(calc.folder / "page.pdf")]
     subprocess.run([*words, str(pictures / "calculator-print")], check=True)
     few_colors(pictures.glob("calculator*.png"))

@@ -14,21 +14,9 @@ from typing import Any, Iterable
 import pytest
 
 from tests.clients import calculator_lists as lists
-from tests.clients.calculator_data import (
-    INVENTORIES,
-    PUBLISHED,
-    RATE_FILES,
-    KNOWN,
-    SHIPPED,
-    Case,
-    answers,
-    damaged,
-    inventory_file,
-    month_text,
-    random_bonds,
-    rate_text,
-    sheets,
-)
+from tests.clients.calculator_data import INVENTORIES, PUBLISHED, RATE_FILES, KNOWN, SHIPPED, Case
+from tests.clients.calculator_data import answers, damaged, inventory_file, month_text, random_bonds
+from tests.clients.calculator_data import rate_text, sheets
 from tests.conftest import TOP
 from tests.shared import exact
 
@@ -47,9 +35,6 @@ def node(*words: object, text: str | None = None) -> str:
     done = subprocess.run(line, input=text, capture_output=True, text=True)
     assert done.returncode == 0, done.stderr
     return done.stdout
-
-
-# ---- the modules
 
 
 def compared(module: Path, flags: list[str], published: Path, questions: Path) -> None:
@@ -90,9 +75,6 @@ def test_wrong_module(questions: Path, folder: Path, bits: int) -> None:
     (folder / "broken.wasm").write_bytes(content.replace(b"\x42\xe2\x09", b"\x42\xe3\x09"))
     with pytest.raises(AssertionError):
         compared(folder / "broken.wasm", flags, PUBLISHED, questions)
-
-
-# ---- what is built and packed
 
 
 def same_folders(one: Path, other: Path) -> None:
@@ -144,9 +126,6 @@ def test_package(tmp_path: Path) -> None:
     (tmp_path / "wrong").mkdir()
     with pytest.raises(AssertionError):  # control: the README of the Python module
         packed(tmp_path / "sources", tmp_path / "wrong")
-
-
-# ---- the readers
 
 
 def answered(tasks: Iterable[object], bits: int = 32) -> list[Any]:
@@ -212,9 +191,6 @@ def test_rows_and_sheets(program: Path, dice: random.Random, bits: int) -> None:
     assert {"NI", "NE", "P5", "MA"} <= notes
     tasks[0]["month"] = "2150-01" if listed[0].month != "2150-01" else "2150-02"
     assert answered(tasks[:1], bits) != [listed[0].sheet], "control: another month"
-
-
-# ---- pasted lists
 
 
 def understood(made: list[lists.Made]) -> None:

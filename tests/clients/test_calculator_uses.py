@@ -9,43 +9,27 @@ from typing import Any, Callable
 import pytest
 from selenium.webdriver.common.keys import Keys
 
-from tests.clients import calculator_lists as lists
-from tests.clients.calculator import Calculator, Changes, Site, script, variants
-from tests.clients.calculator_data import (
-    INVENTORY,
-    KNOWN,
-    PUBLISHED,
-    SHIPPED,
-    inventory_file,
-    random_bonds,
-    random_rates,
-    rates_file,
-)
+from tests.browser.bank import released_in
+from tests.clients.calculator import NEEDS, Calculator, Changes, Site, script, variants
+from tests.clients.calculator_data import INVENTORY, KNOWN, PUBLISHED, inventory_file, random_bonds
+from tests.clients.calculator_data import random_rates, rates_file
 from tests.clients.calculator_lists import LETTERS
 from tests.conftest import TOP
 
-pytestmark = [
-    pytest.mark.browser,
-    pytest.mark.needs("module:selenium", "file:clients/calculator/out/calculator.js"),
-]
+pytestmark = NEEDS
 #: A 50-dollar bond at 3.40 % is worth 48.90 at 239 months, 50.00 at 240 and 50.14 at 241, by hand.
 BY_HAND = b"from,rate,extension\n2010-05,3.40,\n"
 LISTED = "#told-list li"
 
 
-# ---- typing
-
-
-def type_bond(page: Calculator, serial: str, denom: str, issued: str) -> None:
+def type_bond(calc: Calculator, serial: str, denom: str, issued: str) -> None:
     """Types a bond, from the field of the serial number on."""
-    page.run(
-        "for (const name of ['serial', 'issued']) document.querySelector(`#${name}`).value = ''"
-    )
-    page.run("document.querySelector('#serial').focus()")
-    page.keys(*serial)
-    page.run("document.querySelector('#denom').value = arguments[0]", denom)
-    page.run("document.querySelector('#issued').focus()")
-    page.keys(*issued, Keys.ENTER)
+    empty = "for (const name of ['serial', 'issued']) document.querySelector(`#${name}`).value = ''"
+    calc.run(f"{empty}; document.querySelector('#serial').focus()")
+    calc.keys(*serial)
+    calc.run("document.querySelector('#denom').value = arguments[0]", denom)
+    calc.run("document.querySelector('#issued').focus()")
+    calc.keys(*issued, Keys.ENTER)
 
 
 MISTYPED = [
@@ -57,41 +41,35 @@ MISTYPED = [
 ]
 
 
-@variants(
-    another_denomination=script("sameBond(books.bonds.get(row.serial), row)", "sameBond(row, row)")
-)
-def test_typing(calculator: Calculator, changes: Changes) -> None:
+@variants(another_denomination=script("sameBond(books.bonds.get(row.serial),", "sameBond(row,"))
+def test_typing(calc: Calculator, changes: Changes) -> None:
     """Typed bonds are read by the counter's spellings; a fault takes the keyboard to its field; a bond is never there twice, and needs no serial number."""
-    page = calculator
-    page.serve(changes)
-    with page.holds_not(changes):
-        type_bond(page, "C-0012-EE", "50", "05/2010")
-        page.is_told("1 bond added")
-        assert [row[0] + row[3] for row in page.rows()] == ["C12EE05/2010"]
+    with calc.serving(changes):
+        type_bond(calc, "C-0012-EE", "50", "05/2010")
+        calc.is_told("1 bond added")
+        assert [row[0] + row[3] for row in calc.rows()] == ["C12EE05/2010"]
         for serial, issued in (("C12EE", "2010-05"), ("c12ee", "5/2010"), ("C 12 EE", "May 2010")):
-            type_bond(page, serial, "50", issued)
-            page.is_told("1 bond already there")
-            page.run("document.querySelector('#told-text').textContent = ''")
+            type_bond(calc, serial, "50", issued)
+            calc.is_told("1 bond already there")
+            calc.run("document.querySelector('#told-text').textContent = ''")
         for serial, denom, issued, wanted, field in MISTYPED:
-            type_bond(page, serial, denom, issued)
-            page.is_told(wanted)
+            type_bond(calc, serial, denom, issued)
+            calc.is_told(wanted)
             if field is not None:
-                assert page.has_keyboard(f"#{field}[aria-invalid=true]")
-        assert len(page.rows()) == 1
+                assert calc.has_keyboard(f"#{field}[aria-invalid=true]")
+        assert len(calc.rows()) == 1
         for count in (1, 2):
-            type_bond(page, "", "50", "2010-05")
-            page.is_told(f"1 bond added. {count + 1} in all")
-        assert page.serials() == ["C12EE", "#1", "#2"]
-        saved = page.saved("inventory.csv", "#save-inventory").encode()
+            type_bond(calc, "", "50", "2010-05")
+            calc.is_told(f"1 bond added. {count + 1} in all")
+        assert calc.serials() == ["C12EE", "#1", "#2"]
+        saved = calc.saved("inventory.csv", "#save-inventory").encode()
         assert saved.endswith(b"#1,50,2010-05,1,\n#2,50,2010-05,1,\n")
-        assert "0 bonds added. 3 bonds already there" in page.open_inventory(saved)
-        added = page.open_inventory(INVENTORY + b"#2,75,2010-05,1,\n")
+        assert "0 bonds added. 3 bonds already there" in calc.open_inventory(saved)
+        added = calc.open_inventory(INVENTORY + b"#2,75,2010-05,1,\n")
         assert "1 bond added. 4 in all" in added
         wanted_rows = [("#1", "50"), ("#2", "50"), ("#3", "75")]
-        assert [(row[0], row[2]) for row in page.rows()][1:] == wanted_rows
+        assert [(row[0], row[2]) for row in calc.rows()][1:] == wanted_rows
 
-
-# ---- pasting
 
 TREASURY_DIRECT = """Savings Bond Calculator
 Serial #\tSeries\tDenom\tIssue Date\tNext Accrual\tFinal Maturity\tIssue Price\tInterest\tInterest Rate\tValue\tNote
@@ -164,15 +142,15 @@ NOTES = "#understood-notes li"
 PASTE = "document.querySelector('#paste-form').closest('details').open = true; document.querySelector('#pasted').value = arguments[0]; document.querySelector('#pasted').dispatchEvent(new InputEvent('input', { inputType: 'insertFromPaste' }))"
 
 
-def put(page: Calculator, text: str) -> str:
+def put(calc: Calculator, text: str) -> str:
     """Puts a text into the field as pasting does. Returns what the page tells."""
-    page.run(PASTE, text)
-    return page.told()
+    calc.run(PASTE, text)
+    return calc.told()
 
 
-def add_pasted(page: Calculator) -> str:
-    page.run("document.querySelector('#paste-form').requestSubmit()")
-    return page.told()
+def add_pasted(calc: Calculator) -> str:
+    calc.run("document.querySelector('#paste-form').requestSubmit()")
+    return calc.told()
 
 
 def as_shown(bonds: str) -> list[list[str]]:
@@ -185,63 +163,44 @@ def as_shown(bonds: str) -> list[list[str]]:
     ]
 
 
+ADDED = "{ understand(); addRows(shown.read); return undefined; }"
+
+
 @variants(
-    added_without_showing=script(
-        "return understand();", "{ understand(); addRows(shown.read); return undefined; }"
-    )
+    added_without_showing=script("return understand();", ADDED),
+    no_cents_of_a_denomination=script(r"(?:\.0{0,2})?(?: ?USD", "(?: ?USD"),
 )
-def test_pasting(calculator: Calculator, changes: Changes) -> None:
+def test_pasting(calc: Calculator, changes: Changes) -> None:
     """Columns of a spreadsheet, in the spellings that spreadsheets write: what the page understands is shown before it is added."""
-    page, count = calculator, 0
-    page.serve(changes)
-    with page.holds_not(changes):
+    count = 0
+    with calc.serving(changes):
         for text, bonds, said in PASTES:
-            told, wanted = put(page, text), as_shown(bonds)
+            told, wanted = put(calc, text), as_shown(bonds)
             assert told.startswith(f"{len(wanted)} bond") and "understood" in told, text
-            assert page.run(PREVIEW) == wanted, text
-            assert set(page.texts(NOTES)) == {line for line in said.split("|") if line}, text
-            assert len(page.rows()) == count, "nothing is added before it is shown"
+            assert calc.run(PREVIEW) == wanted, text
+            assert set(calc.texts(NOTES)) == {line for line in said.split("|") if line}, text
+            assert len(calc.rows()) == count, "nothing is added before it is shown"
             button = "Add this bond" if len(wanted) == 1 else f"Add these {len(wanted)} bonds"
-            assert page.texts("#paste-add") == [button]
-            assert add_pasted(page).startswith(f"{len(wanted)} bond"), text
+            assert calc.texts("#paste-add") == [button]
+            assert add_pasted(calc).startswith(f"{len(wanted)} bond"), text
             count += len(wanted)
-            shown = [[row[2], f"{row[3][3:]}-{row[3][:2]}"] for row in page.rows()]
+            shown = [[row[2], f"{row[3][3:]}-{row[3][:2]}"] for row in calc.rows()]
             assert len(shown) == count, text
             assert all(bond.split()[1:] in shown for bond in bonds.split(", ")), text
-            assert page.value("#pasted") == "" and not page.is_shown("#understood")
+            assert calc.value("#pasted") == "" and not calc.is_shown("#understood")
         for text, fault in PASTE_FAULTS.items():
-            told = put(page, text)
+            told = put(calc, text)
             assert fault in told, text
-            assert len(page.rows()) == count
-        page.run("document.querySelector('#pasted').value = 'C30EE 50 2010-05'")
-        assert "1 bond understood" in add_pasted(page) and len(page.rows()) == count
+            assert len(calc.rows()) == count
+        calc.run("document.querySelector('#pasted').value = 'C30EE 50 2010-05'")
+        assert "1 bond understood" in add_pasted(calc) and len(calc.rows()) == count
         # A CSV file that a spreadsheet wrote.
         file = b'\xef\xbb\xbf"Serial","Denomination","Issue date"\r\nM23EE,"$1,000.00 ",May-10\r\n'
-        assert "1 bond understood" in page.open_inventory(file)
-        assert page.run(PREVIEW) == [["M23EE", "$1,000", "May 2010"]]
-        assert "read the file as a list of a spreadsheet" in page.texts("#told-list")[0]
-        assert add_pasted(page).startswith("1 bond added") and len(page.rows()) == count + 1
+        assert "1 bond understood" in calc.open_inventory(file)
+        assert calc.run(PREVIEW) == [["M23EE", "$1,000", "May 2010"]]
+        assert "read the file as a list of a spreadsheet" in calc.texts("#told-list")[0]
+        assert add_pasted(calc).startswith("1 bond added") and len(calc.rows()) == count + 1
 
-
-@variants(no_cents_of_a_denomination=script(r"(?:\.0{0,2})?(?: ?USD", "(?: ?USD"))
-def test_pasted_tables(calculator: Calculator, changes: Changes) -> None:
-    """Tables of TreasuryDirect's calculator, pasted into the page: what it shows, and what it adds."""
-    page, dice = calculator, random.Random(3)
-    page.serve(changes)
-    with page.holds_not(changes):
-        cents: lists.Made = ("C20EE\t$100.00\tMay 2010\n", [("C20EE", 100, 12 * 2010 + 4)])
-        for text, bonds in [cents, *(lists.table(dice) for _ in range(10))]:
-            page.remove_all()
-            assert put(page, text).startswith(f"{len(bonds)} bond"), text
-            add_pasted(page)
-            shown = [
-                (row[0] if row[0][0] != "#" else "", int(row[2]), row[3]) for row in page.rows()
-            ]
-            wanted = [(serial, dollars, lists.month(issued)) for serial, dollars, issued in bonds]
-            assert sorted(shown) == sorted(wanted), text
-
-
-# ---- remarks
 
 SOLD = "Paper bonds were sold until December 2011."
 FACTS = "return [...document.querySelectorAll('#bond-facts dt')].map((one) => `${one.textContent}: ${one.nextSibling.textContent}`);"
@@ -259,14 +218,12 @@ def begins(dollars: int) -> str:
     letter_of_others=script('500: "D"', '500: "M"'),
     a_month_late=script("12 * 2011 + 11", "12 * 2012"),
 )
-def test_remarks(calculator: Calculator, changes: Changes) -> None:
+def test_remarks(calc: Calculator, changes: Changes) -> None:
     """A serial number's letter, and an issue month, that no paper bond has: the page says so as it is opened, typed and pasted, and adds the bond all the same."""
-    page = calculator
-    page.serve(changes)
-    with page.holds_not(changes):
+    with calc.serving(changes):
         fitting = [bond_line(f"{letter}1EE", dollars) for dollars, letter in LETTERS.items()]
-        assert page.open_inventory(INVENTORY + b"".join(fitting)) == "8 bonds added. 8 in all."
-        assert page.texts(LISTED) == []
+        assert calc.open_inventory(INVENTORY + b"".join(fitting)) == "8 bonds added. 8 in all."
+        assert calc.texts(LISTED) == []
         letters = list(LETTERS.values())
         wrong = [
             (f"{letters[(place + step) % 8]}{100 * place + step + 1}EE", dollars)
@@ -275,52 +232,49 @@ def test_remarks(calculator: Calculator, changes: Changes) -> None:
         ]
         for part in (wrong[:20], wrong[20:40], wrong[40:]):
             lines = b"".join(bond_line(serial, dollars) for serial, dollars in part)
-            told = page.open_inventory(INVENTORY + lines)
+            told = calc.open_inventory(INVENTORY + lines)
             assert told.startswith(f"{len(part)} bonds added.")
             assert told.endswith(f"Compare {len(part)} bonds with the paper.")
             wanted = [f"Bond {serial}: {begins(dollars)}" for serial, dollars in part]
-            assert page.texts(LISTED) == wanted
-        remarked_as_typed(page, 8 + 56)
-        remarked_in_lists(page)
+            assert calc.texts(LISTED) == wanted
+        remarked_as_typed(calc, 8 + 56)
+        remarked_in_lists(calc)
 
 
-def remarked_as_typed(page: Calculator, count: int) -> None:
+def remarked_as_typed(calc: Calculator, count: int) -> None:
     """A typed bond has its remark as it is typed; its dialog has the remark too."""
-    page.choose_month("2026-11")
+    calc.choose_month("2026-11")
     for name, text in (("denom", "50"), ("issued", "Apr 2012"), ("serial", "c-12-ee")):
-        page.set_field(name, text)
+        calc.set_field(name, text)
     words = f"{begins(50)} {SOLD}"
-    assert page.texts("#one-words")[0].endswith(words) and page.texts("#one-value")[0] != ""
-    page.run("document.querySelector('#type-form').requestSubmit()")
+    assert calc.texts("#one-words")[0].endswith(words) and calc.texts("#one-value")[0] != ""
+    calc.run("document.querySelector('#type-form').requestSubmit()")
     wanted = f"1 bond added. {count + 1} in all. Compare 1 bond with the paper."
-    assert page.told() == wanted and page.texts(LISTED) == [f"Bond C12EE: {words}"]
-    assert page.texts("#one-words")[0].endswith(SOLD), "the next bond has no serial number yet"
-    assert "begin with" not in page.texts("#one-words")[0]
-    page.open_bond("C12EE")
-    assert page.run(FACTS)[-1] == f"To check: {words}"
-    page.run("document.querySelector('#bond').close()")
-    page.open_bond("L1EE")
-    assert not [line for line in page.run(FACTS) if line.startswith("To check")]
-    page.run("document.querySelector('#bond').close()")
-    page.set_field("issued", "Dec 2011")
-    assert not page.texts("#one-words")[0].endswith(SOLD)
+    assert calc.told() == wanted and calc.texts(LISTED) == [f"Bond C12EE: {words}"]
+    assert calc.texts("#one-words")[0].endswith(SOLD), "the next bond has no serial number yet"
+    assert "begin with" not in calc.texts("#one-words")[0]
+    calc.open_bond("C12EE")
+    assert calc.run(FACTS)[-1] == f"To check: {words}"
+    calc.run("document.querySelector('#bond').close()")
+    calc.open_bond("L1EE")
+    assert not [line for line in calc.run(FACTS) if line.startswith("To check")]
+    calc.run("document.querySelector('#bond').close()")
+    calc.set_field("issued", "Dec 2011")
+    assert not calc.texts("#one-words")[0].endswith(SOLD)
 
 
-def remarked_in_lists(page: Calculator) -> None:
+def remarked_in_lists(calc: Calculator) -> None:
     """A pasted list has its remarks by row before it is added; of many bonds the first 20 are listed."""
-    page.remove_all()
+    calc.remove_all()
     text = "Serial\tDenom\tIssued\nL1EE\t50\t12/2011\nL2EE\t75\t12/2011\n\t50\t1/2012\n"
-    assert put(page, text).endswith("Compare 2 bonds with the paper.")
-    assert page.texts(NOTES) == [f"Row 3: {begins(75)}", f"Row 4: {SOLD}", NAMES]
-    assert add_pasted(page) == "3 bonds added. 3 in all. Compare 2 bonds with the paper."
-    assert page.texts(LISTED) == [f"Bond L2EE: {begins(75)}", f"Bond #1: {SOLD}"]
+    assert put(calc, text).endswith("Compare 2 bonds with the paper.")
+    assert calc.texts(NOTES) == [f"Row 3: {begins(75)}", f"Row 4: {SOLD}", NAMES]
+    assert add_pasted(calc) == "3 bonds added. 3 in all. Compare 2 bonds with the paper."
+    assert calc.texts(LISTED) == [f"Bond L2EE: {begins(75)}", f"Bond #1: {SOLD}"]
     lines = b"".join(bond_line(f"C{place + 10}EE", 50, "2010-05") for place in range(23))
-    page.open_inventory(INVENTORY + lines)
-    listed = page.texts(LISTED)
+    calc.open_inventory(INVENTORY + lines)
+    listed = calc.texts(LISTED)
     assert len(listed) == 21 and listed[-1] == "Compare 3 more with the paper."
-
-
-# ---- sorting, and what is worked out
 
 
 def number(text: str) -> float:
@@ -331,123 +285,110 @@ def month(text: str) -> tuple[str, str]:
     return (text[3:], text[:2]) if text else ("", "")
 
 
-KEYS: dict[str, Callable[[list[str]], Any]] = {
-    "serial": lambda row: (row[0][0], int(row[0][1:-2])),
-    "denom": lambda row: int(row[2]),
-    "issued": lambda row: month(row[3]),
-    "next": lambda row: month(row[4]),
-    "final": lambda row: month(row[5]),
-    "price": lambda row: number(row[6]),
-    "interest": lambda row: number(row[7]),
-    "rate": lambda row: number(row[8]),
-    "value": lambda row: number(row[9]),
-    "note": lambda row: row[10],
+#: By column: its place in a row, and what it is sorted by.
+KEYS: dict[str, tuple[int, Callable[[str], Any]]] = {
+    "serial": (0, lambda text: (text[0], int(text[1:-2]))),
+    **{name: (at, month) for at, name in enumerate(("issued", "next", "final"), 3)},
+    **{name: (at, number) for at, name in enumerate(("price", "interest", "rate", "value"), 6)},
+    "denom": (2, int),
+    "note": (10, str),
 }
 
 
 @variants(one_way_alone=script("is_falling ? -1 : 1", "is_falling ? 1 : 1"))
-def test_sorting(calculator: Calculator, changes: Changes) -> None:
+def test_sorting(calc: Calculator, changes: Changes) -> None:
     """By each column both ways, and by each note: the totals are those of the rows that are shown."""
-    page, dice = calculator, random.Random(5)
-    page.serve(changes)
+    dice = random.Random(5)
+    calc.serve(changes)
     bonds = random_bonds(dice, 100)
-    page.shows_only(rates_file(random_rates(dice)), inventory_file(bonds), "2030-01")
-    rows = page.rows()
-    with page.holds_not(changes):
-        for column, key in KEYS.items():
+    calc.shows_only(rates_file(random_rates(dice)), inventory_file(bonds), "2030-01")
+    rows = calc.rows()
+    with calc.holds_not(changes):
+        for column, (at, key) in KEYS.items():
             orders = ["ascending", "descending"]
             for order in reversed(orders) if column == "serial" else orders:
-                page.click(f"#table [data-column='{column}']")
-                found = [key(row) for row in page.rows()]
+                calc.click(f"#table [data-column='{column}']")
+                found = [key(row[at]) for row in calc.rows()]
                 assert found == sorted(found, reverse=order == "descending"), (column, order)
-                assert page.all(f"#table th.{column}[aria-sort={order}]") != []
-        page.click("#table [data-column='serial']")
+                assert calc.all(f"#table th.{column}[aria-sort={order}]") != []
+        calc.click("#table [data-column='serial']")
         for note in ("NI", "NE", "P5", "MA", "plain"):
-            page.set_field("note", note)
+            calc.set_field("note", note)
             shown = [row for row in rows if row[10] == ("" if note == "plain" else note)]
-            assert page.serials() == [row[0] for row in shown]
+            assert calc.serials() == [row[0] for row in shown]
             cents = round(sum(number(row[9]) for row in shown) * 100)
-            assert page.total()[9] == f"{cents // 100}.{cents % 100:02}", note
+            assert calc.total()[9] == f"{cents // 100}.{cents % 100:02}", note
 
 
 def units() -> dict[tuple[str, str], int]:
     """The published cents of a 25-dollar unit by issue month and month."""
     with open(PUBLISHED / "published-values.csv", newline="") as file:
-        return {
-            (it["issued"], it["redeemed"]): int(it["unit_cents"]) for it in csv.DictReader(file)
-        }
+        rows = list(csv.DictReader(file))
+    return {(row["issued"], row["redeemed"]): int(row["unit_cents"]) for row in rows}
 
 
 ABOVE = "const top = (one) => one.getBoundingClientRect().top; const [first, ...others] = document.querySelectorAll('main > section'); return first.id === 'one' && others.every((one) => !one.checkVisibility() || top(one) > top(first)) && document.querySelector('#one-words').getBoundingClientRect().bottom < innerHeight;"
 
 
-@variants(
-    only_when_a_bond_is_added=script(
-        'addEventListener("input", showOne)', 'addEventListener("reset", showOne)'
-    )
-)
-def test_value_at_once(calculator: Calculator, changes: Changes) -> None:
+ON_INPUT = 'addEventListener("input", showOne)'
+
+
+@variants(only_when_a_bond_is_added=script(ON_INPUT, ON_INPUT.replace("input", "reset")))
+def test_value_at_once(calc: Calculator, changes: Changes) -> None:
     """The published values of three bonds are shown as they are typed, above everything else, and nothing is pressed."""
-    page, published = calculator, units()
-    page.serve(changes)
-    page.choose_month("2012-02")
-    with page.holds_not(changes):
-        assert page.texts("#one-value") == [""]
-        assert "Choose a denomination" in page.texts("#one-words")[0]
-        for denom, issued, text in (
-            (500, "2010-05", "May 2010"),
-            (50, "2006-03", "3/2006"),
-            (10000, "2005-05", "2005-05-01"),
-        ):
-            page.set_field("denom", str(denom))
-            page.set_field("issued", text)
+    published = units()
+    calc.serve(changes)
+    calc.choose_month("2012-02")
+    with calc.holds_not(changes):
+        assert calc.texts("#one-value") == [""]
+        assert "Choose a denomination" in calc.texts("#one-words")[0]
+        typed = {"2010-05": (500, "May 2010"), "2006-03": (50, "3/2006")}
+        for issued, (denom, text) in (typed | {"2005-05": (10000, "2005-05-01")}).items():
+            calc.set_field("denom", str(denom))
+            calc.set_field("issued", text)
             cents = published[issued, "2012-02"] * denom // 25
-            words = page.texts("#one-words")[0]
-            assert page.texts("#one-value") == [f"${cents // 100:,}.{cents % 100:02}"]
+            words = calc.texts("#one-words")[0]
+            assert calc.texts("#one-value") == [f"${cents // 100:,}.{cents % 100:02}"]
             assert f"A ${denom:,} bond issued in" in words and "in February 2012" in words
-        page.choose_month("Nov 2011")
+        calc.choose_month("Nov 2011")
         cents = published["2005-05", "2011-11"] * 400
-        assert page.texts("#one-value") == [f"${cents / 100:,.2f}"]
-        page.set_field("issued", "May 2021")
-        assert page.texts("#one-value") == [""]
-        assert "There is no rate for bonds issued in May 2021" in page.texts("#one-words")[0]
-        page.set_field("issued", "May 2011")
-        assert "Note NE: under 12 months" in page.texts("#one-words")[0] and page.rows() == []
+        assert calc.texts("#one-value") == [f"${cents / 100:,.2f}"]
+        calc.set_field("issued", "May 2021")
+        assert calc.texts("#one-value") == [""]
+        assert "There is no rate for bonds issued in May 2021" in calc.texts("#one-words")[0]
+        calc.set_field("issued", "May 2011")
+        assert "Note NE: under 12 months" in calc.texts("#one-words")[0] and calc.rows() == []
         for width, height in ((1440, 900), (1024, 768), (768, 1024), (360, 640)):
-            page.resize(width, height)
-            page.run("document.querySelector('#told-close').click(); scrollTo(0, 0)")
-            assert page.run(ABOVE), f"it is above everything else in {width} by {height}"
+            calc.resize(width, height)
+            calc.run("document.querySelector('#told-close').click(); scrollTo(0, 0)")
+            assert calc.run(ABOVE), f"it is above everything else in {width} by {height}"
 
 
 SUMS = "return Object.fromEntries([...document.querySelectorAll('#sums dt')].map((one) => [one.textContent, one.nextSibling.textContent]));"
 
 
-@variants(
-    year_that_begins_in_January=script(
-        "Math.floor(state.month / 12) - 1", "Math.floor(state.month / 12)"
-    )
-)
-def test_interest_of_the_year(calculator: Calculator, changes: Changes) -> None:
+YEAR = "Math.floor(state.month / 12)"
+
+
+@variants(year_that_begins_in_January=script(f"{YEAR} - 1", YEAR))
+def test_interest_of_the_year(calc: Calculator, changes: Changes) -> None:
     """What the published values say, for a bond that wasn't issued in December too."""
-    page, published = calculator, units()
-    page.serve(changes)
-    page.open_inventory(
-        INVENTORY + b"C1EE,500,2010-05,7,\nC2EE,50,2006-03,7,\nC3EE,100,2012-01,7,\n"
-    )
-    with page.holds_not(changes):
+    published = units()
+    calc.serve(changes)
+    bonds = b"C1EE,500,2010-05,7,\nC2EE,50,2006-03,7,\nC3EE,100,2012-01,7,\n"
+    calc.open_inventory(INVENTORY + bonds)
+    with calc.holds_not(changes):
         for month, december, said in (
             ("2012-02", "2011-12", "from January to February"),
             ("2011-12", "2010-12", "from January to December"),
             ("2012-01", "2011-12", "in January"),
         ):
-            page.choose_month(month)
-            cents = sum(
-                (published.get((issued, month), 1250) - published.get((issued, december), 1250))
-                * dollars
-                // 25
-                for issued, dollars in (("2010-05", 500), ("2006-03", 50))
-            )
-            shown = page.run(SUMS)[f"Interest of {month[:4]}"]
+            calc.choose_month(month)
+            cents = 0
+            for issued, units_of in (("2010-05", 20), ("2006-03", 2)):
+                now, then = (published.get((issued, at), 1250) for at in (month, december))
+                cents += units_of * (now - then)
+            shown = calc.run(SUMS)[f"Interest of {month[:4]}"]
             assert shown == f"${cents / 100:,.2f}, {said}"
 
 
@@ -459,21 +400,21 @@ def clock_of(time: str) -> Changes:
 
 
 @variants(any_clock_taken=script("!== said)", "=== null)"))
-def test_clocks(calculator: Calculator, changes: Changes) -> None:
+def test_clocks(calc: Calculator, changes: Changes) -> None:
     """A device whose clock is wrong: the page says so, and bonds are valued."""
-    page, last = calculator, SHIPPED.decode().splitlines()[-1].partition(",")[0]
-    with page.holds_not(changes):
+    last = released_in(TOP)[:7]
+    with calc.holds_not(changes):
         for clock, said, month in (
             ("1970-01-01T12:00:00", "January 1970", last),
-            ("2004-03-01T12:00:00", "March 2004", last),
+            ("2015-03-01T12:00:00", "March 2015", last),
             ("2205-07-01T12:00:00", "July 2205", "2199-12"),
         ):
-            page.serve((*changes, *clock_of(clock)))
-            assert f"clock says {said}, which can't be right" in page.told()
-            assert page.value("#month") == f"{month[5:]}/{month[:4]}"
-            assert "1 bond added" in page.open_inventory(INVENTORY + bond_line("C1EE", 50))
-        page.serve((*changes, *clock_of("2026-11-28T12:00:00")))
-        assert (page.told(), page.value("#month")) == ("", "11/2026")
+            calc.serve((*changes, *clock_of(clock)))
+            assert f"clock says {said}, which can't be right" in calc.told()
+            assert calc.value("#month") == f"{month[5:]}/{month[:4]}"
+            assert "1 bond added" in calc.open_inventory(INVENTORY + bond_line("C1EE", 50))
+        calc.serve((*changes, *clock_of(f"{last}-28T12:00:00")))
+        assert (calc.told(), calc.value("#month")) == ("", f"{last[5:]}/{last[:4]}")
 
 
 AHEAD = "return [...document.querySelectorAll('#bond-ahead tbody tr')].map((row) => [...row.children].slice(1).map((cell) => cell.textContent));"
@@ -481,54 +422,43 @@ POINTS = "return [...document.querySelectorAll(`${arguments[0]} tbody tr`)].map(
 
 
 @variants(doubled_a_month_late=script("DOUBLES = 240", "DOUBLES = 241"))
-def test_ahead(calculator: Calculator, changes: Changes) -> None:
+def test_ahead(calc: Calculator, changes: Changes) -> None:
     """What a bond will be worth, against values worked out by hand; the charts' 31 yearly values as tables."""
-    page = calculator
-    page.serve(changes)
-    page.shows_only(BY_HAND, INVENTORY + b"C1EE,50,2010-05,7,8\n", "2014-06")
-    with page.holds_not(changes):
-        page.open_bond("C1EE")
-        found = page.run(AHEAD)
+    calc.serve(changes)
+    calc.shows_only(BY_HAND, INVENTORY + b"C1EE,50,2010-05,7,8\n", "2014-06")
+    with calc.holds_not(changes):
+        calc.open_bond("C1EE")
+        found = calc.run(AHEAD)
         assert [row[0] for row in found] == ["July 2014", "May 2015", "May 2030", "May 2040"]
         assert found[2][1] == "$50.00"
-        points = page.run(POINTS, "#bond-figure")
+        points = calc.run(POINTS, "#bond-figure")
         assert len(points) == 31 and points[0] == ["May 2010", "$25.00"]
         assert points[20] == ["May 2030", "$50.00"]
-        label = page.find("#bond-figure svg").get_attribute("aria-label")
+        label = calc.find("#bond-figure svg").get_attribute("aria-label")
         assert "from $25.00 in May 2010" in str(label)
-        page.keys(Keys.ESCAPE)
-        page.until(lambda: page.has_keyboard("#table .open"), "Escape gives the keyboard back")
+        calc.keys(Keys.ESCAPE)
+        calc.until(lambda: calc.has_keyboard("#table .open"), "Escape gives the keyboard back")
         for at, value in (("2030-04", "48.90"), ("2030-06", "50.14")):
-            page.choose_month(at)
-            assert page.rows()[0][9] == value
-        is_whole = lambda: len(page.run(POINTS, "#curve-figure")) == 31
-        page.until(is_whole, "the inventory's curve")
-        assert page.run(POINTS, "#curve-figure") == points
+            calc.choose_month(at)
+            assert calc.rows()[0][9] == value
+        is_whole = lambda: len(calc.run(POINTS, "#curve-figure")) == 31
+        calc.until(is_whole, "the inventory's curve")
+        assert calc.run(POINTS, "#curve-figure") == points
 
 
-# ---- offline, fenced and fast
-
-
-@variants(
-    worker_that_keeps_nothing=(
-        "sw.js",
-        "event.respondWith(answer(event.request))",
-        "event.respondWith(fetch(event.request))",
-    )
-)
-def test_offline(calculator: Calculator, changes: Changes) -> None:
+@variants(worker_that_keeps_nothing=("sw.js", "With(answer(event", "With(fetch(event"))
+def test_offline(calc: Calculator, changes: Changes) -> None:
     """With its server gone the page opens again, and values the bonds of samples/."""
-    page = calculator
-    url = page.serve(changes)
+    url = calc.serve(changes)
     controlled = "return navigator.serviceWorker.controller !== null"
-    page.until(lambda: page.run(controlled), "the service worker has the page", 15)
-    page.sites.pop().stop()
-    with page.holds_not(changes):
-        page.visit(url)
-        told = page.open_inventory((TOP / "samples/inventory.csv").read_bytes())
+    calc.until(lambda: calc.run(controlled), "the service worker has the page", 15)
+    calc.sites.pop().stop()
+    with calc.holds_not(changes):
+        calc.visit(url)
+        told = calc.open_inventory((TOP / "samples/inventory.csv").read_bytes())
         assert "3 bonds added" in told
-        page.choose_month("2026-11")
-        assert page.total()[9] == "10262.51"
+        calc.choose_month("2026-11")
+        assert calc.total()[9] == "10262.51"
 
 
 ATTEMPTS = """
@@ -543,17 +473,17 @@ STORED = "return document.cookie.length + Object.keys(localStorage).length + Obj
 
 
 @variants(without_the_policy=("index.html", 'http-equiv="Content-Security-Policy"', 'name="none"'))
-def test_fences(calculator: Calculator, changes: Changes) -> None:
+def test_fences(calc: Calculator, changes: Changes) -> None:
     """Only files of the page are loaded, no cookie and nothing kept; the page's policy stops a request elsewhere, a script and a picture of elsewhere."""
-    page, other = calculator, Site()
-    page.sites.append(other)
-    url = page.serve(changes)
-    page.open_inventory((TOP / "samples/inventory.csv").read_bytes())
-    names = page.run(LOADED)
+    other = Site()
+    calc.sites.append(other)
+    url = calc.serve(changes)
+    calc.open_inventory((TOP / "samples/inventory.csv").read_bytes())
+    names = calc.run(LOADED)
     assert names and all(name.startswith(url) for name in names)
-    assert page.run(STORED) == 0
-    with page.holds_not(changes):
-        assert page.run_module(ATTEMPTS, other.url) == ["stopped"] * 3 and other.asked == []
+    assert calc.run(STORED) == 0
+    with calc.holds_not(changes):
+        assert calc.run_module(ATTEMPTS, other.url) == ["stopped"] * 3 and other.asked == []
 
 
 FRAMES = """
@@ -571,17 +501,14 @@ FRAMES = """
 """
 
 
-def test_speed(calculator: Calculator, dice: random.Random) -> None:
+def test_speed(calc: Calculator, dice: random.Random) -> None:
     """10,000 bonds are opened, and scrolled through by frames of less than 100 ms."""
-    page = calculator
-    page.serve()
+    calc.serve()
     bonds = random_bonds(dice, 10_000, months=KNOWN)
-    assert "10,000 bonds added" in page.open_inventory(inventory_file(bonds))
-    scrolled, median = page.run_module(FRAMES)
+    assert "10,000 bonds added" in calc.open_inventory(inventory_file(bonds))
+    scrolled, median = calc.run_module(FRAMES)
     assert scrolled > 100_000 and median < 100
 
-
-# ---- the keyboard alone
 
 CONTROLS = """
     const shown = (one) => one.checkVisibility() && one.closest("details:not([open])") === null;
@@ -591,13 +518,13 @@ CONTROLS = """
 FOCUSED = "const one = document.activeElement; const { outlineStyle, outlineWidth } = getComputedStyle(one); return one === document.body ? ['', ''] : [one.id || one.dataset.column || one.dataset.text || one.textContent, `${outlineStyle} ${outlineWidth}`];"
 
 
-def all_reached(page: Calculator) -> None:
+def all_reached(calc: Calculator) -> None:
     """Tab reaches each control, and each has an outline."""
-    wanted, reached = set(page.run(CONTROLS)), set()
-    page.run("document.querySelector('.skip').focus()")
+    wanted, reached = set(calc.run(CONTROLS)), set()
+    calc.run("document.querySelector('.skip').focus()")
     for _ in range(len(wanted) + 15):
-        page.keys(Keys.TAB)
-        name, outline = page.run(FOCUSED)
+        calc.keys(Keys.TAB)
+        name, outline = calc.run(FOCUSED)
         if name in ("", "skip"):
             break
         reached.add(name)
@@ -605,43 +532,42 @@ def all_reached(page: Calculator) -> None:
     assert wanted - reached == set() and len(wanted) > 20
 
 
-def test_keyboard(calculator: Calculator) -> None:
+def test_keyboard(calc: Calculator) -> None:
     """A whole use with the keyboard alone: bonds, a month, the order, a bond's dialog, what is saved."""
-    page = calculator
-    page.serve()
-    page.keys(Keys.TAB)
-    assert page.has_keyboard(".skip"), "the first Tab offers to skip"
-    page.keys(Keys.ENTER)
-    assert page.tab_to("#denom") <= 2
-    page.keys(*"$500", Keys.TAB, *"May 2010", Keys.TAB)
+    calc.serve()
+    calc.keys(Keys.TAB)
+    assert calc.has_keyboard(".skip"), "the first Tab offers to skip"
+    calc.keys(Keys.ENTER)
+    assert calc.tab_to("#denom") <= 2
+    calc.keys(*"$500", Keys.TAB, *"May 2010", Keys.TAB)
     for serial in ("C-12-EE", "C13EE"):
-        page.keys(*serial, Keys.ENTER)
-        page.is_told("1 bond added")
-        assert page.has_keyboard("#serial")
-    page.tab_to("#month")
-    page.run("document.activeElement.select()")
-    page.keys(*"2012-02", Keys.ENTER)
+        calc.keys(*serial, Keys.ENTER)
+        calc.is_told("1 bond added")
+        assert calc.has_keyboard("#serial")
+    calc.tab_to("#month")
+    calc.run("document.activeElement.select()")
+    calc.keys(*"2012-02", Keys.ENTER)
     # Two 500-dollar bonds of May 2010 in February 2012: 40 units of the published 1277 cents.
-    assert [row[2] for row in page.rows()] == ["500", "500"] and page.total()[9] == "510.80"
-    page.tab_to("#table [data-column='value']")
-    page.keys(Keys.ENTER)
-    assert page.has_keyboard("#table [data-column='value']")
-    assert page.all("#table th.value[aria-sort=ascending]") != []
-    page.tab_to("#table .open")
-    page.keys(Keys.DOWN)
+    assert [row[2] for row in calc.rows()] == ["500", "500"] and calc.total()[9] == "510.80"
+    calc.tab_to("#table [data-column='value']")
+    calc.keys(Keys.ENTER)
+    assert calc.has_keyboard("#table [data-column='value']")
+    assert calc.all("#table th.value[aria-sort=ascending]") != []
+    calc.tab_to("#table .open")
+    calc.keys(Keys.DOWN)
     second = "return document.activeElement.textContent"
-    assert page.run(second) == "C13EE"
-    page.keys(Keys.ENTER)
-    assert page.run("return document.querySelector('#bond').open")
-    assert "C13EE" in page.texts("#bond-title")[0]
-    page.keys(Keys.ESCAPE)
-    page.until(lambda: page.run(second) == "C13EE", "Escape gives the keyboard back")
-    page.tab_to("#save-inventory", back=True)
-    saved = page.downloads / "inventory.csv"
-    page.keys(Keys.ENTER)
+    assert calc.run(second) == "C13EE"
+    calc.keys(Keys.ENTER)
+    assert calc.run("return document.querySelector('#bond').open")
+    assert "C13EE" in calc.texts("#bond-title")[0]
+    calc.keys(Keys.ESCAPE)
+    calc.until(lambda: calc.run(second) == "C13EE", "Escape gives the keyboard back")
+    calc.tab_to("#save-inventory", back=True)
+    saved = calc.downloads / "inventory.csv"
+    calc.keys(Keys.ENTER)
     wanted = INVENTORY + b"C12EE,500,2010-05,1,\nC13EE,500,2010-05,1,\n"
-    page.until(lambda: saved.exists() and saved.read_bytes() == wanted, "the inventory is saved")
-    all_reached(page)
-    page.run("document.querySelector('#print').tabIndex = -1")
+    calc.until(lambda: saved.exists() and saved.read_bytes() == wanted, "the inventory is saved")
+    all_reached(calc)
+    calc.run("document.querySelector('#print').tabIndex = -1")
     with pytest.raises(AssertionError):  # control
-        all_reached(page)
+        all_reached(calc)

@@ -2,7 +2,6 @@
 
 from __future__ import annotations
 
-import csv
 import random
 import re
 import shutil
@@ -10,103 +9,52 @@ from pathlib import Path
 
 import pytest
 
-from tests.clients.calculator import Calculator, Changes, Site, script, variant, variants
-from tests.clients.calculator_data import (
-    INVENTORIES,
-    INVENTORY,
-    KNOWN,
-    PUBLISHED,
-    RATE_FILES,
-    SHIPPED,
-    Sheet,
-    Store,
-    answers,
-    inventory_file,
-    random_bonds,
-    sheets,
-)
+from tests.clients.calculator import NEEDS, Calculator, Changes, Site, script, variant, variants
+from tests.clients.calculator_data import INVENTORIES, INVENTORY, KNOWN, RATE_FILES, SHIPPED, Sheet
+from tests.clients.calculator_data import Store, answers, inventory_file, random_bonds, sheets
 from tests.conftest import TOP
 from tests.shared import exact
 
-pytestmark = [
-    pytest.mark.browser,
-    pytest.mark.needs("module:selenium", "file:clients/calculator/out/calculator.js"),
-]
-MANY_MONTHS = """
-    const field = document.querySelector("#month"), form = document.querySelector("#month-form");
-    return arguments[0].map((month) => {
-        field.value = month;
-        form.requestSubmit();
-        return [...document.querySelectorAll("#table tbody .value")].map((cell) => cell.textContent.replace(/[$,]/g, "")).join(" ");
-    });
-"""
+pytestmark = NEEDS
 
 
-@variants(a_cent_more=script("value: answer.valueCents }", "value: answer.valueCents + 1 }"))
-def test_published_values(calculator: Calculator, changes: Changes) -> None:
-    """Each of them at each denomination, by each module, as the table shows it."""
-    with open(PUBLISHED / "published-values.csv", newline="") as file:
-        units = {
-            (it["issued"], it["redeemed"]): int(it["unit_cents"]) for it in csv.DictReader(file)
-        }
-    issues = sorted({issued for issued, _ in units})
-    months = sorted({month for _, month in units})
-    bonds = [(issued, dollars) for issued in issues for dollars in exact.DOLLARS]
-    lines = [f"C{n}EE,{dollars},{issued},7,\n" for n, (issued, dollars) in enumerate(bonds, 1)]
-    calculator.serve(changes)
-    calculator.open_rates((PUBLISHED / "rates.csv").read_bytes())
-    assert "1,024 bonds added" in calculator.open_inventory(INVENTORY + "".join(lines).encode())
-    with calculator.holds_not(changes):
-        for bits in (64, 32):
-            calculator.choose_module(bits)
-            count = 0
-            for month, shown in zip(months, calculator.run(MANY_MONTHS, months), strict=True):
-                for (issued, dollars), text in zip(bonds, shown.split(), strict=True):
-                    unit = units.get((issued, month))
-                    if unit is not None:
-                        cents = unit * dollars // 25
-                        assert text == f"{cents // 100}.{cents % 100:02}", (issued, month, dollars)
-                        count += 1
-            assert count == 66048
-
-
-def same_sheets(calculator: Calculator, listed: list[Sheet]) -> None:
+def same_sheets(calc: Calculator, listed: list[Sheet]) -> None:
     for one in listed:
-        calculator.shows_only(one.rates, one.file, one.month)
-        assert calculator.sheet() == one.sheet
+        calc.shows_only(one.rates, one.file, one.month)
+        assert calc.sheet() == one.sheet
 
 
 @variants(
+    a_cent_more=script("value: answer.valueCents }", "value: answer.valueCents + 1 }"),
     extension_a_month_late=script("EXTENDED_FROM = 240", "EXTENDED_FROM = 241"),
     another_note=script('["", "NI", "NE", "P5", "MA"]', '["", "NI", "NE", "P6", "MA"]'),
 )
-def test_sheets(calculator: Calculator, program: Path, changes: Changes) -> None:
+def test_sheets(calc: Calculator, program: Path, changes: Changes) -> None:
     """Random inventories beside the command `sheet`, by each module; some also as the page saves them."""
     dice = random.Random(7)
     listed = sheets(program, dice, 40)
-    calculator.serve(changes)
-    with calculator.holds_not(changes):
+    with calc.serving(changes):
         for bits, part in ((64, listed[:20]), (32, listed[20:])):
-            calculator.choose_module(bits)
-            same_sheets(calculator, part)
-        saved = calculator.saved(f"sheet-{listed[-1].month}.txt", "#save-sheet")
+            calc.choose_module(bits)
+            same_sheets(calc, part)
+        saved = calc.saved(f"sheet-{listed[-1].month}.txt", "#save-sheet")
         assert saved == listed[-1].sheet
 
 
-def test_from_a_disk(calculator: Calculator, program: Path, dice: random.Random) -> None:
+def test_from_a_disk(calc: Calculator, program: Path, dice: random.Random) -> None:
     """The page opened from a file, by each module. Control: a page whose script a disk doesn't give."""
-    folder = variant(calculator.folder, ())
-    calculator.visit((folder / "index.html").as_uri())
+    folder = variant(calc.folder, ())
+    calc.visit((folder / "index.html").as_uri())
     for bits in (64, 32):
-        calculator.choose_module(bits)
-        same_sheets(calculator, sheets(program, dice, 4))
-    assert calculator.saved("inventory.csv", "#save-inventory").encode().startswith(INVENTORY)
+        calc.choose_module(bits)
+        same_sheets(calc, sheets(program, dice, 4))
+    assert calc.saved("inventory.csv", "#save-inventory").encode().startswith(INVENTORY)
     # Chromium loads no module from a disk. Firefox does, so there the script is missing.
     module, missing = 'src="calculator.js" type="module"', 'src="missing.js" defer'
-    other = module if calculator.name == "chromium" else missing
+    other = module if calc.name == "chromium" else missing
     changes = (("index.html", '<script src="calculator.js" defer>', f"<script {other}>"),)
-    with calculator.holds_not(changes):
-        calculator.visit((variant(calculator.folder, changes) / "index.html").as_uri())
+    with calc.holds_not(changes):
+        calc.visit((variant(calc.folder, changes) / "index.html").as_uri())
 
 
 def names(told: str, answer: str) -> bool:
@@ -126,21 +74,20 @@ def names(told: str, answer: str) -> bool:
 
 
 @variants(a_space_before_a_customer=script("/^[0-9]{1,9}$/", "/^ ?[0-9]{1,9}$/"))
-def test_refusals(calculator: Calculator, program: Path, changes: Changes) -> None:
+def test_refusals(calc: Calculator, program: Path, changes: Changes) -> None:
     """Each file that is refused or read, as the page tells it."""
-    calculator.serve(changes)
-    with calculator.holds_not(changes):
+    with calc.serving(changes):
         for _, file, answer in answers(program, "rates", RATE_FILES) if not changes else ():
-            calculator.remove_all()
-            assert names(calculator.open_rates(file), answer)
-        calculator.open_rates(SHIPPED)
+            calc.remove_all()
+            assert names(calc.open_rates(file), answer)
+        calc.open_rates(SHIPPED)
         columns = ("serial", "denom", "issued", "owner", "coowner")
         named = 0
         for name, file, answer in answers(program, "inventory", INVENTORIES):
-            calculator.remove_all()
-            told = calculator.open_inventory(file)
+            calc.remove_all()
+            told = calc.open_inventory(file)
             if not names(told, answer):
-                assert calculator.rows() == [], "nothing is added yet"
+                assert calc.rows() == [], "nothing is added yet"
                 continue
             named += 1
             if name.startswith("field ") and answer.startswith("file:"):
@@ -149,17 +96,18 @@ def test_refusals(calculator: Calculator, program: Path, changes: Changes) -> No
         assert named > len(INVENTORIES) / 2
 
 
-def test_round_trip(calculator: Calculator, program: Path, dice: random.Random) -> None:
+def test_round_trip(calc: Calculator, program: Path, dice: random.Random) -> None:
     """An inventory that the program exported, opened, saved and imported again: the same bonds."""
     store, bonds = Store(program, SHIPPED), random_bonds(dice, 300, months=KNOWN)
     assert store.enter("inventory", inventory_file(bonds, dice)) == '{"new":300,"same":0}\n'
     exported = store.run("export", "7")
-    calculator.serve()
-    assert "300 bonds added" in calculator.open_inventory(exported.encode())
-    saved = calculator.saved("inventory.csv", "#save-inventory")
+    calc.serve()
+    told, header = calc.open_inventory(exported.encode()), exported.splitlines()[0]
+    assert "300 bonds added" in told, f"the calculator's reader of {header!r} (files.js): {told}"
+    saved = calc.saved("inventory.csv", "#save-inventory")
     assert saved == exported
     assert store.enter("inventory", saved.encode()) == '{"new":0,"same":300}\n'
-    assert "0 bonds added. 300 bonds already there" in calculator.open_inventory(saved.encode())
+    assert "0 bonds added. 300 bonds already there" in calc.open_inventory(saved.encode())
     changed = saved.replace(bonds[0][0], "Y9876543210EE", 1)
     assert store.enter("inventory", changed.encode()) == '{"new":1,"same":299}\n', "control"
 
@@ -175,16 +123,16 @@ document.querySelector("#told").textContent = value.cents(50, "2010-05", "2015-0
 
 
 @pytest.mark.parametrize("month", ["2015-05", "2015-06"])
-def test_web_page_of_five_lines(calculator: Calculator, month: str) -> None:
+def test_web_page_of_five_lines(calc: Calculator, month: str) -> None:
     """ee-value.js in a web page, which loads the module beside it. Another month is the control."""
-    folder = calculator.folder / "five"
+    folder = calc.folder / "five"
     (folder / "out").mkdir(parents=True)
     shutil.copy(TOP / "clients/value/ee-value.js", folder)
     shutil.copy(TOP / "clients/value/out/ee_value.wasm", folder / "out")
     (folder / "index.html").write_text(FIVE_LINES.replace("2015-05", month))
     site = Site(folder)
-    calculator.sites.append(site)
-    calculator.open(site.url)
-    calculator.until(lambda: calculator.texts("#told")[0], "the page shows a value")
+    calc.sites.append(site)
+    calc.open(site.url)
+    calc.until(lambda: calc.texts("#told")[0], "the page shows a value")
     cents = exact.cents(50, 201005, int(month.replace("-", "")), 350, 350)
-    assert calculator.texts("#told") == [str(cents)]
+    assert calc.texts("#told") == [str(cents)]

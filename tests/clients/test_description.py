@@ -196,9 +196,8 @@ def test_refusals_of_nginx_are_described(closed: Site, what: str) -> None:
 def test_a_repeated_sending_is_described(closed: Site) -> None:
     headers = {**CLIENT, "X-Counter-Sending": "once"}
     closed.ask("anna", "POST", "/redeem", {}, headers)
-    reply = check_refusal(
-        closed.ask("anna", "POST", "/redeem", {}, headers), operation_of("redeem")
-    )
+    answer = closed.ask("anna", "POST", "/redeem", {}, headers)
+    reply = check_refusal(answer, operation_of("redeem"))
     assert (reply.status, reply.body) == (429, {"forbidden": "repeated"})
 
 
@@ -231,9 +230,7 @@ def test_numbers_say_their_width() -> None:
 
 
 def test_both_servers_are_there() -> None:
-    assert [server["url"].partition(":")[0] for server in DESCRIPTION["servers"]] == [
-        "https",
-        "http",
-    ]
+    schemes = [server["url"].partition(":")[0] for server in DESCRIPTION["servers"]]
+    assert schemes == ["https", "http"]
     assert DESCRIPTION["components"]["securitySchemes"]["certificate"]["type"] == "mutualTLS"
     assert DESCRIPTION["security"] == [{"certificate": []}, {}]

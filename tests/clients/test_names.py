@@ -2,8 +2,6 @@
 
 from __future__ import annotations
 
-import os
-import re
 import shlex
 import subprocess
 import sys
@@ -15,12 +13,12 @@ import pytest
 import ee_counter_client as client
 from ee_counter_client.command import ACTS, LOOK_UPS
 from ee_counter_client.testing import FakeCounter, Gate
+from tests.clients.desk import OWN
 from tests.conftest import TOP
 from tests.fence.conftest import Counter, MakeSite, counter, site
 
 __all__ = ["counter", "site"]
 
-SOURCES = TOP / "clients/python/src"
 #: What takes the seconds of a call.
 TIMED: dict[str, Callable[..., Any]] = {
     "Counter": lambda folder, **more: client.Counter(folder / "a.journal", desk=3, **more),
@@ -91,10 +89,7 @@ class Shell:
 
     def run(self, *words: str) -> subprocess.CompletedProcess[str]:
         line = [sys.executable, str(self.folder / "counter-client"), *words]
-        paths = {**os.environ, "PYTHONPATH": str(SOURCES), "COLUMNS": "200"}
-        return subprocess.run(
-            line, cwd=self.folder, env=paths, capture_output=True, text=True, timeout=60
-        )
+        return subprocess.run(line, cwd=self.folder, env=OWN, capture_output=True, text=True)
 
     def examples(self, *words: str) -> list[list[str]]:
         """The words of the examples in a help."""
@@ -139,19 +134,3 @@ def test_an_example_of_a_day_that_is_over_is_found(shell: Shell) -> None:
     assert "--even-so" in line
     line.remove("--even-so")
     assert shell.run("--desk", "3", *line).returncode == 2
-
-
-def test_the_command_has_one_name() -> None:
-    """The wheel, the package and the pages call it counter-client."""
-    script = (TOP / "clients/python/pyproject.toml").read_text()
-    assert re.findall(r"^(\S+) = .*command:main", script, re.M) == ["counter-client"]
-    words = [
-        "git",
-        "grep",
-        "-nw",
-        "ee-counter",
-        "--",
-        ":!CHANGELOG.md",
-        ":!tests/clients/test_names.py",
-    ]
-    assert subprocess.run(words, cwd=TOP, capture_output=True, text=True).stdout == ""

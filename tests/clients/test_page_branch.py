@@ -88,9 +88,7 @@ def test_four_desks(bank: Bank, new_page: NewPage) -> None:
     nginx, desks = branch(bank, 1200)
     page = new_page(day=DAY)
     page.waits_for("Counting the tickets:", "#all-sum")
-    page.show_sheet(7)
-    page.choose("L7EE")
-    page.pay()
+    page.sends(7, "L7EE")
     page.refuses("is paid.")
     page.go("day")
     page.until(

@@ -142,7 +142,7 @@ def test_usual_day(bank: Bank, new_page: NewPage) -> None:
     assert page.journal()["closed"] == "2012-02-10", "what another desk closed is remembered"
     page.write_journal("({ closed, ...earlier }) => earlier")
     page.reload()
-    asks(page, "2012-02-13", f"3 days after {last}", TWICE)
+    asks(page, "2012-02-13", f"3 days after {last}", ONCE)
     sent = len(bank.gate.bodies)
     with bank.gate.changes("/batch/", lambda text: b""):
         page.type("#open-date", "2012-02-14")
@@ -155,8 +155,11 @@ def test_usual_day(bank: Bank, new_page: NewPage) -> None:
     ), "no day is opened blindly"
 
 
+CLOCK = "The server's clock says"
+
+
 def test_far_from_today(bank: Bank, new_page: NewPage) -> None:
-    """A day soon after the last closed one, and more than seven days from today by the server's clock, which isn't the machine's."""
+    """A day soon after the last closed one, and more than seven days from today by the server's clock, which isn't the machine's; and a clock from before the page's release."""
     bank.begin([7], day=None)
     bank.opens("2012-02-03")
     bank.closes("2012-02-03")
@@ -166,12 +169,13 @@ def test_far_from_today(bank: Bank, new_page: NewPage) -> None:
         ("Sun, 29 Jan 2012", "8 days after today, Sunday, January 29, 2012.", TWICE),
         ("Sun, 06 Feb 2011", "365 days after today, Sunday, February 6, 2011.", TWICE),
         ("Mon, 13 Feb 2012", "Friday, February 3, 2012.", ONCE),
-        ("Mon, 30 Jan 2012", "Friday, February 3, 2012.", ONCE),
+        ("Wed, 01 Feb 2012", "Friday, February 3, 2012.", ONCE),
+        ("Tue, 31 Jan 2012", f"{CLOCK} January 31, 2012, which can't be right", TWICE),
     ):
         page.run(SERVER_DATE, f"{today} 14:00:00 GMT")
         asked = page.ask_to_open(DAY)
         assert words in asked and page.text("#confirm-yes") == times
-        assert ("today" in asked) == (times == TWICE)
+        assert ("today" in asked or CLOCK in asked) == (times == TWICE)
         if times == TWICE:
             page.press("#confirm-yes")
             page.until(lambda: "Is the year 2012 right?" in page.question(), "it asks again")
@@ -218,7 +222,7 @@ DAY_BUTTONS = "return [...document.querySelectorAll('#day button')].filter((one)
 
 
 def test_supervisors_acts(bank: Bank, new_page: NewPage) -> None:
-    """What a teller may not do isn't the main button; the page learns the groups from nginx, and nginx still decides."""
+    """What a user may not do isn't the main button, and can't be pressed; the page learns the groups from nginx, and nginx still decides."""
     bank.begin([7], day=None)
     page = new_page()
     page.go("day")
@@ -230,6 +234,8 @@ def test_supervisors_acts(bank: Bank, new_page: NewPage) -> None:
     joins = [["Join the day", True], ["Open the day", False]]
     page.until(lambda: page.run(DAY_BUTTONS) == joins, "to join it is a teller's")
     assert "This user may not open a day: ask a supervisor." in page.text("#open-day")
+    assert not page.find("#open-day button").is_enabled()
+    page.run("document.querySelector('#open-day button').disabled = false")  # control
     page.open_day(DAY)
     page.refuses("This user may not open a day. Nothing was done.")
     assert bank.gate.posts() == [], "nginx refuses it all the same"
@@ -238,6 +244,18 @@ def test_supervisors_acts(bank: Bank, new_page: NewPage) -> None:
     assert "This user may not close the day: ask a supervisor." in page.text("#close-day")
     plain = [["Close the day", False], ["Choose another day", False]]
     assert page.run(DAY_BUTTONS)[-2:] == plain
+    assert not page.find("#close-day button").is_enabled()
+    page.show_sheet(7)
+    page.choose("L7EE")
+    assert page.find("#pay-button").is_enabled() and not page.is_shown("#pay-barred")
+    bank.nginx.regroup(USER, "supervisor")
+    page.reload()
+    page.show_sheet(7)
+    page.choose("L7EE")
+    page.waits_for("This user may not pay bonds: ask a teller.", "#pay-barred")
+    assert not page.find("#pay-button").is_enabled()
+    page.go("day")
+    assert page.find("#close-day button").is_enabled()
 
 
 # ---- which sums

@@ -54,8 +54,7 @@ def test_interrupted_days(bank: Bank, new_page: NewPage, reloads: bool) -> None:
         day, owner, words = f"2012-02-{1 + place:02}", 1000 + place, f"February {1 + place}, 2012"
         interrupted(bank, page, fault, reloads, lambda: page.open_day(day), f"{words} is open.")
         bank.server.kill()
-        page.show_sheet(owner)
-        page.choose(f"K{owner}EE", f"L{owner}EE", f"M{owner}EE")
+        page.chooses(owner, f"K{owner}EE", f"L{owner}EE", f"M{owner}EE")
         interrupted(bank, page, fault, reloads, page.pay, f"Ticket {place + 1}")
         page.is_paid(place + 1, SUM)
         bank.server.kill()
@@ -70,10 +69,8 @@ def test_interrupted_days(bank: Bank, new_page: NewPage, reloads: bool) -> None:
 
 def test_browser_killed(bank: Bank, page: Page, new_page: NewPage) -> None:
     """The browser's process is killed with a request open, as by a loss of power, and started again: it sends its request by itself."""
-    page.show_sheet(7)
-    page.choose("L7EE")
     bank.gate.faults = ["lost answer", *["lost request"] * 20]
-    page.pay()
+    page.sends(7, "L7EE")
     page.waits_for("no reply yet", "#progress")
     page.engine.kill()
     bank.gate.faults = []
@@ -88,8 +85,7 @@ def test_two_desks(bank: Bank, page: Page, new_page: NewPage) -> None:
     """Two pages on two desks, paying the same bond at once; then one of them while the other's answer is lost."""
     pages = [page, new_page(6, day=DAY)]
     for one in pages:
-        one.show_sheet(7)
-        one.choose("L7EE")
+        one.chooses(7, "L7EE")
     paying = [threading.Thread(target=one.pay) for one in pages]
     for thread in paying:
         thread.start()
@@ -105,8 +101,7 @@ def test_two_desks(bank: Bank, page: Page, new_page: NewPage) -> None:
     other.press("#notices button")
     other.is_paid(1, VALUES["L"])
     for one in pages:
-        one.show_sheet(9)
-        one.choose("K9EE")
+        one.chooses(9, "K9EE")
     first, second = pages
     bank.gate.faults = ["lost answer", "lost request"]
     first.pay()
@@ -124,10 +119,8 @@ def test_numbers_used(bank: Bank, page: Page) -> None:
     for used in range(number, number + 10):
         words = {"desk": 5, "number": used, "day": DAY, "payee": 7, "serials": ["A1EE"]}
         bank.expect(409, "/redeem", words)
-    page.show_sheet(7)
-    page.choose("L7EE")
     bank.gate.faults = ["lost answer", "lost request"]
-    page.pay()
+    page.sends(7, "L7EE")
     page.waits_for("no reply yet", "#progress")
     page.reload()
     page.is_paid(1, VALUES["L"])
@@ -176,10 +169,8 @@ def test_faults_on_resend(bank: Bank, page: Page) -> None:
     rounds = [*(("lost answer", fault) for fault in RESENT), ("no certificate", "no certificate")]
     for ticket, (first, fault) in enumerate(rounds, 1):
         sent = len(bank.gate.bodies)
-        page.show_sheet(60)
-        page.choose(f"S{ticket}EE")
         bank.gate.faults = [first, fault, fault]
-        page.pay()
+        page.sends(60, f"S{ticket}EE")
         page.waits_for(RESENT[fault], "#progress")
         page.waits_for("sent again in 2 seconds", "#progress")
         may = "no reply yet. Nothing may be paid out yet. The payment may have been made already."
@@ -199,8 +190,7 @@ def test_first_sendings(bank: Bank, page: Page) -> None:
         ("not json", "The counter can't read the request: it isn't JSON.", "BadJson, code 64."),
         ("forbidden", "This user may not pay bonds. Nothing was done.", ""),
     ):
-        page.show_sheet(7)
-        page.choose("L7EE")
+        page.chooses(7, "L7EE")
         sent = len(bank.gate.bodies)
         bank.gate.faults = [fault]
         page.pay()
@@ -233,8 +223,7 @@ def reset_while_paying(
     relay = Relay(nginx.port)
     bank.port, bank.gate.cut = relay.port, relay.cut
     page = page_at(desk, day=DAY)
-    page.show_sheet(7)
-    page.choose(serial)
+    page.chooses(7, serial)
     bank.gate.bodies.clear()
     bank.gate.faults = ["lost answer", *then]
     page.pay()
@@ -275,8 +264,7 @@ def test_repeats_passed_on_are_found(bank: Bank, new_page: NewPage) -> None:
 def test_revoked_while_paying(bank: Bank, page: Page, new_page: NewPage) -> None:
     """The user's certificate is revoked while a teller works: the page says so, and keeps the request and what was typed. With another certificate it is paid, once."""
     page.waits_for(f"Teller {USER}", "#user")
-    page.show_sheet(7)
-    page.choose("L7EE")
+    page.chooses(7, "L7EE")
     page.type("#serial", "K-9")
     bank.nginx.staff.dismiss(USER)
     bank.nginx.reload()
@@ -288,6 +276,7 @@ def test_revoked_while_paying(bank: Bank, page: Page, new_page: NewPage) -> None
     assert page.box("L7EE").is_selected()
     still = page.journal()["open"]
     assert still["fields"]["serials"] == ["L7EE"] and still["sent"] > 1
+    page.press("#change")
     page.press("#ask-sheet button")
     page.waits_for(NO_CERTIFICATE, "#notices")
     assert "Nothing was done." in page.text("#notices")
@@ -310,32 +299,29 @@ def held(event: threading.Event, text: bytes) -> bytes:
 
 def test_silent_look_up(bank: Bank, page: Page) -> None:
     """A look-up without an answer can be ended, and leaves the sheet that is shown, with what is chosen on it. One that was overtaken wipes nothing."""
-    page.show_sheet(7)
-    page.choose("L7EE", "K7EE")
+    page.chooses(7, "L7EE", "K7EE")
     event = threading.Event()
     with bank.gate.changes("/inventory/9/", lambda text: held(event, text)):
         page.show_sheet_begun(9)
         page.until(lambda: page.is_shown("#asking"), "the page says that it asks")
-        assert "Unpaid bonds of customer 7" in page.text("#sheet")
+        assert "customer 7 " in page.caption()
         page.press("#stop-asking")
         page.until(lambda: not page.is_shown("#asking"), "the look-up is ended")
         page.shows_sum(2, VALUES["L"] + VALUES["K"])
-        assert "Unpaid bonds of customer 7" in page.text("#sheet") and page.value("#payee") == "7"
+        assert "customer 7 " in page.caption() and page.value("#payee") == "7"
         page.show_sheet_begun(9)
         page.until(lambda: page.is_shown("#asking"), "the page asks again")
-        page.show_sheet(11)
-        page.choose("L11EE")
+        page.chooses(11, "L11EE")
         event.set()
         page.sleep(2)
         page.shows_sum(1, VALUES["L"])
-        assert "Unpaid bonds of customer 11" in page.text("#sheet")
+        assert "customer 11 " in page.caption()
     page.show_sheet(9)
 
 
 def test_chosen_twice(bank: Bank, page: Page) -> None:
     """A bond is chosen once, however it is chosen: on the sheet, added, added again while the first look-up is under way, and on the sheet that comes later."""
-    page.show_sheet(7)
-    page.choose("L7EE")
+    page.chooses(7, "L7EE")
     page.ask_to_add(7, "l-7-ee")
     page.waits_for("Bond L7EE is already chosen.", "#notices")
     page.add(9, "K9EE")
@@ -354,8 +340,7 @@ def test_chosen_twice(bank: Bank, page: Page) -> None:
     page.press("#confirm-no")
     others = page.text("#others")
     assert "K7EE" not in others and others.count("K9EE:") + others.count("K9EE, owner") == 1
-    page.show_sheet(9)
-    page.choose("K9EE")
+    page.chooses(9, "K9EE")
     page.shows_sum(1, VALUES["K"])
     page.pay(8)
     page.is_paid(1, VALUES["K"])

@@ -13,6 +13,19 @@ from tests.clients.conftest import NewPage
 
 pytest.importorskip("selenium")
 from tests.browser.browser import Keys
+from tests.browser.measures import (
+    box,
+    broken_cells,
+    broken_words,
+    covered,
+    first_cells,
+    in_window,
+    lines_of_a_bond,
+    meeting_cells,
+    scroll,
+    unseen_acts,
+    whole_bonds,
+)
 from tests.browser.page import VALUES, Page, dollars
 from tests.browser.rules import BREAKS, HELPERS, RULES, broken, least_contrast
 
@@ -42,8 +55,7 @@ def test_rules(bank: Bank, new_page: NewPage) -> None:
         page.go(view)
         assert broken(page) == {}, "without a day"
     page.joins()
-    page.show_sheet(7)
-    page.choose("L7EE")
+    page.chooses(7, "L7EE")
     page.add(9, "K9EE")
     for view in VIEWS:
         page.go(view)
@@ -53,7 +65,7 @@ def test_rules(bank: Bank, new_page: NewPage) -> None:
     page.waits_for("Nothing can be chosen here", "#sheet")
     assert broken(page) == {}, "another month"
     page.press("#sheet button")
-    page.waits_for("Unpaid bonds of customer 7 in February 2012", "#sheet")
+    page.waits_for("Customer 7 · February 2012", "#folded")
     page.ask_to_add("x", "y")
     page.until(lambda: len(page.all(".error")) == 2, "both fields are marked")
     assert broken(page) == {}, "fields that are marked"
@@ -62,7 +74,7 @@ def test_rules(bank: Bank, new_page: NewPage) -> None:
     assert broken(page) == {}, "the question"
     dialog = page.find("#confirm")
     assert dialog.accessible_name == page.text("#confirm-title")
-    assert dialog.get_attribute("aria-describedby") == "confirm-text"
+    assert dialog.get_attribute("aria-describedby") == "confirm-text confirm-scanned"
     page.press("#confirm-no")
     bank.gate.faults = ["lost request"] * 3
     page.pay(8)
@@ -80,6 +92,7 @@ def test_rules(bank: Bank, new_page: NewPage) -> None:
             "return ['table', 'rowgroup', 'row', 'columnheader', 'rowheader', 'cell'].map((role) => document.querySelectorAll(`#sheet [role=${role}]`).length)"
         )
         assert roles == [1, 3, 5, 11, 4, 40], "a table with headings for a screen reader"
+    page.press("#change")
     for width, least in ((320, 2), (1100, 3)):
         page.resize(width, 820)
         page.tab_to("#month")
@@ -107,11 +120,6 @@ def test_each_broken_rule_is_found(new_page: NewPage) -> None:
 
 # ---- windows
 
-FIRST = """
-    const cells = [...document.querySelectorAll("#sheet tbody tr:first-child > *")].map((e) => [e.className.replace("money ", ""), e.getBoundingClientRect()]);
-    const order = cells.filter(([, box]) => box.width > 0).sort(([, x], [, y]) => Math.round(x.top - y.top) || x.left - y.left).map(([name]) => name);
-    return order.slice(0, 3);
-"""
 TAP = "const cell = document.querySelector(`input[data-serial='${arguments[0]}']`).closest('tr').querySelector('.of-issued'); cell.scrollIntoView({ block: 'center' }); return cell;"
 
 
@@ -120,14 +128,13 @@ def test_narrow_window(bank: Bank, page: Page) -> None:
     bank.registers(TOO_YOUNG)
     for size in ((320, 800), (640, 450), (820, 1100)):
         page.resize(*size)
-        page.show_sheet(7)
-        page.choose("L7EE")
+        page.chooses(7, "L7EE")
         for view in VIEWS:
             page.go(view)
             assert broken(page) == {}, (size, view)
     page.resize(320, 640)
     page.go("pay")
-    assert set(page.run(FIRST)) == {"of-box", "of-serial", "of-value"}, "a card begins with these"
+    assert first_cells(page) == {"of-box", "of-serial", "of-value"}, "a card begins with these"
     for serial, is_chosen in (("K7EE", True), ("N7EE", False)):
         page.run(TAP, serial).click()
         assert page.box(serial).is_selected() == is_chosen, "a card is tapped as a whole"
@@ -139,30 +146,18 @@ def test_narrow_window(bank: Bank, page: Page) -> None:
     assert broken(page) == {}, "the ticket"
 
 
-BOX = """
-    const box = document.querySelector(arguments[0]).getBoundingClientRect();
-    return [box.top, box.bottom, box.left, box.right, innerHeight, innerWidth];
-"""
-
-
-def in_window(page: Page, selector: str) -> bool:
-    top, bottom, left, right, height, width = page.run(BOX, selector)
-    return bool(0 <= top < bottom <= height + 1 and 0 <= left < right <= width + 1)
-
-
 @pytest.mark.parametrize("count", [3, 60])
 def test_notices_in_sight(bank: Bank, page: Page, count: int) -> None:
     """At 1366 x 768, with the teller at the button Pay, on a short sheet and on a long one."""
     page.resize(1366, 768)
     bank.registers_many(60, 60)
     owner, serial = (7, "L7EE") if count == 3 else (60, "S60EE")
-    page.show_sheet(owner)
-    page.choose(serial)
+    page.chooses(owner, serial)
     bank.gate.faults = ["lost request"] * 3
     page.pay(99)
     page.waits_for("sent again in 2 seconds", "#progress")
     assert in_window(page, "#progress") and page.focused() == "progress-text"
-    top, bottom, *_ = page.run(BOX, "#pay-bonds button")
+    top, bottom, *_ = box(page, "#pay-bonds button")
     assert top < 768 and bottom > 0, "nothing was scrolled away"
     page.refuses("neither the owner nor the coowner")
     page.takes_keyboard(".notice.refused")
@@ -170,48 +165,20 @@ def test_notices_in_sight(bank: Bank, page: Page, count: int) -> None:
     page.run("scrollTo(0, document.documentElement.scrollHeight)")
     assert in_window(page, ".notice")
     page.run("document.querySelector('#told').style.position = 'static'")
-    assert not in_window(page, ".notice"), "control: if it didn't stick"
+    assert count == 3 or not in_window(page, ".notice"), "control: if it didn't stick"
     page.run("document.querySelector('#told').style.position = ''")
     page.press(".notice .close")
     assert page.all(".notice") == [] and page.has_keyboard("#pay-bonds button")
 
 
-COVERED = """
-    const at = document.activeElement;
-    const box = at.getBoundingClientRect();
-    const covers = ([selector, edge]) => {
-        const over = document.querySelector(selector);
-        const { top, bottom, height } = over.getBoundingClientRect();
-        return height > 0 && !over.contains(at) && (edge === "top" ? box.top < bottom - 1 && box.bottom > top + 1 : box.bottom > top + 1 && box.top < bottom - 1);
-    };
-    const room = innerHeight - document.querySelector("#told").offsetHeight - document.querySelector("#pay-bonds").offsetHeight;
-    return at !== document.body && box.height < room && [["#told", "top"], ["#pay-bonds", "bottom"]].some(covers) ? at.outerHTML.slice(0, 200) : null;
-"""
-
-
-def covered(page: Page) -> list[str]:
-    """What is covered of what has the keyboard, on a way by Tab through the whole view and back."""
-    found = []
-    for back in (False, True):
-        for _ in range(20):
-            page.tab(back)
-            if page.run(COVERED):
-                # A browser may scroll a little later.
-                page.sleep(0.5)
-                found.append(page.run(COVERED))
-    return [one for one in found if one]
-
-
 def test_notices_in_a_narrow_window(page: Page) -> None:
     """320 pixels: a notice takes half of the window at most, hides nothing that has the keyboard, and can be closed."""
     page.resize(320, 640)
-    page.show_sheet(7)
-    page.choose("L7EE")
-    page.pay(99)
+    page.sends(7, "L7EE", payee=99)
     page.refuses("neither the owner nor the coowner")
     page.takes_keyboard(".notice.refused")
     assert in_window(page, "#told")
-    top, bottom, *_ = page.run(BOX, "#told")
+    top, bottom, *_ = box(page, "#told")
     assert bottom - top <= 0.5 * 640 + 1
     assert page.run("return document.documentElement.scrollWidth") <= 320
     assert covered(page) == []
@@ -226,7 +193,6 @@ def test_notices_in_a_narrow_window(page: Page) -> None:
 # ---- the sum
 
 SIZES = "const size = (id) => parseFloat(getComputedStyle(document.querySelector(id)).fontSize); return [size('#sum'), size('#sheet td'), size('#chosen')]"
-SCROLL = "scrollTo(0, arguments[0] * document.documentElement.scrollHeight)"
 
 
 def test_sum_beside_pay(bank: Bank, page: Page) -> None:
@@ -234,10 +200,9 @@ def test_sum_beside_pay(bank: Bank, page: Page) -> None:
     bank.registers_many(60, 60)
     for size in ((1280, 800), (820, 1100), (360, 740)):
         page.resize(*size)
-        page.show_sheet(60)
-        page.choose("S1EE", "S60EE")
+        page.chooses(60, "S1EE", "S60EE")
         for part in (0, 0.3, 0.6, 1):
-            page.run(SCROLL, part)
+            scroll(page, part)
             assert in_window(page, "#sum") and in_window(page, "#pay-button"), (size, part)
     page.run("scrollTo(0, 0); document.querySelector('#pay-bonds').style.position = 'static'")
     assert not in_window(page, "#pay-button"), "control: if the bar didn't stick"
@@ -259,36 +224,11 @@ WIDEST = {
     **{"price": "$5,000.00", "interest": "$16,345.60", "rate": "20.00%", "next": "03/2012"},
     "final": "10/2040",
 }
-BROKEN_CELLS = """
-    const cell = (name) => document.querySelector(`#sheet tbody .of-${name}`);
-    const lines = (name) => {
-      const range = document.createRange();
-      range.selectNodeContents(cell(name));
-      return new Set([...range.getClientRects()].map((place) => Math.round(place.bottom))).size;
-    };
-    for (const [name, text] of Object.entries(arguments[0])) cell(name).textContent = text;
-    const broken = Object.keys(arguments[0]).filter((name) => lines(name) > 1);
-    return document.documentElement.scrollWidth > innerWidth ? [...broken, "window"] : broken;
-"""
-#: The cells of the first bond of a sheet whose texts lie over one another, or less than three pixels apart in a line.
-OVER = """
-    const cells = [...document.querySelector(".sheet tbody tr").cells].filter((cell) => cell.checkVisibility() && cell.textContent !== "");
-    const boxes = cells.map((cell) => {
-        const range = document.createRange();
-        range.selectNodeContents(cell);
-        return [...range.getClientRects()];
-    });
-    const meet = (one, other) => one.left < other.right + 3 && other.left < one.right + 3 && one.top < other.bottom && other.top < one.bottom;
-    const pairs = cells.flatMap((cell, at) => cells.slice(at + 1).map((other, after) => [cell, other, boxes[at].some((one) => boxes[at + 1 + after].some((two) => meet(one, two)))]));
-    return pairs.filter(([, , do_meet]) => do_meet).map(([one, other]) => `${one.textContent} ${other.textContent}`);
-"""
 #: 683 by 384 is a window of 1366 by 768 at 200 %, and 641 the narrowest whose cards have five columns.
 CARDS = (
     *((1440, 900), (1088, 768), (1024, 768), (768, 1024), (683, 384), (641, 900), (640, 900)),
     (360, 740),
 )
-#: The lines of the first bond in a question.
-LINES = "return new Set([...document.querySelectorAll('#confirm .bonds li:first-child span')].flatMap((one) => { const range = document.createRange(); range.selectNodeContents(one); return [...range.getClientRects()].map((box) => Math.round(box.top)); })).size"
 OWNER = 900_000_001
 LARGE = [bond(f"Z{9_999_999_900 + place}EE", 10000, "2005-05", OWNER) for place in range(1, 61)]
 
@@ -296,66 +236,72 @@ LARGE = [bond(f"Z{9_999_999_900 + place}EE", 10000, "2005-05", OWNER) for place 
 def test_widest_texts(bank: Bank, page: Page) -> None:
     """No text of the widest bond is broken, as a table and as a card, and nothing is beside the window; none lies over another; and a question has a line for every bond."""
     page.show_sheet(7)
-    for width in (1280, 1100, 1080, 948, 820, 360):
-        page.resize(width, 800)
-        assert page.run(BROKEN_CELLS, WIDEST) == [], width
+    for _ in range(2):
+        for width in (1280, 1100, 1080, 948, 820, 360):
+            page.resize(width, 800)
+            assert broken_cells(page, WIDEST) == [], width
+        page.press("#all-columns")
+    page.press("#all-columns")
     page.resize(1100, 800)
     loose = "{ overflowWrap: 'anywhere', width: '50rem' }"
     page.run(f"Object.assign(document.querySelector('table.sheet').style, {loose})")
-    assert page.run(BROKEN_CELLS, WIDEST) != [], "control: if words could be broken anywhere"
+    assert broken_cells(page, WIDEST) != [], "control: if words could be broken anywhere"
     bank.registers(*LARGE)
     page.show_sheet(OWNER)
-    for width, height in CARDS:
+    for width, height in (*CARDS, *CARDS):
         page.resize(width, height)
         page.sleep(0.3)
-        assert page.run(OVER) == [], width
+        assert meeting_cells(page) == [], width
+        if (width, height) == CARDS[-1]:
+            page.press("#all-columns")
     page.resize(683, 384)
-    equal = "auto repeat(4, 1fr)"
+    equal = "auto repeat(4, 6rem)"
     page.run(
         f"document.querySelectorAll('.sheet tbody tr').forEach((row) => {{ row.style.gridTemplateColumns = '{equal}'; }})"
     )
-    assert page.run(OVER) != [], "control: with five equal columns"
+    assert meeting_cells(page) != [], "control: with narrower columns"
     page.resize(1440, 900)
     page.press("#choose-all")
     page.ask_to_pay()
-    assert page.run(LINES) == 1
+    assert lines_of_a_bond(page) == 1
     page.run(
         "document.querySelector('#confirm .bonds li:first-child').style.gridTemplateColumns = '8.5rem 4.5rem 3rem auto'"
     )
-    assert page.run(LINES) > 1, "control: if the month has less room"
+    assert lines_of_a_bond(page) > 1, "control: if the month has less room"
+
+
+#: By the window's size, 720 x 450 being 1440 x 900 at 200 %: the least number of whole bonds in view as a sheet is shown.
+ROOM = {(1366, 768): 12, (1024, 768): 6, (720, 450): 6, (360, 740): 3}
+
+
+def test_room_for_bonds(bank: Bank, page: Page) -> None:
+    """The form folds into one line, and so does the bar of Pay: the widest bonds have the room. The columns that a payment doesn't need come on demand."""
+    bank.registers(*LARGE)
+    for size, least in ROOM.items():
+        page.resize(*size)
+        page.show_sheet(OWNER)
+        assert page.focused() == "in-hand" and in_window(page, "#in-hand")
+        found = whole_bonds(page)
+        page.scan("Z9999999901EE")
+        page.waits_for("1 bond", "#chosen")
+        assert min(found, whole_bonds(page)) >= least, (size, found)
+        bar = page.run("return document.querySelector('#pay-bonds').offsetHeight")
+        assert bar < 70 or size[0] < 640, (size, bar)
+    page.resize(1366, 768)
+    assert page.text("#facts").startswith(
+        f"Customer {OWNER} · February 2012 · 60 of 60 can be paid: $"
+    )
+    headings = "return [...document.querySelectorAll('#sheet thead th')].filter((one) => one.checkVisibility()).length"
+    assert page.run(headings) == 6
+    page.press("#all-columns")
+    assert page.run(headings) == 11
+    page.press("#change")
+    assert page.focused() == "customer" and whole_bonds(page) < 12, "control: with the whole form"
 
 
 # ---- questions and notices
 
-WIDTHS = ((1440, 900), (1024, 768), (768, 1024), (360, 740))
-#: The words within an element that stand on more than one line. A hyphen may end a line, and so may any letter of the proxy's log entry.
-BROKEN = r"""
-    const broken = [];
-    for (const root of document.querySelectorAll(arguments[0])) {
-        const walk = document.createTreeWalker(root, NodeFilter.SHOW_TEXT);
-        while (walk.nextNode()) {
-            const at = walk.currentNode;
-            if (!at.parentElement.checkVisibility() || at.parentElement.closest(".unseen, .printed, .code") !== null) continue;
-            for (const word of at.data.matchAll(/[^\s-]{2,}/g)) {
-                const range = document.createRange();
-                range.setStart(at, word.index);
-                range.setEnd(at, word.index + word[0].length);
-                if (new Set([...range.getClientRects()].filter((box) => box.width > 0).map((box) => Math.round(box.top))).size > 1) broken.push(word[0]);
-            }
-        }
-    }
-    return broken;
-"""
-#: The buttons and links within an element that aren't in sight, and how many are there.
-UNSEEN = """
-    const acts = [...document.querySelectorAll(arguments[0])].flatMap((root) => [...root.querySelectorAll("button, a")]).filter((one) => one.checkVisibility());
-    const is_seen = (one) => {
-        const { left, right, top, bottom } = one.getBoundingClientRect();
-        const at = document.elementFromPoint((left + right) / 2, (top + bottom) / 2);
-        return top >= 0 && left >= 0 && bottom <= innerHeight && right <= innerWidth && (at === one || one.contains(at));
-    };
-    return [acts.filter((one) => !is_seen(one)).map((one) => one.textContent), acts.length];
-"""
+WIDTHS = ((1440, 900), (1024, 768), (768, 1024), (360, 740), (320, 640))
 #: A pause of eight seconds ends by its button alone, so each width can be looked at, however slow the test is.
 HELD = "const real = window.setTimeout; window.setTimeout = (act, wait, ...more) => (wait === 8000 ? 0 : real(act, wait, ...more));"
 
@@ -365,8 +311,8 @@ def seen(page: Page, root: str, least: int | None, pictures: Path | None, name: 
     for width, height in WIDTHS:
         page.resize(width, height)
         page.sleep(0.3)
-        assert page.run(BROKEN, root) == [], (name, width)
-        hidden, count = page.run(UNSEEN, root)
+        assert broken_words(page, root) == [], (name, width)
+        hidden, count = unseen_acts(page, root)
         assert least is None or (hidden == [] and count >= least), (name, width)
         if pictures is not None:
             page.picture(pictures / f"{name}_{width}-{page.name}.png")
@@ -400,31 +346,42 @@ def test_questions(bank: Bank, page: Page, pictures: Path | None) -> None:
     page.resize(360, 740)
     style = "document.querySelector(arguments[0]).style.cssText = arguments[1]"
     page.run(style, "#confirm h2", "width: 4rem; word-break: break-all")
-    assert page.run(BROKEN, "#confirm") != [], "control: words that are broken are found"
+    assert broken_words(page, "#confirm") != [], "control: words that are broken are found"
     page.run(style, "#confirm h2", "")
     page.run(style, "#confirm .buttons", "position: fixed; top: 200vh")
-    assert page.run(UNSEEN, "#confirm")[0] != [], "control: and so are buttons out of sight"
+    assert unseen_acts(page, "#confirm")[0] != [], "control: and so are buttons out of sight"
     page.run(style, "#confirm .buttons", "")
-    page.press("#confirm-no")
     page.resize(1100, 820)
-    page.show_sheet(7)
-    page.choose("L7EE", "K7EE")
+    page.press("#confirm-yes")
+    page.waits_for("Ticket 1", "#ticket h2")
+    page.settled()
+    seen(page, "#ticket .paper", None, pictures, "large_ticket")
+    page.resize(320, 640)
+    page.run(style, "#ticket .receipt tbody tr", "grid-template-columns: 10rem 10rem")
+    assert broken_words(page, "#ticket .paper") != [], "control: and so is a sum that leaves"
+    page.go("walkin")
+    page.add_walk_in("X9999999997EE", "10,000", "05/2005")
+    seen(page, "#walkin-bonds", None, pictures, "large_walk_in")
+    page.resize(320, 640)
+    assert broken(page) == {}, "the form is as wide as the window"
+    page.chooses(7, "L7EE", "K7EE")
     page.ask_to_pay()
     both = dollars(L + K)
-    said = f"2 bonds, on Monday, February 6, 2012: L7EE $50 issued 11/2010 {dollars(L)} K7EE $75 issued 10/2010 {dollars(K)}"
+    said = f"2 bonds on Monday, February 6, 2012, {both} in all: L7EE $50 issued 11/2010 {dollars(L)} K7EE $75 issued 10/2010 {dollars(K)}"
     buttons = ["Back", f"Pay {both} to customer 7"]
     given(page, f"Pay {both} to customer 7?", [said], buttons, 2)
     page.press("#confirm-yes")
-    page.is_paid(1, L, K)
+    page.is_paid(2, L, K)
     seen(page, "#ticket", None, pictures, "ticket")
     page.go("day")
     main, plain = "rgb(23, 66, 107)", "rgb(255, 255, 255)"
     assert page.run(COLORS) == [main, plain], "to pay is the main act of an open day"
     page.ask_to_close()
     seen(page, "#confirm", 2, pictures, "close")
-    said = f"Paid so far, at all desks: 1 ticket, 2 bonds, {both}. No desk can pay on it any more, and it can't be opened again."
-    buttons = ["Back", f"Close the day with {both}"]
-    given(page, f"Close Monday, February 6, 2012 with {both}?", [said], buttons)
+    total = page.text("#confirm-yes").removeprefix("Close the day with ")
+    said = f"Paid so far, at all desks: 2 tickets, 62 bonds, {total}. No desk can pay on it any more, and it can't be opened again."
+    buttons = ["Back", f"Close the day with {total}"]
+    given(page, f"Close Monday, February 6, 2012 with {total}?", [said], buttons)
     page.press("#confirm-yes")
     page.waits_for("Tickets of February 6, 2012", "#batch")
     page.settled()
@@ -444,8 +401,7 @@ def test_questions(bank: Bank, page: Page, pictures: Path | None) -> None:
 
 def test_notices_whole(bank: Bank, page: Page, pictures: Path | None) -> None:
     """A retry, refusals with and without a ticket's button, and a look-up without an answer."""
-    page.show_sheet(7)
-    page.choose("L7EE")
+    page.chooses(7, "L7EE")
     bank.gate.faults = ["lost answer", *["no gateway"] * 4]
     page.run(HELD)
     page.pay()
@@ -453,8 +409,7 @@ def test_notices_whole(bank: Bank, page: Page, pictures: Path | None) -> None:
     seen(page, "#progress", 1, pictures, "retry")
     page.press("#send-now")
     page.is_paid(1, L)
-    page.show_sheet(7)
-    page.choose("K7EE", "M7EE")
+    page.chooses(7, "K7EE", "M7EE")
     bank.pays(7, "M7EE")
     page.pay()
     page.refuses("Bond M7EE was paid already, on ticket 2.")
@@ -464,6 +419,7 @@ def test_notices_whole(bank: Bank, page: Page, pictures: Path | None) -> None:
     seen(page, "#notices", 1, pictures, "refusal")
     page.press("#notices .close")
     with bank.gate.changes("/inventory/", lambda text: b""):
+        page.press("#change")
         page.press("#ask-sheet button")
         page.waits_for("The counter didn't answer", "#notices")
     seen(page, "#notices", 1, pictures, "no_answer")
@@ -519,6 +475,7 @@ def test_pictures(bank: Bank, new_page: NewPage, pictures: Path | None) -> None:
         pytest.skip("PICTURES names no folder")
     folder = pictures
     bank.begin([], day=FRIDAY)
+    bank.write_own(today=MONDAY)
     bank.registers(*OF_SEVEN, *(bond(f"L{n}EE", 50, "2010-11", 60) for n in range(101, 201)))
     page = new_page()
 
@@ -552,8 +509,8 @@ def test_pictures(bank: Bank, new_page: NewPage, pictures: Path | None) -> None:
     kept("hand", 1180, 860)
     page.press("#missed > button")
     page.run("document.activeElement.blur()")
-    kept("pay", 1180, 960)
-    kept("tablet", 820, 1100)
+    kept("pay", 1180, 760)
+    kept("tablet", 820, 770)
     page.run("document.querySelector('#sheet').scrollIntoView()")
     kept("phone", 360, 740, scrolled=True)
     page.ask_to_pay()

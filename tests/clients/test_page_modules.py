@@ -1,15 +1,16 @@
-"""What the page's modules make of texts, in Node: the words of each code and reason, sheets, answers, what a teller types, and amounts in words."""
+"""What the page's modules make of texts, in Node: the words of each code and reason, sheets, answers, doubts, and amounts in words."""
 
 from __future__ import annotations
 
 import json
 import re
 import subprocess
+from email.utils import parsedate_to_datetime
 from typing import Any
 
 import pytest
 
-from tests.browser.bank import OLDEST, PAGE, TOO_YOUNG, UNISSUED, Bank
+from tests.browser.bank import OLDEST, PAGE, TOO_YOUNG, UNISSUED, Bank, released_in
 from tests.conftest import TOP
 
 pytestmark = pytest.mark.needs("node")
@@ -25,13 +26,13 @@ AROUND = """
     const given = JSON.parse(process.argv[1]);
     console.log(JSON.stringify((() => {%s})()));
 """
-MODULES = ["words", "answers", "sheet", "typed", "spelling", "doubts", "papers"]
+MODULES = ["words", "answers", "sheet", "spelling", "doubts", "papers"]
 
 
 def in_node(script: str, *given: object) -> Any:
     """What a script returns, which has all that the modules export as `page`, and `given`."""
     text = AROUND % (json.dumps(MODULES), PAGE, script)
-    words = "node --experimental-default-type=module --no-warnings -e".split()
+    words = "node --no-warnings -e".split()
     ran = subprocess.run(
         [*words, text, json.dumps(given)], capture_output=True, text=True, timeout=60
     )
@@ -183,56 +184,7 @@ def test_rows_of_sheets() -> None:
         assert len(sizes) == 1 or 5 <= sizes[-1] <= 29, (count, sizes)
 
 
-# ---- what a teller types
-
-#: How people and scanners write S12EE.
-SPELLINGS = (
-    *("S12EE", "s12ee", "S 12 EE", "S-12-EE", "s-000012-ee", "S0000000012EE", " S12EE ", "S12EE,"),
-    *("S\u201112\u2013EE", "S.12.EE", "S 0,000,000,012 EE", "\uff3312\uff25\uff25"),
-)
-#: What is no serial number of a Series EE bond.
-NO_SERIALS = ("12EE", "S12", "S0EE", "S12E", "S12I", "XS12EE", "S12EEE", "SS12EE", "S12345678901EE")
-THREE = ["S1EE", "S2EE", "S3EE"]
-LISTS = {
-    "S1EE S2EE S3EE": THREE,
-    "s1ee,s2ee;s3ee": THREE,
-    "S1EES2EES3EE": THREE,
-    "S 1 EE, S-2-EE ;S3EE,": THREE,
-    "S1EE\tS2EE": THREE[:2],
-    "": [],
-    " ,": [None],
-}
-DENOMINATIONS: dict[str, int | None] = {
-    **{"50": 50, "$75": 75, "100": 100, " 200 ": 200, "500": 500, "1,000": 1000, "$5,000": 5000},
-    "10 000": 10000,
-    **dict.fromkeys(("25", "", "50.00", "1000000", "C")),
-}
-MAY = "05/2010|5/2010|5-2010|05 2010|5.2010|May 2010|MAY-2010|2010-05|2010-5".split("|")
-NO_MONTHS = "04/2005|01/2100|13/2010|0/2010|05/10|2010/05|Ma 2010|Mayor 2010|5/1/2010||2010".split(
-    "|"
-)
-MONTHS: dict[str, str | None] = {
-    **dict.fromkeys(MAY, "2010-05"),
-    **dict.fromkeys(("Sept. 2010", "september, 2010"), "2010-09"),
-    **{"05/2005": "2005-05", "12/2099": "2099-12"},
-    **dict.fromkeys(NO_MONTHS),
-}
-
-
-def test_serials_typed() -> None:
-    """Each spelling that people use is one serial number, in a list too, and nothing else is."""
-    found = in_node("return given[0].map(page.readSerial);", [*SPELLINGS, *NO_SERIALS, "?"])
-    assert found == ["S12EE"] * len(SPELLINGS) + [None] * (len(NO_SERIALS) + 1)
-    script = "return given[0].map((text) => page.serialsIn(text).map(page.readSerial));"
-    assert dict(zip(LISTS, in_node(script, list(LISTS)))) == LISTS
-
-
-def test_walk_ins_typed() -> None:
-    found = in_node("return given[0].map(page.readDenomination);", list(DENOMINATIONS))
-    assert dict(zip(DENOMINATIONS, found)) == DENOMINATIONS
-    found = in_node("return given[0].map(page.readIssueMonth);", list(MONTHS))
-    assert dict(zip(MONTHS, found)) == MONTHS
-
+# ---- doubts
 
 #: The letters of paper bonds of Series EE, by their denominations.
 LETTERS = {"L": 50, "K": 75, "C": 100, "R": 200, "D": 500, "M": 1000, "V": 5000, "X": 10000}
@@ -258,6 +210,19 @@ def test_doubts() -> None:
     assert found[3] == ["L1EE: issued 01/2012, and paper was sold only until 12/2011."]
     many = [(f"S{number}EE", 50, "05/2010") for number in range(1, 6)]
     assert in_node(DOUBTS, [many]) == [[f"S1EE, S2EE, S3EE and 2 more: {none}"]]
+
+
+def test_the_release_is_dated() -> None:
+    """By the packages' changelog, so that both pages find a clock from before it."""
+    changelog = (TOP / "packaging/debian/changelog").read_text()
+    assert released_in(TOP) == dated(changelog)
+    assert released_in(TOP) != dated(changelog.replace(" 2026 ", " 2027 "))  # control
+
+
+def dated(changelog: str) -> str:
+    date = re.search(r"^ -- .*>  (.*)$", changelog, re.M)
+    assert date is not None
+    return parsedate_to_datetime(date[1]).date().isoformat()
 
 
 # ---- sheets

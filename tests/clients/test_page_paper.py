@@ -162,6 +162,8 @@ SERIES = "United States Savings Bonds, Series EE"
 
 def test_receipt(bank: Bank, page: Page, pictures: Path | None) -> None:
     """Twelve bonds on one sheet of either paper: each with what the sheet of its owner had of it, the sums, and the server's time; the machine's own clock says 1970."""
+    bank.write_own(today=None)
+    page.reload()
     page.run("Date.now = () => 0")
     before = time.time()
     kinds = bonds_of(60)
@@ -202,10 +204,8 @@ def next_day(bank: Bank, page: Page) -> None:
 
 def test_receipt_after_reload(bank: Bank, page: Page) -> None:
     """The answer is lost and the page loaded again: the journal kept what the receipt needs. Later, on another day, it still has it."""
-    page.show_sheet(7)
-    page.choose("K7EE", "L7EE")
     bank.gate.faults = ["lost answer", "lost request", "lost request"]
-    page.pay()
+    page.sends(7, "K7EE", "L7EE")
     page.waits_for("no reply yet", "#progress")
     assert page.journal()["open"]["bonds"] == [
         {"serial": "K7EE", "denom": 75, "issued": "2010-10", "price": "3750"},

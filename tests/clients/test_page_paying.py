@@ -109,8 +109,7 @@ def test_double_clicks(bank: Bank, new_page: NewPage) -> None:
 
 def test_presses_of_a_resting_button(bank: Bank, page: Page) -> None:
     """Eight presses, one each 0.4 seconds, confirm nothing: each starts the rest anew. After its rest it pays."""
-    page.show_sheet(7)
-    page.choose("L7EE")
+    page.chooses(7, "L7EE")
     page.ask_to_pay()
     page.run_module(PRESSES)
     assert page.is_shown("#confirm") and bank.gate.bodies == []
@@ -147,8 +146,7 @@ def test_an_unguarded_double_click_is_found(bank: Bank, new_page: NewPage) -> No
 
 def test_changed_month(bank: Bank, page: Page) -> None:
     """A sheet of February, then a day in August: nothing of February's sum can be confirmed."""
-    page.show_sheet(7)
-    page.choose("L7EE", "K7EE")
+    page.chooses(7, "L7EE", "K7EE")
     page.shows_sum(2, L + K)
     page.closes()
     page.go("pay")
@@ -167,7 +165,7 @@ def test_changed_month(bank: Bank, page: Page) -> None:
     page.waits_for(f"Nothing can be chosen here: {of_august}", "#sheet")
     assert not page.is_shown("#pay-bonds")
     page.press("#sheet button")
-    page.waits_for("Unpaid bonds of customer 7 in August 2012", "#sheet")
+    page.waits_for("Customer 7 · August 2012", "#folded")
     page.choose("L7EE", "K7EE")
     lines = bank.ask("GET", "/inventory/7/2012-08")[1].splitlines()
     values = {line.split()[0]: round(100 * float(line.split()[9])) for line in lines[1:-1]}
@@ -182,8 +180,7 @@ def test_changed_month(bank: Bank, page: Page) -> None:
 def test_bonds_added(bank: Bank, page: Page) -> None:
     """Bonds added by serial number and owner: with their values, in the sum that is confirmed, and never twice."""
     bank.registers(TOO_YOUNG)
-    page.show_sheet(7)
-    page.choose("K7EE")
+    page.chooses(7, "K7EE")
     page.add(9, "K9EE")
     page.shows_sum(2, 2 * K)
     assert f"K9EE, owner 9: {dollars(K)}" in page.text("#others")
@@ -214,8 +211,7 @@ def test_sum_differs(bank: Bank, page: Page) -> None:
     """A sheet that isn't the counter's own, as another program might give it: the ticket's total is what was paid, and the page says so."""
     later = bank.ask("GET", "/inventory/7/2012-08")[1].encode()
     with bank.gate.changes("/inventory/7/", lambda text: response(b"200 OK", b"text/plain", later)):
-        page.show_sheet(7)
-    page.choose("K7EE")
+        page.chooses(7, "K7EE")
     assert dollars(K) not in page.pay(), "another sum was confirmed"
     page.is_paid(1, K)
     page.waits_for("Ticket 1 is paid, but its total isn't the sum that was confirmed.", "#notices")
@@ -231,7 +227,7 @@ def test_selected_all(bank: Bank, page: Page) -> None:
     payable = ["K7EE", "L7EE", "M7EE", "P7EE"]
     lines = [line.split() for line in bank.ask("GET", "/inventory/7/2012-02")[1].splitlines()]
     cents = sum(round(100 * float(line[9])) for line in lines if line[0] in payable)
-    assert f"4 of 6 bonds can be paid: {dollars(cents)} in all." in page.text("#sheet")
+    assert f"4 of 6 can be paid: {dollars(cents)}" in page.text("#facts")
     foot = [row.text for row in page.all("#sheet tfoot tr")]
     assert dollars(cents) in foot[0] and dollars(cents) not in foot[1]
     page.press("#choose-all")
@@ -254,15 +250,14 @@ def test_selected_all(bank: Bank, page: Page) -> None:
 
 def test_paid_meanwhile(bank: Bank, page: Page) -> None:
     """A bond that another desk paid: the row says so, can't be chosen, and isn't counted."""
-    page.show_sheet(7)
-    page.choose("K7EE")
+    page.chooses(7, "K7EE")
     page.add(9, "K9EE")
     bank.pays(7, "K7EE")
     page.pay(8)
     page.refuses("Bond K7EE was paid already, on ticket 1.")
     assert "Paid, ticket 1" in page.run(ROW, "K7EE").replace("\n", " ")
     assert not page.box("K7EE").is_selected() and not page.box("K7EE").is_enabled()
-    assert f"2 of 2 bonds can be paid: {dollars(L + M)} in all." in page.text("#sheet")
+    assert f"2 of 2 can be paid: {dollars(L + M)}" in page.text("#facts")
     assert dollars(L + M) in page.text("#sheet tfoot")
     page.shows_sum(1, K)
     page.hears("Bond K7EE was paid already, on ticket 1.")
@@ -298,11 +293,9 @@ def replied(bank: Bank, page: Page, words: str) -> None:
 
 def test_next_customer(bank: Bank, page: Page) -> None:
     """What is chosen and typed for the next customer while a reply is awaited stays as it comes."""
-    page.show_sheet(7)
-    page.choose("L7EE")
+    page.chooses(7, "L7EE")
     awaited(bank, page)
-    page.show_sheet(9)
-    page.choose("K9EE", "M9EE")
+    page.chooses(9, "K9EE", "M9EE")
     page.type("#serial", "L-11")
     replied(bank, page, "Ticket 1 is paid.")
     assert [page.value(field) for field in ("#customer", "#payee", "#serial")] == ["9", "9", "L-11"]
@@ -317,8 +310,7 @@ def test_next_customer(bank: Bank, page: Page) -> None:
     page.is_paid(2, K, M)
     page.go("pay")
     assert page.text("#sheet") == "" and page.value("#payee") == "", "nothing was typed meanwhile"
-    page.show_sheet(11)
-    page.choose("L11EE")
+    page.chooses(11, "L11EE")
     awaited(bank, page)
     page.choose("K11EE")
     replied(bank, page, "Ticket 3 is paid.")
@@ -332,10 +324,10 @@ def test_next_customer(bank: Bank, page: Page) -> None:
 def test_doubts_asked(bank: Bank, new_page: NewPage) -> None:
     """Before a payment: Back sends nothing, and a bond that fits isn't asked about."""
     bank.begin([7], day="2013-06-03")
+    bank.write_own(today="2013-06-03")
     bank.registers({**UNISSUED, "serial": "R7EE"})
     page = new_page(day="2013-06-03")
-    page.show_sheet(7)
-    page.choose("M7EE", "R7EE", "L7EE")
+    page.chooses(7, "M7EE", "R7EE", "L7EE")
     page.watch_rests()
     page.press("#pay-button")
     page.asks()
@@ -359,6 +351,55 @@ def test_doubts_asked(bank: Bank, new_page: NewPage) -> None:
     assert "to customer 7?" in page.pay()
     page.refuses("Ticket 1 is paid.")
     assert len(bank.gate.bodies) == 1
+
+
+def titles(page: Page) -> list[str]:
+    """The titles of all questions before a payment, each of which is confirmed but the last."""
+    found: list[str] = []
+    page.asks()
+    while not found or "to customer" not in found[-1]:
+        page.until(lambda: page.text("#confirm-title") not in ["", *found[-1:]], "it asks again")
+        found.append(page.text("#confirm-title"))
+        if "to customer" not in found[-1]:
+            page.press("#confirm-yes")
+    page.press("#confirm-no")
+    return found
+
+
+def test_right_day_and_sum(bank: Bank, new_page: NewPage) -> None:
+    """On a day that isn't of today's month, joining, a payment and a walk-in are asked about, and so is a sum above the bank's; else neither is."""
+    bank.begin([7])
+    bank.write_own(today="2012-03-01", ask_above=5000)
+    page = new_page()
+    page.join_day(DAY)
+    page.asks()
+    day = "Is February 6, 2012 the right day?"
+    said = "The open day is in February 2012; today is March 1, 2012. Bonds are then paid at their values in February 2012."
+    assert page.question().startswith(f"{day}\n{said}")
+    page.press("#confirm-no")
+    page.until(lambda: not page.is_shown("#confirm"), "Back leads back")
+    assert page.journal()["day"] is None
+    page.joins()
+    page.chooses(7, "L7EE")
+    page.press("#pay-button")
+    assert titles(page) == [day, f"Pay {dollars(L)} to customer 7?"]
+    page.choose("M7EE")
+    page.press("#pay-button")
+    asked = [day, DOUBT, f"Is {dollars(L + M)} right?", f"Pay {dollars(L + M)} to customer 7?"]
+    assert titles(page) == asked
+    page.go("walkin")
+    page.add_walk_in("X21EE", "10,000", "02/2011")
+    page.type("#walkin-owner", "21")
+    page.press("#walkin-button")
+    last = f"Register 1 bond, and pay {dollars(M)} to customer 21?"
+    assert titles(page) == [day, f"Is {dollars(M)} right?", last]
+    bank.write_own(ask_above=10_000)
+    page.reload()
+    page.go("walkin")
+    page.add_walk_in("X21EE", "10,000", "02/2011")
+    page.type("#walkin-owner", "21")
+    page.press("#walkin-button")
+    assert titles(page) == [last], "control: of this month, and not above the sum"
 
 
 # ---- refusals of the true counter
@@ -463,5 +504,5 @@ def test_keyboard_alone(bank: Bank, new_page: NewPage) -> None:
     page.rested("#confirm-yes")
     page.keys(Keys.ENTER)
     page.is_paid(1, L)
-    page.takes_keyboard("#paper-title")
+    page.takes_keyboard("#ticket .print")
     assert EARLIER not in page.text()

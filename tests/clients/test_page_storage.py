@@ -41,10 +41,8 @@ UNWRITTEN = "This browser couldn't write the journal of this page."
 def test_storage_fails(bank: Bank, page: Page) -> None:
     """Before a sending, between two, after the reply: what the page says is true, the page goes on by itself, and the bond is paid once."""
     page.run(UNHANDLED)
-    page.show_sheet(7)
-    page.choose("L7EE")
     page.run(FAILING, 0, 1, "QuotaExceededError")
-    page.pay()
+    page.sends(7, "L7EE")
     page.refuses(f"{QUOTA} Nothing was sent, and nothing was changed.")
     assert bank.gate.bodies == [] and page.text("#sum") == dollars(L)
     assert all(button.is_enabled() for button in page.all("fieldset.acts button"))
@@ -54,17 +52,14 @@ def test_storage_fails(bank: Bank, page: Page) -> None:
     assert QUOTA in page.text("#progress") and bank.gate.bodies == []
     page.is_paid(1, L)
     assert len(bank.gate.bodies) == 1 and EARLIER not in page.text("#notices")
-    page.show_sheet(7)
-    page.choose("K7EE")
     page.run(FAILING, 2, 5, "UnknownError")
-    page.pay()
+    page.sends(7, "K7EE")
     page.waits_for("the reply has come.", "#progress")
     assert UNWRITTEN in page.text("#progress")
     assert page.text("#ticket h2").startswith("Ticket 2"), "the reply is shown"
     page.settled()
     assert len(bank.gate.bodies) == 2 and page.journal()["last"] == 2, "and sent no more"
-    page.show_sheet(9)
-    page.choose("L9EE")
+    page.chooses(9, "L9EE")
     bank.gate.faults = ["lost answer"]
     page.run(FAILING, 2, 5, "QuotaExceededError")
     page.pay()
@@ -79,10 +74,8 @@ def test_storage_fails(bank: Bank, page: Page) -> None:
 
 def test_receipt_unstored(bank: Bank, page: Page) -> None:
     """The browser can't write the record of a payment: the page says that the reply has come, and keeps the request until the record is written."""
-    page.show_sheet(7)
-    page.choose("L7EE")
     page.run(FAILING, 0, 2, "QuotaExceededError", "payments")
-    page.pay()
+    page.sends(7, "L7EE")
     page.waits_for("the reply has come.", "#progress")
     assert page.journal()["open"] is not None and page.receipts() == []
     page.settled()
@@ -92,8 +85,7 @@ def test_receipt_unstored(bank: Bank, page: Page) -> None:
 
 def test_not_done_unstored(bank: Bank, page: Page) -> None:
     """That nothing was done is shown once the request is dropped from the journal: a page that is killed before sends it again."""
-    page.show_sheet(7)
-    page.choose("L7EE")
+    page.chooses(7, "L7EE")
     bank.gate.faults = ["forbidden"]
     page.run(FAILING, 2, 3, "QuotaExceededError")
     page.pay()
@@ -117,9 +109,7 @@ def test_no_numbers_left(bank: Bank, page: Page) -> None:
     assert bank.gate.posts() == ["/bonds"]
     page.write_journal("(record) => ({ ...record, open: null })")
     page.reload()
-    page.show_sheet(7)
-    page.choose("L7EE")
-    page.pay()
+    page.sends(7, "L7EE")
     page.waits_for("Something in this page went wrong.", "#notices")
     assert bank.gate.posts() == ["/bonds"] and page.journal()["open"] is None
 

@@ -3,6 +3,7 @@
 from __future__ import annotations
 
 import json
+import time
 from pathlib import Path
 
 import pytest
@@ -14,7 +15,7 @@ from tests.clients.test_page_days import DAY_BUTTONS
 
 pytest.importorskip("selenium")
 from tests.browser.browser import Keys
-from tests.browser.page import DOUBT, EARLIER, VALUES, Page
+from tests.browser.page import DOUBT, EARLIER, NO_PRINTER, VALUES, Page
 
 pytestmark = [pytest.mark.browser, pytest.mark.nginx]
 #: What a teller types of each bond, and what it is in February 2012, by hand: 25 dollars of denomination are worth 12.58 if the bond is of November 2010 (25.16 for 50 dollars, docs/FIRST_DAY.md), 12.69 if of
@@ -79,6 +80,35 @@ def test_walk_in(bank: Bank, page: Page) -> None:
     books = bank.books()
     assert books.tickets() == [(7, 5, SUM)]
     assert books.one("SELECT count(*) FROM answers WHERE desk = 5") == 2
+
+
+@pytest.mark.slow
+def test_sixty_walk_ins(bank: Bank, page: Page) -> None:
+    """Sixty walk-ins of a bond, by keys as fast as the page takes them: 24 each beside the digits of the customer's number, and how long one takes."""
+    page.run(NO_PRINTER)
+    page.go("walkin")
+    page.run("document.getElementById('walkin-serial').focus()")
+    begun = time.monotonic()
+    for number in range(1, 61):
+        page.keys(f"L{100 + number}EE", Keys.ENTER, "50", Keys.ENTER, "112010", Keys.ENTER)
+        page.until(lambda: len(page.all("#walkin-bonds li")) == 1, "the bond is in the list")
+        page.keys(Keys.ENTER)
+        page.takes_keyboard("#walkin-owner")
+        page.keys(str(100 + number), Keys.ENTER)
+        page.asks()
+        page.tab()
+        page.rested("#confirm-yes")
+        page.keys(Keys.ENTER)
+        page.is_paid(number, VALUES["L"])
+        page.sleep(0.6)
+        page.takes_keyboard("#ticket .print")
+        page.keys(Keys.ENTER)
+        page.takes_keyboard("#next-customer")
+        page.keys(Keys.ENTER)
+        page.takes_keyboard("#walkin-serial")
+    print(f"{(time.monotonic() - begun) / 60:.1f} seconds each")
+    assert page.run("return window.prints") == 60
+    assert bank.books().one("SELECT count(*) FROM tickets") == 60
 
 
 # ---- what goes wrong between
@@ -242,12 +272,26 @@ def test_walk_in_of_unknown_groups(bank: Bank, new_page: NewPage) -> None:
 
 # ---- typing
 
+#: Genuine paper that this counter can't pay: a serial number, an issue month, and what the page says.
+EARLIER_PAPER = "This counter can't pay a bond that was issued before May 2005"
+OTHER_PAPER = "If the paper isn't of Series EE, this counter can't pay it"
+NOT_HERE = [
+    *(("C7EE", month, EARLIER_PAPER) for month in ("11/2004", "04/2005", "May 1995")),
+    *((serial, "11/2010", OTHER_PAPER) for serial in ("C-12,345,678-I", "D12HH", "Q1234567E")),
+]
+
 
 def test_walk_in_typed(bank: Bank, page: Page) -> None:
     """A bond that can't be read or paid is named at once, and so are customers that don't fit."""
     page.go("walkin")
     page.type_walk_in("12EE", "60", "2010")
     assert len(page.all("#add-walkin .error")) == 3
+    for serial, issued, words in NOT_HERE:
+        page.type_walk_in(serial, "100", issued)
+        assert words in page.text("#add-walkin") and "FS Form 1522" in page.text("#add-walkin")
+    assert "POD is a beneficiary: leave it empty" in str(
+        page.find("#walkin-customer-help").get_attribute("textContent")
+    )
     type_two(page, 7)
     page.type_walk_in("C7EE", "100", "11/2010")
     page.waits_for("Bond C7EE is already in the list.", "#notices")
@@ -283,8 +327,7 @@ def test_walk_in_typed(bank: Bank, page: Page) -> None:
 
 def test_walk_in_beside(bank: Bank, page: Page) -> None:
     """The sheet of another customer, under Pay, stays; a sheet that is shown while the reply is awaited stays in view."""
-    page.show_sheet(7)
-    page.choose("L7EE")
+    page.chooses(7, "L7EE")
     type_two(page, 21)
     walk_in(page, 21)
     page.press("#confirm-yes")

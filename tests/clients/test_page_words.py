@@ -79,14 +79,12 @@ def test_words_in_one_file(bank: Bank, new_page: NewPage) -> None:
     setattr(page, "press", looks_and_presses)
     page.type("#desk", "5")
     page.press("#start button")
-    page.join_day(DAY)
-    page.waits_for("This desk joined")
-    page.show_sheet(7)
-    page.choose("L7EE")
+    page.joins()
+    page.chooses(7, "L7EE")
     page.add(9, "K9EE")
     page.ask_to_add("x", "x")
     page.ask_to_pay()
-    bank.gate.faults = ["lost request"]
+    bank.gate.faults = ["lost request"] * 3
     page.press("#confirm-yes")
     page.waits_for("no reply yet", "#progress")
     found += page.run(LOOSE)

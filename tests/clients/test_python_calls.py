@@ -29,22 +29,15 @@ def paid_number(ticket: client.Ticket) -> tuple[int, int]:
     return ticket.number, ticket.request.sent
 
 
-# ---- limits
-
 BOND: dict[str, Any] = {"serial": "L1EE", "denom": 50, "issued": "2010-11", "owner": 7}
+SERIALS = [f"A{n}EE" for n in range(1, 502)]
 OUT_OF_BOUNDS: dict[str, Any] = {
     "no serial numbers": lambda counter: counter.redeem(DAY, 7, []),
-    "101 serial numbers": lambda counter: counter.redeem(
-        DAY, 7, [f"A{n}EE" for n in range(1, 102)]
-    ),
-    "501 bonds": lambda counter: counter.add_bonds(
-        [{**BOND, "serial": f"A{n}EE"} for n in range(1, 502)]
-    ),
+    "101 serial numbers": lambda counter: counter.redeem(DAY, 7, SERIALS[:101]),
+    "501 bonds": lambda counter: counter.add_bonds([{**BOND, "serial": one} for one in SERIALS]),
     "no rates": lambda counter: counter.add_rates([]),
     "an issue month after 2099": lambda counter: counter.add_bonds([{**BOND, "issued": "2100-01"}]),
-    "a rate above 20.00 %": lambda counter: counter.add_rates(
-        [{"from": "2010-05", "rate": "20.01"}]
-    ),
+    "a rate of 20.01 %": lambda counter: counter.add_rates([{"from": "2010-05", "rate": "20.01"}]),
     "a long bookmark": lambda counter: counter.open_day(DAY, bookmark="b" * 10_000),
     "a long key": lambda counter: counter.open_day(DAY, key="k" * 201),
 }
@@ -60,29 +53,20 @@ def test_limits(desk: Desk, part: Part) -> None:
         assert desk.gate.heads == []
 
 
-# ---- the set-up
-
-PAGES: dict[str, tuple[type[client.CounterError], type[client.CounterError]]] = {
-    "other page": (client.ForeignAnswer, client.WrongSetup),
-    "redirect": (client.ForeignAnswer, client.WrongSetup),
-    "proxy page": (client.ForeignAnswer, client.WrongSetup),
-    "no certificate": (client.CertificateRefused, client.WrongSetup),
-    "no gateway": (client.NotReady, client.Retryable),
-}
-
-
-@controls(
-    first_answer_taken_for_granted=mock.patch.multiple(
-        client.Counter,
-        _try_the_way=lambda *_: None,
-        _is_known=property(lambda _: True, lambda *_: None),
-        create=True,
-    )
+PAGES: dict[str, type[client.CounterError]] = dict.fromkeys(
+    ("other page", "redirect", "proxy page"), client.ForeignAnswer
 )
+PAGES |= {"no certificate": client.CertificateRefused, "no gateway": client.NotReady}
+KNOWN = {"_try_the_way": lambda *_: None, "_is_known": property(lambda _: True, lambda *_: None)}
+GRANTED = mock.patch.multiple(client.Counter, create=True, **KNOWN)
+
+
+@controls(first_answer_taken_for_granted=GRANTED)
 @pytest.mark.parametrize("fault", PAGES)
 def test_foreign_page(desk: Desk, fault: str, part: Part) -> None:
     """Before the first good exchange a page that no counter wrote ends a call at once, with nothing in the journal."""
-    kind, branch = PAGES[fault]
+    kind = PAGES[fault]
+    branch = client.Retryable if kind is client.NotReady else client.WrongSetup
     desk.gate.is_wide, desk.gate.faults = True, [fault] * 50
     with holds_not(part), desk.counter(patience=1) as counter:
         with desk.untouched(), within(0.9), pytest.raises(kind) as raised:
@@ -136,11 +120,10 @@ def test_wrong_setup_while_open(desk: Desk) -> None:
         assert isinstance(paid, client.Ticket) and paid.number == 1, "control: with one it is done"
 
 
-@controls(
-    goes_on_trying=mock.patch.object(
-        client.Lookups, "_ends", lambda counter, _: not counter._is_known
-    )
-)
+TRYING = mock.patch.object(client.Lookups, "_ends", lambda counter, _: not counter._is_known)
+
+
+@controls(goes_on_trying=TRYING)
 def test_revoked(desk: Desk, part: Part) -> None:
     """A certificate that isn't accepted any more ends a look-up and an act at once, and the request stays open. With another one the same call gets its reply."""
     lookups = client.Lookups(desk.gate.address, patience=2)
@@ -159,9 +142,6 @@ def test_revoked(desk: Desk, part: Part) -> None:
         assert paid_number(counter.redeem(DAY, 7, ["L1EE"], key="a")) == (1, 2)
 
 
-# ---- patience
-
-
 def silent(connection: socket.socket) -> None:
     connection.recv(65536)
     time.sleep(5)
@@ -175,16 +155,10 @@ def drip(connection: socket.socket) -> None:
         time.sleep(0.05)
 
 
-def test_default_patience(desk: Desk) -> None:
-    with desk.counter() as counter, client.Pool(desk.place, desks=[4]) as pool:
-        assert counter.patience == client.Lookups().patience == pool._patience == 300
+OF_SOCKET = mock.patch.object(way.Deadline, "for_socket", lambda deadline: 2.0)
 
 
-@controls(
-    limit_of_each_call_of_the_socket=mock.patch.object(
-        way.Deadline, "for_socket", lambda deadline: 2.0
-    )
-)
+@controls(limit_of_each_call_of_the_socket=OF_SOCKET)
 def test_dripping_answer(desk: Desk, part: Part) -> None:
     """The patience ends the whole call, whatever the server does."""
     with holds_not(part), desk.known(patience=0.8) as counter:
@@ -233,15 +207,11 @@ def test_pauses(desk: Desk, part: Part) -> None:
                 pauses.append(seconds)
                 return True
 
-            waits = mock.patch.object(lookups_module.Trials, "wait", wait)
-            with waits:
+            with mock.patch.object(lookups_module.Trials, "wait", wait):
                 counter.redeem(DAY, 7, [serial])
         full = lookups_module.PAUSES[:6] * 2
         assert len(pauses) == 12 and pauses[:6] != pauses[6:]
         assert all(whole / 2 <= pause <= whole for pause, whole in zip(pauses, full))
-
-
-# ---- each fault of the way
 
 
 @pytest.mark.parametrize("fault", FAULTS)
@@ -306,9 +276,6 @@ def test_used_numbers(desk: Desk) -> None:
     assert sent == [0, 0, 1, 3, 7, 15, 16] and len(desk.fake.tickets) == 2
 
 
-# ---- giving up
-
-
 def test_abandoned(desk: Desk) -> None:
     """A request that its caller gives up is written down, and others go on."""
     with desk.known(patience=0.5) as counter:
@@ -365,7 +332,13 @@ def test_abandoned_after_another_number(desk: Desk) -> None:
     with desk.known() as counter:
         number = json.loads(desk.journal.read_text())["next"]
         desk.fake.kept[3, number] = ("another", {})
-        with mock.patch.object(counter, "_sent_once", lambda *_: stopped_before_second(counter)):
+
+        def sent(*_: object) -> Any:
+            if json.loads(desk.journal.read_text())["open"]["step"] > 1:
+                raise KeyboardInterrupt
+            return client.Counter._sent_once(counter, way.Deadline(9))
+
+        with mock.patch.object(counter, "_sent_once", sent):
             with pytest.raises(KeyboardInterrupt):
                 counter.redeem(DAY, 7, ["L1EE"])
         assert len(desk.gate.bodies) == 1
@@ -374,28 +347,13 @@ def test_abandoned_after_another_number(desk: Desk) -> None:
         assert "nothing was done" in given_up.outcome and f"number {number + 1}" in given_up.outcome
 
 
-def stopped_before_second(counter: client.Counter) -> Any:
-    still = counter.open_request
-    if still and json.loads(desk_text(counter))["open"]["step"] > 1:
-        raise KeyboardInterrupt
-    return client.Counter._sent_once(counter, way.Deadline(9))
-
-
-def desk_text(counter: client.Counter) -> str:
-    with open(counter._journal.path, encoding="utf-8") as file:
-        return file.read()
-
-
-def forgetful(journal: journal_module.Journal, **changes: Any) -> None:
-    changes.pop("abandoned", None)
-    CHANGE(journal, **changes)
-
-
-CHANGE = journal_module.Journal.change
-
-
 def test_forgotten(desk: Desk) -> None:
     """Control: a client that doesn't write it down."""
+    change = journal_module.Journal.change
+
+    def forgetful(journal: journal_module.Journal, **changes: Any) -> None:
+        change(journal, **{name: changes[name] for name in changes if name != "abandoned"})
+
     with mock.patch.object(journal_module.Journal, "change", forgetful):
         with pytest.raises(AssertionError):
             test_abandoned(desk)
@@ -405,9 +363,8 @@ def test_full_disk(desk: Desk) -> None:
     """A journal that can't be written ends the call before anything is sent."""
     with desk.counter() as counter:
         full = OSError(28, "No space left on device")
-        with mock.patch.object(os, "fsync", side_effect=full), pytest.raises(
-            client.FileFailed
-        ) as e:
-            counter.redeem(DAY, 7, ["L1EE"])
-        assert desk.fake.tickets == [] and e.value.__cause__ is full
+        with pytest.raises(client.FileFailed) as raised:
+            with mock.patch.object(os, "fsync", side_effect=full):
+                counter.redeem(DAY, 7, ["L1EE"])
+        assert desk.fake.tickets == [] and raised.value.__cause__ is full
         assert paid_number(counter.redeem(DAY, 7, ["L1EE"])) == (1, 1), "control: with room"

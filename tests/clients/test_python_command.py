@@ -13,8 +13,9 @@ import pytest
 
 import ee_counter_client as client
 import ee_counter_client.errors as errors
-from ee_counter_client.command import ACTS, LOOK_UPS
+from ee_counter_client.command import ACTS, LOOK_UPS, second_of
 from ee_counter_client.testing import FakeCounter, Gate, fake as fake_module
+from tests.clients.calculator_data import INVENTORY, SHIPPED, Store
 from tests.clients.desk import DAY, Desk, TrueCounter, bonds_csv, command, controls, holds_not
 from tests.conftest import TOP
 from tests.fence.site import Site
@@ -23,9 +24,6 @@ Part = ContextManager[object] | None
 
 
 COMMANDS = [one[:3] for one in (*ACTS, *LOOK_UPS)]
-
-
-# ---- help, and statuses
 
 
 def is_help(out: str, does: str, named: list[str]) -> bool:
@@ -61,7 +59,10 @@ def test_statuses(desk: Desk) -> None:
     own = ("--journal", desk.journal, "--desk", "3", *at)
     refused = '{"code":43,"refused":"DayIsOther"}\n'
     found = command(*own, "redeem", "2012-02-07", "7", "L1EE")
-    assert found == (1, refused, "refused: DayIsOther (code 43)\n")
+    told = (
+        "name the day that is open; nothing was changed, and a corrected request gets a new number"
+    )
+    assert found == (1, refused, f"refused: DayIsOther (code 43)\n{told}\n")
     desk.gate.faults = ["forbidden"]
     told = "this user may not do this (/day/close); nothing was done\n"
     assert command(*own, "close", DAY) == (1, "", told)
@@ -71,6 +72,70 @@ def test_statuses(desk: Desk) -> None:
     with desk.counter():
         status, _, told = command(*own, "ticket", "1")
         assert status == 3 and "another process has the journal" in told
+
+
+def test_each_refusal_has_a_second_line() -> None:
+    """And one that this version doesn't know says that nothing was changed."""
+    assert errors.REMEDIES.keys() == errors.REFUSALS.keys()
+    assert len(set(errors.REMEDIES.values())) == len(errors.REMEDIES)
+    unknown = errors.refusal_of({"code": 55, "refused": "DayOfRest"})
+    assert second_of(unknown) == "nothing was changed, and a corrected request gets a new number"
+
+
+HEAD = "serial,denom,issued,owner,coowner\n"
+NOT_PAID = "this counter can't pay such a bond; send it to Treasury with FS Form 1522"
+OTHER_HEAD = "row 1: the header isn't serial,denom,issued,owner,coowner"
+AS_CSV = "save it as CSV, in UTF-8 and with commas"
+#: Files that are no inventory, and paper that isn't paid here: what they have, and what is said.
+WRONG_FILES: list[tuple[bytes, str]] = [
+    (b"", OTHER_HEAD),
+    (HEAD.replace(",", ";").encode(), f"{OTHER_HEAD}: its fields are separated by semicolons"),
+    (HEAD.replace(",", "\t").encode(), f"{OTHER_HEAD}: its fields are separated by tabs"),
+    (
+        HEAD.encode() + b"L1EE;50;2010-11;7;\n",
+        "row 2: it has 1 fields, and not 5: its fields are separated by semicolons",
+    ),
+    (
+        HEAD.encode() + b"L1EE\t50\t2010-11\t7\t\n",
+        "row 2: it has 1 fields, and not 5: its fields are separated by tabs",
+    ),
+    (HEAD.encode() + b"L1EE,50,2010-11\n", "row 2: it has 3 fields, and not 5"),
+    *(
+        (HEAD.encode(code), f"row 1: it is UTF-16: {AS_CSV}")
+        for code in ("utf-16", "utf-16-le", "utf-16-be")
+    ),
+    (b"PK\x03\x04", f"row 1: it is a zip, or a workbook as .xlsx and .ods: {AS_CSV}"),
+    (b"\xd0\xcf\x11\xe0", f"row 1: it is a workbook as .xls: {AS_CSV}"),
+    (b"\x1f\x8b\x08", f"row 1: it is compressed by gzip: {AS_CSV}"),
+    (b"%PDF-1.7", f"row 1: it is a PDF: {AS_CSV}"),
+    (b"SQLite format 3\0", f"row 1: it is a database: {AS_CSV}"),
+    (b"<!DOCTYPE html>", f"row 1: it is HTML or XML: {AS_CSV}"),
+    *(
+        (
+            f"{HEAD}{serial},50,2010-11,7,\n".encode(),
+            f"row 2: {serial!r} is of another series than EE: {NOT_PAID}",
+        )
+        for serial in ("L1E", "L-123-I", "M1HH", "M1234567890H")
+    ),
+    (HEAD.encode() + b"L0,50,2010-11,7,\n", "row 2: 'L0EE' is no serial number, as C12EE"),
+    *(
+        (f"{HEAD}L1EE,50,{month},7,\n".encode(), f"row 2: {month!r} is before May 2005: {NOT_PAID}")
+        for month in ("2005-04", "2004-11", "04/2005", "1980-01", "1941-05")
+    ),
+    (
+        HEAD.encode() + b"L1EE,50,2005-13,7,\n",
+        "row 2: '2005-13' is no month from 2005-05 to 2099-12",
+    ),
+]
+
+
+@pytest.mark.parametrize("content, said", WRONG_FILES, ids=[said for _, said in WRONG_FILES])
+def test_wrong_files(desk: Desk, content: bytes, said: str) -> None:
+    file, before = desk.place / "bonds.csv", dict(desk.fake.kept)
+    file.write_bytes(content)
+    words = ("--journal", desk.journal, "--desk", "3", "--at", desk.gate.address, "register")
+    assert command(*words, file) == (2, "", f"{said}\n") and desk.fake.kept == before
+    assert command(*words, desk.place) == (2, "", "row 1: it is a folder: name a file in it\n")
 
 
 def test_refused_rows(desk: Desk) -> None:
@@ -88,9 +153,6 @@ def test_refused_rows(desk: Desk) -> None:
     assert [reply.get("new", "refused") for reply in replies] == [500, 500, "refused", 500, 300]
 
 
-# ---- through nginx
-
-
 @pytest.mark.nginx
 def test_through_nginx(true: TrueCounter, folder: Path) -> None:
     """A day with a certificate of the staff. One that is revoked ends a command at once, and leaves its request open; with a new one the same command gets its reply."""
@@ -103,14 +165,8 @@ def test_through_nginx(true: TrueCounter, folder: Path) -> None:
 
 
 def through(site: Site, gate: Gate, folder: Path) -> None:
-    at = (
-        "--journal",
-        folder / "a.journal",
-        "--desk",
-        "3",
-        "--at",
-        f"https://127.0.0.1:{site.port}",
-    )
+    at: list[object] = ["--journal", folder / "a.journal", "--desk", "3"]
+    at += ["--at", f"https://127.0.0.1:{site.port}"]
     certificate = ("--certificate", site.staff.certificate("nora"))
 
     def run(*words: object) -> tuple[int, str, str]:
@@ -145,14 +201,9 @@ def through(site: Site, gate: Gate, folder: Path) -> None:
     assert run("ticket", "3")[0] == 1, "it was paid once"
 
 
-# ---- the fake counter beside the program
-
 #: Rates of 0.00 % for each May and November, since the fake's values are those of such rates.
-RATES = [
-    {"from": f"{year}-{month}", "rate": "0.00"}
-    for year in range(2005, 2013)
-    for month in ("05", "11")
-]
+STARTS = [f"{year}-{month}" for year in range(2005, 2013) for month in ("05", "11")]
+RATES = [{"from": start, "rate": "0.00"} for start in STARTS]
 #: The method, the path and the body of a message.
 Message = tuple[str, str, str | None]
 
@@ -244,13 +295,22 @@ def test_fake_counter(true: TrueCounter, part: Part) -> None:
                 codes.add(value["code"])
                 if found[0] == 409 and value["code"] != 10:
                     refusal = errors.refusal_of(value)
-                    assert (refusal.code, type(refusal).__name__) == (
-                        value["code"],
-                        value["refused"],
-                    )
+                    wanted = (value["code"], value["refused"])
+                    assert (refusal.code, type(refusal).__name__) == wanted
                     named = {key: value[key] for key in value if key not in ("code", "refused")}
                     assert refusal.details == named
         assert len(codes) >= 20, codes
+
+
+def test_exported_inventory(program: Path, folder: Path) -> None:
+    """The client reads what the program exports; it refuses a column that it doesn't know."""
+    store, file = Store(program, SHIPPED), folder / "export.csv"
+    store.enter("inventory", INVENTORY + b"L1EE,50,2010-11,7,\nK2EE,75,2010-10,7,8\n")
+    file.write_text(store.run("export", "7"))
+    assert sorted(client.bonds_known(file)) == ["K2EE", "L1EE"]
+    file.write_text(file.read_text().replace("coowner\n", "coowner,branch\n"))
+    with pytest.raises(client.BadFile, match="the header isn't serial,denom,issued,owner,coowner"):
+        client.bonds_known(file)
 
 
 def test_values_and_refusals_of_a_test(desk: Desk) -> None:

@@ -106,18 +106,14 @@ def test_days_from_today(part: Part, desk: Desk) -> None:
                 assert opened.day.isoformat() == fake.day == day
 
 
-@controls(
-    last_day_not_looked_for=mock.patch.object(client.Counter, "_question_gap", lambda *_: None)
-)
+GAPLESS = mock.patch.object(client.Counter, "_question_gap", lambda *_: None)
+
+
+@controls(last_day_not_looked_for=GAPLESS)
 def test_days_from_the_last(desk: Desk, part: Part) -> None:
     """By the batches of the seven days before: a day without one is questioned, unless nothing was ever paid."""
-    cases: list[tuple[int | None, bool, bool]] = [
-        (-1, True, True),
-        (-3, False, True),
-        (-7, True, True),
-        (-8, True, False),
-    ]
-    cases += [(-60, True, False), (-60, False, True), (None, False, True)]
+    near, far = [(-1, True), (-3, False), (-7, True), (-60, False), (None, False)], (-8, -60)
+    cases = [(*case, True) for case in near] + [(last, True, False) for last in far]
     with holds_not(part):
         for last, is_paid, is_near in cases:
             with FakeCounter() as fake, desk_at(desk, fake):
@@ -172,9 +168,6 @@ def test_look_ups_before_a_day(desk: Desk) -> None:
         assert desk.gate.bodies == [] and counter.open_request is None
         desk.gate.faults = []
         assert counter.open_day(after(0)).day == TODAY, "control"
-
-
-# ---- the command, and registration in bulk
 
 
 def test_open_command(desk: Desk) -> None:
@@ -233,15 +226,15 @@ def test_resumed_registration(desk: Desk) -> None:
         assert doubt.startswith("row 502") and "L1001EE" not in desk.fake.bonds
 
 
+HEADER = "row 1: the header isn't serial,denom,issued,owner,coowner"
+TWICE = ("L1EE,50,2010-11,7,", "", "K1EE,50,2010-11,7,", "L-1-EE,50,2010-11,7,")
 BAD_FILES = {
-    "serial,denom,issued,owner\n": "row 1: the header isn't serial,denom,issued,owner,coowner",
+    "serial,denom,issued,owner\n": HEADER,
     bonds_csv("L1EE,50,2010-11,7"): "row 2: it has 4 fields, and not 5",
     bonds_csv("L1EE,50,2010-11,7,", "X,50,2010-11,7,"): "row 3: 'X' is no serial number, as C12EE",
     bonds_csv("L1EE,51,2010-11,7,"): "row 2: '51' is no denomination",
-    bonds_csv(
-        "L1EE,50,2010-11,7,", "", "K1EE,50,2010-11,7,", "L-1-EE,50,2010-11,7,"
-    ): "row 4: L1EE stands in row 2 already",
-    "serial,denom,issued,owner,co_owner\nA1EE,50,2010-11,7,8\n": "row 1: the header isn't serial,denom,issued,owner,coowner",
+    bonds_csv(*TWICE): "row 4: L1EE stands in row 2 already",
+    "serial,denom,issued,owner,co_owner\nA1EE,50,2010-11,7,8\n": HEADER,
 }
 
 

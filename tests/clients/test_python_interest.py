@@ -24,18 +24,11 @@ from tests.shared import exact
 Part = ContextManager[object] | None
 HEADER = "day,ticket,payee,serial,denom,issued,price,interest,value\n"
 #: Each denomination, with issue months in several periods: younger and older than 5 years, and older than 20 years at the last day.
-BONDS = [
-    client.Bond("L1EE", 50, "2010-11", 7),
-    client.Bond("K1EE", 75, "2010-10", 7, 8),
-    client.Bond("C1EE", 100, "2005-05", 7),
-    client.Bond("R1EE", 200, "2006-11", 8),
-    client.Bond("D1EE", 500, "2009-07", 9, 7),
-    client.Bond("M1EE", 1000, "2008-04", 9),
-    client.Bond("V1EE", 5000, "2011-02", 8),
-    client.Bond("X1EE", 10000, "2011-01", 7, 9),
-    client.Bond("L2EE", 50, "2005-10", 7),
-    client.Bond("X2EE", 10000, "2006-05", 8),
-]
+ROWS = """L1EE,50,2010-11,7, K1EE,75,2010-10,7,8 C1EE,100,2005-05,7, R1EE,200,2006-11,8,
+D1EE,500,2009-07,9,7 M1EE,1000,2008-04,9, V1EE,5000,2011-02,8, X1EE,10000,2011-01,7,9
+L2EE,50,2005-10,7, X2EE,10000,2006-05,8,""".split()
+CELLS = [row.split(",") for row in ROWS]
+BONDS = [client.Bond(s, int(d), i, int(o), int(c) if c else None) for s, d, i, o, c in CELLS]
 #: What is paid on each day: payees with their bonds.
 DAYS: dict[str, list[tuple[int, list[str]]]] = {
     "2012-02-06": [(7, ["L1EE", "K1EE"]), (9, ["D1EE"])],
@@ -45,12 +38,6 @@ DAYS: dict[str, list[tuple[int, list[str]]]] = {
     "2026-11-27": [(7, ["L2EE"]), (8, ["X2EE"])],
 }
 *CLOSED, OPEN = DAYS
-
-
-def inventory_of(bonds: Iterable[client.Bond]) -> str:
-    return bonds_csv(
-        *(f"{b.serial},{b.denom},{b.issued},{b.owner},{b.coowner or ''}" for b in bonds)
-    )
 
 
 def dollars(cents: int) -> str:
@@ -77,17 +64,14 @@ def expected(is_wanted: Callable[[str, int, int], bool]) -> tuple[str, list[Deci
     return text, [Decimal(dollars(cents)) for cents in sums]
 
 
-# ---- over the program
-
-
 class Books:
     """The days over the program. The inventory has half of the bonds, the desk's archive the others."""
 
     def __init__(self, true: TrueCounter, place: Path) -> None:
         self.place, self.true = place, true
         self.half, self.whole = place / "half.csv", place / "whole.csv"
-        self.half.write_text(inventory_of(BONDS[::2]))
-        self.whole.write_text(inventory_of(BONDS))
+        self.half.write_text(bonds_csv(*ROWS[::2]))
+        self.whole.write_text(bonds_csv(*ROWS))
         self.archive, self.of_store = place / "a.archive", place / "store.archive"
         self.of_store.mkdir()
         self.archive_store()
@@ -115,10 +99,8 @@ class Books:
         return client.Counter(journal, self.true.address, desk=3, archive=self.archive)
 
     def of(self, kind: Any, *words: Any) -> client.Interest:
-        found: client.Interest = getattr(client, f"interest_of_{kind}")(
-            self.lookups, *words, self.known
-        )
-        return found
+        call: Callable[..., client.Interest] = getattr(client, f"interest_of_{kind}")
+        return call(self.lookups, *words, self.known)
 
 
 @pytest.fixture
@@ -138,14 +120,11 @@ SPANS = [
 ]
 
 
-@controls(
-    first_month_of_the_year=mock.patch.object(
-        interest_module, "Month", lambda year, month: client.Month(year, 1)
-    ),
-    tickets_from_the_second_on=mock.patch.object(
-        interest_module.Question, "first_of", lambda question, day: 2
-    ),
-)
+FIRST = mock.patch.object(interest_module, "Month", lambda year, month: client.Month(year, 1))
+SECOND = mock.patch.object(interest_module.Question, "first_of", lambda question, day: 2)
+
+
+@controls(first_month_of_the_year=FIRST, tickets_from_the_second_on=SECOND)
 def test_interest(books: Books, part: Part) -> None:
     """Each ticket, each day and several spans: the sums are those of the ticket and of the batch."""
     with holds_not(part):
@@ -216,9 +195,6 @@ def test_command(books: Books) -> None:
         assert command(*at, *line)[:2] == (2, ""), line
 
 
-# ---- what is missing, over the fake counter
-
-
 class FakeBooks:
     """A fake counter, a desk's calls to which are given no number."""
 
@@ -265,13 +241,11 @@ def test_missing(fake_books: FakeBooks, part: Part) -> None:
     assert found.text.splitlines()[3] == row and found.value == Decimal("75.00"), "control"
     other = client.Bond("L1EE", 100, "2010-11", 7)
     without = {serial: bond for serial, bond in known.items() if serial != "L1EE"}
-    worth = (
-        "25.00 was paid, and the files' bond, of 100 dollars and 2010-11, is worth 50.00 in 2012-02"
-    )
+    worth = "25.00 was paid, and the files' bond, of 100 dollars and 2010-11, is worth 50.00"
     with holds_not(part):
         for kept, sentence in (
             (without, "L1EE, on ticket 1, is in none of the files"),
-            ({**without, "L1EE": other}, f"L1EE, on ticket 1: {worth}"),
+            ({**without, "L1EE": other}, f"L1EE, on ticket 1: {worth} in 2012-02"),
         ):
             year = ("2012-01-01", "2012-12-31")
             for call, words in (

@@ -29,9 +29,6 @@ from tests.clients.interruptions import Failing, Interrupt, moments_of
 Part = ContextManager[object] | None
 
 
-# ---- threads and processes
-
-
 class NoLock:
     """A lock that keeps nobody out."""
 
@@ -106,19 +103,10 @@ def test_forked(desk: Desk) -> None:
 def test_closed(desk: Desk) -> None:
     """Closing twice does nothing; after closing each call says so."""
     counter = desk.counter(archive=desk.archive)
-    calls = {
-        "redeem": (DAY, 7, ["L1EE"]),
-        "open_day": (DAY,),
-        "close_day": (DAY,),
-        "add_bonds": ([client.Bond("L4EE", 50, "2010-11", 7)],),
-        "add_rates": ([client.Rates("2010-11", "1.00")],),
-        "finish": (),
-        "abandon": ("no reason",),
-        "ticket": (1,),
-        "batch": (DAY,),
-        "inventory": (7, "2012-02"),
-        "value": (50, "2010-11", "2012-02"),
-    }
+    calls = {"redeem": (DAY, 7, ["L1EE"]), "open_day": (DAY,), "close_day": (DAY,), "finish": ()}
+    calls |= {"add_bonds": ([client.Bond("L4EE", 50, "2010-11", 7)],), "abandon": ("no reason",)}
+    calls |= {"add_rates": ([client.Rates("2010-11", "1.00")],), "ticket": (1,), "batch": (DAY,)}
+    calls |= {"inventory": (7, "2012-02"), "value": (50, "2010-11", "2012-02")}
     counter.close()
     counter.close()
     for name, words in calls.items():
@@ -132,9 +120,6 @@ def test_closed(desk: Desk) -> None:
         pool.redeem(DAY, 7, ["L1EE"])
     with desk.counter(archive=desk.archive) as again:
         assert again.redeem(DAY, 7, ["L1EE"]).number == 1, "control: opened again it pays"
-
-
-# ---- paths
 
 
 @controls(unresolved_path=mock.patch.object(os.path, "realpath", os.path.abspath))
@@ -172,26 +157,17 @@ def test_second_names(desk: Desk) -> None:
 
 
 def test_removed_lock_file(desk: Desk) -> None:
-    """It is made again, and keeps the second out."""
+    """It is made again, and keeps the second out. Another desk isn't taken."""
     desk.counter().close()
+    with pytest.raises(client.BadJournal, match="the journal of desk 3"):
+        desk.counter(desk=4)
     os.unlink(f"{desk.journal}.lock")
     with desk.counter(), pytest.raises(client.JournalInUse):
         desk.counter()
 
 
-def test_other_desk(desk: Desk) -> None:
-    desk.counter().close()
-    with pytest.raises(client.BadJournal, match="the journal of desk 3"):
-        desk.counter(desk=4)
-
-
-FORMS = [
-    "no journal\n",
-    "{}",
-    "[]",
-    '{"desk":3,"next":1,"open":7,"last":null,"bookmark":null}',
-    '{"desk":"3","next":1,"open":null,"last":null,"bookmark":null}',
-]
+FORMS = ["no journal\n", "{}", "[]", '{"desk":3,"next":1,"open":7,"last":null,"bookmark":null}']
+FORMS += ['{"desk":"3","next":1,"open":null,"last":null,"bookmark":null}']
 
 
 @pytest.mark.parametrize("text", FORMS)
@@ -214,9 +190,6 @@ def test_earlier_journal(desk: Desk) -> None:
         assert counter.bookmark == 3
         ticket = counter.redeem(DAY, 7, ["L1EE"])
         assert ticket.request and ticket.request.sent == 2 and counter.bookmark == 4
-
-
-# ---- keys
 
 
 @controls(
@@ -315,9 +288,6 @@ def test_damaged_keys(desk: Desk) -> None:
         assert found and found.reply["ticket"] == 2, "so is what a loss of power left after them"
 
 
-# ---- pools
-
-
 def jobs_of(pool: client.Pool, serials: Iterable[str]) -> list[client.Ticket]:
     with ThreadPoolExecutor(8) as workers:
         return list(workers.map(lambda s: pool.redeem(DAY, 7, [s], key=f"of {s}"), serials))
@@ -367,12 +337,6 @@ def test_pool_whose_desks_are_open(desk: Desk) -> None:
         assert tickets == [3, 1]
         with pool.desk(), pool.desk(), within(1, 0.39), pytest.raises(client.Busy):
             pool.desk().__enter__()
-
-
-# ---- Ctrl-C, and calls on files that fail
-
-#: How many moments of a call are tried: the first of each function, and others by chance.
-MOMENTS = 100
 
 
 class Interrupted:
@@ -425,21 +389,14 @@ class Interrupted:
             assert told["before"] == hashlib.sha256(before).hexdigest()
             if "reply" in told:
                 assert archived.setdefault(told["number"], told["reply"]) == told["reply"]
-        assert archived == {
-            number: kept[1] for (desk, number), kept in fake.kept.items() if desk == 3
-        }
-
-
-BOTH = pytest.mark.parametrize("interrupted", ["with a key", "without a key"], indirect=True)
+        assert archived == {n: kept[1] for (desk, n), kept in fake.kept.items() if desk == 3}
 
 
 @pytest.fixture
 def interrupted(desk: Desk, request: pytest.FixtureRequest) -> Any:
     with mock.patch.object(fake_module, "MOST_TICKETS", 10**6):
-        counter = client.Counter(
-            desk.journal, desk.fake.address, desk=3, archive=desk.archive, patience=5
-        )
-        with counter:
+        files: dict[str, Any] = {"desk": 3, "archive": desk.archive, "patience": 5}
+        with client.Counter(desk.journal, desk.fake.address, **files) as counter:
             counter.ticket(1)
             yield Interrupted(desk, counter, request.param == "with a key")
 
@@ -454,12 +411,10 @@ def stop_at(interrupted: Interrupted, moments: list[tuple[str, int]]) -> None:
     interrupted.paid_once()
 
 
-@BOTH
-@pytest.mark.parametrize(
-    "most", [MOMENTS, pytest.param(10**6, marks=pytest.mark.slow, id="each")]
-)
+@pytest.mark.parametrize("interrupted", ["with a key", "without a key"], indirect=True)
+@pytest.mark.parametrize("most", [100, pytest.param(10**6, marks=pytest.mark.slow, id="each")])
 def test_interrupted(interrupted: Interrupted, dice: random.Random, most: int) -> None:
-    """Ctrl-C at moments of a call: the same call has its reply, each bond is paid once, and the files are right."""
+    """Ctrl-C at moments of a call, the first of each function among them: the same call has its reply, each bond is paid once, and the files are right."""
     moments = moments_of(lambda: interrupted.redeem("L1EE"))
     dice.shuffle(moments)
     first = list({name: (name, nth) for name, nth in moments}.values())
@@ -468,30 +423,19 @@ def test_interrupted(interrupted: Interrupted, dice: random.Random, most: int) -
     assert interrupted.count == min(most, len(moments)) > 90
 
 
-@pytest.mark.parametrize(
-    "interrupted, function, part",
-    [
-        pytest.param(
-            "with a key",
-            "Journal.write",
-            mock.patch.object(Journal, "settled", lambda journal: journal.record),
-            id="reply not taken from its keys",
-        ),
-        pytest.param(
-            "without a key",
-            "Journal.write",
-            mock.patch.object(Journal, "restore", lambda journal: None),
-            id="interrupted change left on the disk",
-        ),
-        pytest.param(
-            "with a key",
-            "Archive.write",
-            mock.patch.object(Archive, "read_back", lambda archive: None),
-            id="last line not read back",
-        ),
-    ],
-    indirect=["interrupted"],
-)
+KEYED, UNKEYED = "with a key", "without a key"
+UNSETTLED = mock.patch.object(Journal, "settled", lambda journal: journal.record)
+UNRESTORED = mock.patch.object(Journal, "restore", lambda journal: None)
+UNREAD = mock.patch.object(Archive, "read_back", lambda archive: None)
+WITHIN = {
+    "reply not taken from its keys": (KEYED, "Journal.write", UNSETTLED),
+    "interrupted change left on the disk": (UNKEYED, "Journal.write", UNRESTORED),
+    "last line not read back": (KEYED, "Archive.write", UNREAD),
+}
+MOMENT = ("interrupted", "function", "part")
+
+
+@pytest.mark.parametrize(MOMENT, WITHIN.values(), ids=WITHIN, indirect=["interrupted"])
 def test_interrupted_within(
     interrupted: Interrupted, function: str, part: ContextManager[object]
 ) -> None:
@@ -518,24 +462,12 @@ def test_interrupted_openings(desk: Desk) -> None:
         opened()
 
 
-@pytest.mark.parametrize(
-    "interrupted, part",
-    [
-        ("with a key", None),
-        ("without a key", None),
-        pytest.param(
-            "without a key",
-            mock.patch.object(Journal, "restore", lambda journal: None),
-            id="failed change left on the disk",
-        ),
-        pytest.param(
-            "without a key",
-            mock.patch.object(Archive, "read_back", lambda archive: None),
-            id="last line not read back",
-        ),
-    ],
-    indirect=["interrupted"],
-)
+CALLS: dict[str, tuple[str, Part]] = {KEYED: (KEYED, None), UNKEYED: (UNKEYED, None)}
+CALLS |= {"failed change left on the disk": (UNKEYED, UNRESTORED)}
+CALLS |= {"last line not read back": (UNKEYED, UNREAD)}
+
+
+@pytest.mark.parametrize(MOMENT[::2], CALLS.values(), ids=CALLS, indirect=["interrupted"])
 def test_failing_calls(interrupted: Interrupted, part: Part) -> None:
     """EIO and ENOSPC of each call on the files, before it is done or after: the error says whether the bond may have been paid, and the same call has its reply."""
     with Failing() as whole:

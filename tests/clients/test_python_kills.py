@@ -21,7 +21,7 @@ import pytest
 import ee_counter_client as client
 from ee_counter_client.archive import Archive
 from ee_counter_client.testing import AFTER, BEFORE, Gate
-from tests.clients.desk import DAY, OWN, TrueCounter, bonds_csv, command, ran
+from tests.clients.desk import DAY, OWN, TrueCounter, ran
 from tests.clients.interruptions import Failing, Interrupt
 from tests.clients.worker import BONDS, act_at, is_expected, kept_act
 from tests.conftest import TOP
@@ -61,9 +61,6 @@ def rows_of(true: TrueCounter, query: str) -> list[tuple[Any, ...]]:
             return books.execute(query).fetchall()
 
 
-# ---- interruptions of a process that lives on, over the program
-
-
 def test_restored_from_the_archive(true: TrueCounter, folder: Path, dice: random.Random) -> None:
     """A day of payments, each interrupted three times by Ctrl-C or a failed call: one ticket each, and counter-restore makes the store anew from the desk's archive alone."""
     archive = folder / "a.archive"
@@ -92,8 +89,6 @@ def test_restored_from_the_archive(true: TrueCounter, folder: Path, dice: random
     assert status == 0, out + told
     assert ran(true.program, "export", "1", "--db", new)[0] == 0
 
-
-# ---- the documented program
 
 ON_FILES = "openat,read,write,pwrite64,ftruncate,fsync,rename,close,flock"
 WITH_COUNTER = "connect,sendto,recvfrom"
@@ -201,8 +196,6 @@ def test_documented_program(
     assert ends.count("killed") >= trials / 5 and ends.count("interrupted") >= trials / 8, ends
 
 
-# ---- kills at random
-
 POOL = """
 import sys
 from concurrent.futures import ThreadPoolExecutor
@@ -281,48 +274,3 @@ def test_random_kills(
         assert bonds == distinct
     days = sum(act_at(place)[0] == "/bonds" for place in given)
     assert rows_of(true, "SELECT count(*) FROM bonds") == [(BONDS * days,)]
-
-
-@pytest.mark.parametrize(
-    "count, stops", [(20_000, 3), pytest.param(100_000, 20, marks=pytest.mark.slow)]
-)
-def test_many_bonds(
-    true: TrueCounter, gate: Gate, folder: Path, dice: random.Random, count: int, stops: int
-) -> None:
-    """Bonds are registered in requests of 500, while the client is killed, the counter is killed, or an answer is lost: none is registered or refused twice."""
-    begin(true.address, folder)
-    file = folder / "bonds.csv"
-    denoms, months = (50, 100, 500, 10000), range(1, 13)
-    file.write_text(
-        bonds_csv(
-            *(
-                f"{'ABCDEFGH'[n % 8]}{n}EE,{denoms[n % 4]},20{10 + n % 9}-{months[n % 12]:02},{1 + n % 5000},"
-                + ("" if n % 3 else str(5001 + n % 77))
-                for n in range(1, count + 1)
-            )
-        )
-    )
-    own = ("--journal", folder / "a.journal", "--desk", "3", "--at", gate.address)
-    words = (*own, "register", "--even-so", file)
-    line = [sys.executable, "-B", str(TOP / "clients/counter.py"), *map(str, words)]
-    killed = 0
-    for stop in range(stops):
-        running = subprocess.Popen(line, stdout=subprocess.DEVNULL, stderr=subprocess.DEVNULL)
-        most = max(1, count // 500 // stops)
-        after_messages(gate, dice.randint(1, most), running)
-        if stop % 3 == 1:
-            true.kill()
-            after_messages(gate, 1, running)
-        elif stop % 3 == 2:
-            gate.faults = ["killed after"]
-            after_messages(gate, 1, running)
-        running.kill()
-        killed += running.wait() == -9
-        gate.faults = []
-    assert killed >= 0.6 * stops and true.kills >= stops // 3
-    status, out, told = command(*words)
-    assert status == 0 and json.loads(out)["same"] == 0, told
-    assert command(*words)[:2] == (0, f'{{"new":0,"same":0,"before":{count}}}\n')
-    assert rows_of(true, "SELECT count(*) FROM bonds") == [(count,)]
-    replies = rows_of(true, "SELECT reply, count(*) FROM answers WHERE desk = 3 GROUP BY 1")
-    assert replies == [('{"new":500,"same":0}', count // 500)]

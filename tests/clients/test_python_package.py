@@ -29,9 +29,6 @@ def blocks(kind: str) -> list[str]:
     return [block for name, block in found if name == kind]
 
 
-# ---- building
-
-
 def built(folder: Path, source: Path = SOURCE) -> dict[str, bytes]:
     """The bytes of the sdist and of the wheel, by name."""
     env = {**PLAIN, "SOURCE_DATE_EPOCH": "1700000000", "PIP_NO_INDEX": "1"}
@@ -77,9 +74,6 @@ def test_same_bytes(packages: Path, tmp_path: Path) -> None:
     (name,) = (name for name in first if name.endswith(".whl"))
     assert "ee_counter_client/py.typed" in zipfile.ZipFile(packages / name).namelist()
     assert built(tmp_path / "four", unpacked)[name] == first[name]
-
-
-# ---- a new user
 
 
 class Venv:
@@ -155,13 +149,14 @@ def test_document(venv: Venv) -> None:
     assert status == 3 and told.count("\n") == 1, "a copy of it alone"
 
 
-# ---- types
-
 USER = """
+from collections import deque
 from decimal import Decimal
-from ee_counter_client import AlreadyPaid, Bond, Counter, Incomplete, Interest, Lookups, Pool, bonds_known, interest_of_payee
+from ee_counter_client import AlreadyPaid, AsyncCounter, Bond, Counter, Incomplete, Interest, Lookups, Pool, bonds_known, interest_of_payee
 from ee_counter_client.testing import FakeCounter, Gate
 
+KEYS = {"L1EE"}
+many = {"a": Bond("L1EE", 50, "2010-11", 7)}
 with Pool("desks", desks=range(10, 14), certificate="nora.crt", key="nora.key", patience=60) as pool:
     pool.add_bonds((Bond("L1EE", 50, "2010-11", 7), {"serial": "K2EE", "denom": 75, "issued": "2010-10", "owner": 7}))
     paid: Decimal = pool.redeem("2012-02-06", 7, ("L1EE",)).total
@@ -172,30 +167,45 @@ except Incomplete as lack:
     text: str = lack.interest.text + lack.missing[0]
 with FakeCounter() as fake, Gate(fake) as gate, Counter("a.journal", gate.address, desk=3) as counter:
     counter.open_day("2012-02-06", even_so=True)
-    total: Decimal = counter.redeem("2012-02-06", 7, ["L1EE"]).total
+    total: Decimal = counter.redeem("2012-02-06", 7, list(KEYS)).total
+    counter.redeem("2012-02-06", 7, deque(KEYS))
+    counter.add_bonds(many.values())
     try:
         counter.close_day("2012-02-06")
     except AlreadyPaid as refusal:
         number: int = refusal.ticket
+
+
+async def pay(counter: AsyncCounter) -> int:
+    return (await counter.redeem("2012-02-06", 7, ["L1EE"], key="a", bookmark=[1])).number
 """
 
 
+USES = [("", ""), ("total: Decimal", "total: float"), ("refusal.ticket", "refusal.tickets")]
+USES += [
+    ("certificate=", "certificat="),
+    ("patience=60", 'patience="60"'),
+    ("list(KEYS)", '"L1EE"'),
+]
+USES += [
+    ("list(KEYS)", "KEYS"),
+    ("list(KEYS)", "frozenset(KEYS)"),
+    ("(many.values())", "(set(many))"),
+]
+USES += [
+    ('key="a"', 'keys="a"'),
+    ("pay(counter: AsyncCounter) -> int", "pay(counter: AsyncCounter) -> str"),
+]
+
+
 @pytest.mark.needs("mypy")
-@pytest.mark.parametrize(
-    "old, new",
-    [
-        ("", ""),
-        ("total: Decimal", "total: float"),
-        ("refusal.ticket", "refusal.tickets"),
-        ("certificate=", "certificat="),
-        ("patience=60", 'patience="60"'),
-        ('["L1EE"]', '"L1EE"'),
-    ],
-)
-def test_types(tmp_path: Path, old: str, new: str) -> None:
-    """A program that uses the package is right by mypy --strict, and each wrong use of it is told."""
-    (tmp_path / "user.py").write_text(USER.replace(old, new) if old else USER)
-    env = {**PLAIN, "MYPYPATH": str(SOURCE / "src")}
-    words = ("mypy", "--strict", "--cache-dir", tmp_path / "cache", "--config-file=", "user.py")
-    status, out, _ = ran(*words, cwd=tmp_path, env=env)
-    assert status == (1 if old else 0), out
+def test_types(tmp_path: Path) -> None:
+    """A program that uses the package is right by mypy --strict, and each wrong use of it is named."""
+    names = [f"user{place}.py" for place in range(len(USES))]
+    for name, (old, new) in zip(names, USES):
+        assert old in USER
+        (tmp_path / name).write_text(USER.replace(old, new) if old else USER)
+    words = ("mypy", "--strict", "--cache-dir", tmp_path / "cache", "--config-file=", *names)
+    _, out, _ = ran(*words, cwd=tmp_path, env={**PLAIN, "MYPYPATH": str(SOURCE / "src")})
+    wrong = {line.partition(":")[0] for line in out.splitlines() if ": error:" in line}
+    assert wrong == set(names[1:]), out

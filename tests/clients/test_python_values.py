@@ -27,18 +27,10 @@ import ee_counter_client.way as way
 from tests.clients.desk import DAY, Desk, controls, holds_not, listening, ran
 
 Part = ContextManager[object] | None
-KINDS = [
-    kind
-    for name in client.__all__
-    if isinstance(kind := getattr(client, name), type) and issubclass(kind, client.CounterError)
-]
-BRANCHES: tuple[type[client.CounterError], ...] = (
-    client.BadCall,
-    client.WrongSetup,
-    client.Retryable,
-    client.UnknownOutcome,
-    client.Refused,
-)
+CLASSES = [one for name in client.__all__ if isinstance(one := getattr(client, name), type)]
+KINDS = [kind for kind in CLASSES if issubclass(kind, client.CounterError)]
+BRANCHES: list[type[client.CounterError]] = [client.BadCall, client.WrongSetup, client.Retryable]
+BRANCHES += [client.UnknownOutcome, client.Refused]
 JUNK: tuple[Any, ...] = (
     *(None, True, 1.5, -1, 10**30, b"bytes", "", "x" * 300, "\0", "\x1b[2J\r", "caf\u00e9"),
     *([], {}, {"\x1b[2J": 7}, object(), float("nan"), datetime.time(8), lambda: None),
@@ -69,13 +61,8 @@ CALLS: dict[str, Callable[[client.Counter, Any], object]] = {
     "a file": lambda counter, junk: client.register(counter, junk),
 }
 #: Arguments that are no junk in these places.
-GOOD: dict[str, list[Any]] = {
-    "a reason": ["x" * 300, "\0", "\x1b[2J\r", "caf\u00e9"],
-    "a ticket": [10**30],
-}
-
-
-# ---- arguments
+GOOD: dict[str, list[Any]] = {"a reason": ["x" * 300, "\0", "\x1b[2J\r", "caf\u00e9"]}
+GOOD["a ticket"] = [10**30]
 
 
 @controls(
@@ -88,9 +75,7 @@ def test_junk_arguments(desk: Desk, part: Part) -> None:
     with holds_not(part), desk.known() as counter, desk.untouched():
         for place, call in CALLS.items():
             for junk in JUNK:
-                if part is None and any(
-                    junk is good or junk == good for good in GOOD.get(place, [])
-                ):
+                if part is None and junk in GOOD.get(place, []):
                     continue
                 try:
                     call(counter, junk)
@@ -110,12 +95,11 @@ def test_junk_arguments(desk: Desk, part: Part) -> None:
             counter.open_day(datetime.datetime(2012, 2, 6, 8))
 
 
+DATELESS: dict[str, object] = {"serial": "L9EE", "denom": 50, "owner": 7}
 MISSPELT: dict[str, Callable[[client.Counter], object]] = {
     "a bond has no key 'co_owner'": lambda c: c.add_bonds([BOND, {**BOND, "co_owner": 8}]),
     "a bond has no key 'Coowner'": lambda c: c.add_bonds([{**BOND, "Coowner": 8}]),
-    "a bond lacks the key 'issued'": lambda c: c.add_bonds(
-        [{"serial": "L9EE", "denom": 50, "owner": 7}]
-    ),
+    "a bond lacks the key 'issued'": lambda c: c.add_bonds([DATELESS]),
     "a row of rates has no key 'extention'": lambda c: c.add_rates([{**RATE, "extention": "2"}]),
     "a row of rates lacks the key 'rate'": lambda c: c.add_rates([{"from": "2010-05"}]),
     "201011 is no month": lambda c: c.add_bonds([{**BOND, "issued": 201011}]),
@@ -146,19 +130,11 @@ def test_spellings(desk: Desk) -> None:
         assert [row.serial for row in rows] == ["L2EE", "L3EE"]
 
 
+ADDRESSES = "|127.0.0.1:8377|ftp://x|http://|http://x:99999|http://x:0|http://x/path|http://u:p@x"
+ADDRESSES += "|http://x y|http://x?q|http://[::1|http://\u00e9"
 OPENINGS: dict[str, tuple[Any, ...]] = {
     "journal": (None, 7, "", "a\0b", b"bytes", object()),
-    "address": (
-        *(None, 7, "", "127.0.0.1:8377", "ftp://x", "http://", "http://x:99999", "http://x:0"),
-        *(
-            "http://x/path",
-            "http://u:p@x",
-            "http://x y",
-            "http://x?q",
-            "http://[::1",
-            "http://\u00e9",
-        ),
-    ),
+    "address": (None, 7, *ADDRESSES.split("|")),
     "desk": (-1, 1000, True, 1.5, "x"),
     "patience": (-1, "x", True, float("nan"), float("inf")),
     "time_limit": (0, -1, None, "x"),
@@ -197,12 +173,10 @@ def test_wrong_openings(desk: Desk) -> None:
             client.Counter(path, desk=3)
 
 
-# ---- texts
+AS_MADE = mock.patch.object(client.CounterError, "__str__", Exception.__str__)
 
 
-@controls(
-    texts_as_they_were_made=mock.patch.object(client.CounterError, "__str__", Exception.__str__)
-)
+@controls(texts_as_they_were_made=AS_MADE)
 def test_quoted_signs(desk: Desk, caplog: pytest.LogCaptureFixture, part: Part) -> None:
     """No error's text, and none of the log, has a control character of what it quotes."""
     sign = "\x1b[2J\x07\n\u202e"
@@ -241,24 +215,16 @@ def test_quoted_signs(desk: Desk, caplog: pytest.LogCaptureFixture, part: Part) 
     assert all(text.isprintable() for text in caplog.messages)
 
 
-@pytest.mark.parametrize(
-    "setting, wanted",
-    [
-        ("logging.getLogger('ee_counter_client').addHandler(logging.NullHandler())", set()),
-        ("logging.getLogger('ee_counter_client').setLevel(logging.ERROR)", set()),
-        ("", {"no reply: [Errno 111] Connection refused"}),
-    ],
-)
-def test_words(folder: Path, setting: str, wanted: set[str]) -> None:
+@pytest.mark.parametrize("setting", ["addHandler(logging.NullHandler())", "setLevel(50)", "name"])
+def test_words(folder: Path, setting: str) -> None:
     """The package logs, and prints nothing; without a handler its warnings reach standard error."""
-    counter = "Counter(sys.argv[1], 'http://127.0.0.1:9', desk=3, patience=0.1)"
-    lines = ["import logging, sys", setting, "from ee_counter_client import *"]
+    counter = "Counter(sys.argv[1], 'http://127.0.0.1:9', desk=3, patience=0.5)"
+    setup = f"logging.getLogger('ee_counter_client').{setting}"
+    wanted = {"no reply: [Errno 111] Connection refused"} if setting == "name" else set()
+    lines = ["import logging, sys", setup, "from ee_counter_client import *"]
     lines += ["try:", f"    {counter}.ticket(1)", "except NoAnswer:", "    pass"]
     status, out, told = ran(sys.executable, "-c", "\n".join(lines), folder / "a.journal")
     assert (status, out, set(told.splitlines()) - {"no reply: timed out"}) == (0, "", wanted)
-
-
-# ---- results, errors and look-ups
 
 
 def test_results(desk: Desk) -> None:
@@ -305,9 +271,8 @@ def test_branches() -> None:
     assert [one for one in public if callable(one) and not one.__doc__] == []
 
 
-REQUEST = client.Request(
-    3, 17, "/redeem", {"day": DAY, "payee": 7, "serials": ["L1EE"]}, 2, "invoice-1", {"row": 4}
-)
+PAYMENT = {"day": DAY, "payee": 7, "serials": ["L1EE"]}
+REQUEST = client.Request(3, 17, "/redeem", PAYMENT, 2, "invoice-1", {"row": 4})
 
 
 def one_of(kind: type[client.CounterError]) -> client.CounterError:
@@ -318,10 +283,8 @@ def one_of(kind: type[client.CounterError]) -> client.CounterError:
         refusal = kind({"code": code, "refused": kind.__name__, **named}, REQUEST)
         refusal.rows, refusal.line = (2, 501), 17
         return refusal
-    row = client.Paid(
-        datetime.date(2012, 2, 6), 1, 7, "L1EE", None, None, None, None, decimal.Decimal(9)
-    )
     none = decimal.Decimal(0)
+    row = client.Paid(datetime.date(2012, 2, 6), 1, 7, "L1EE", None, None, None, None, none)
     words: dict[type[client.CounterError], tuple[Any, ...]] = {
         client.BadFile: (3, "no bond"),
         client.KeyReused: ("invoice-1", 17),
@@ -339,9 +302,10 @@ def raise_one(kind: type[client.CounterError]) -> None:
     raise one_of(kind)
 
 
-@controls(
-    as_Python_pickles=mock.patch.object(client.CounterError, "__reduce__", Exception.__reduce__)
-)
+REDUCED = mock.patch.object(client.CounterError, "__reduce__", Exception.__reduce__)
+
+
+@controls(as_Python_pickles=REDUCED)
 def test_pickled(part: Part) -> None:
     """Each error is the same after pickling and copying."""
     with holds_not(part):
@@ -371,12 +335,9 @@ def test_look_ups(desk: Desk) -> None:
         ticket = counter.redeem(DAY, 7, ["L1EE"])
         lookups = client.Lookups(desk.gate.address, patience=20)
         before = sorted(desk.place.iterdir())
-        for name, words in {
-            "ticket": (1,),
-            "inventory": (7, "2012-02"),
-            "value": (50, "2010-11", "2012-02"),
-            "batch": (DAY,),
-        }.items():
+        asked = {"ticket": (1,), "inventory": (7, "2012-02"), "batch": (DAY,)}
+        asked |= {"value": (50, "2010-11", "2012-02")}
+        for name, words in asked.items():
             assert getattr(lookups, name)(*words) == getattr(counter, name)(*words)
         assert lookups.ticket(1) == ticket and sorted(desk.place.iterdir()) == before
     desk.gate.is_wide, desk.gate.faults = True, ["lost answer", "no gateway"] * 4
@@ -386,8 +347,6 @@ def test_look_ups(desk: Desk) -> None:
     with multiprocessing.Pool(2) as processes:
         assert processes.map(lookups.ticket, [1, 2]) == [ticket, None]
 
-
-# ---- junk responses
 
 #: Texts of the counter, with signs for a terminal.
 TEXTS = [
@@ -399,18 +358,12 @@ TEXTS = [
     '{"code":2,"unserved":"StoreFailed"}',
 ]
 OK = b"HTTP/1.1 200 OK\r\n"
+SIZES = (b"-5\r\nabcde\r\n0\r\n\r\n", b"f" * 20, b"9" * 5000 + b"\r\nabcde")
 HEADS = [
-    *(
-        OK + b"Transfer-Encoding: chunked\r\n\r\n" + size
-        for size in (b"-5\r\nabcde\r\n0\r\n\r\n", b"f" * 20)
-    ),
-    OK + b"Transfer-Encoding: chunked\r\n\r\n" + b"9" * 5000 + b"\r\nabcde",
+    *(OK + b"Transfer-Encoding: chunked\r\n\r\n" + size for size in SIZES),
     *(OK + b"Content-Length: %s\r\n\r\nabc" % size for size in (b"9" * 20, b"-7", b"zz")),
-    *(
-        b"HTTP/1.1 \x1b[31m OK\r\n\r\n",
-        b"\x1b]0;title\x07\x1b[2J\r\n\r\n",
-        b"HTTP/9.9 200 OK\r\n\r\n",
-    ),
+    *(b"HTTP/1.1 \x1b[31m OK\r\n\r\n", b"\x1b]0;title\x07\x1b[2J\r\n\r\n"),
+    b"HTTP/9.9 200 OK\r\n\r\n",
     *(OK + b"X: y\r\n" * 500 + b"\r\n", OK + b"X" * 70000, b"HTTP/1.1 100 Continue\r\n\r\n" * 3),
     *(OK + b": \r\n\x00\xff\r\nContent-Length: 2\r\n\r\n{}", b"\x16\x03\x01\x02\x00", b""),
 ]
@@ -449,10 +402,9 @@ class Answering:
         self.response = response
         for known in (True, False):
             counter._is_known = known
-            calls: list[Callable[[], object]] = [lambda: counter.ticket(1)]
-            calls += [lambda: counter.inventory(7, "2012-02")]
+            calls: list[Callable[[], object]] = [lambda: counter.inventory(7, "2012-02")]
+            calls += [lambda: counter.ticket(1), lambda: counter.redeem(DAY, 7, ["L1EE"])]
             calls += [lambda: counter.value(50, "2010-11", "2012-02")]
-            calls += [lambda: counter.redeem(DAY, 7, ["L1EE"])]
             for call in calls:
                 try:
                     call()
@@ -475,20 +427,13 @@ def test_junk_responses(desk: Desk, caplog: pytest.LogCaptureFixture, response: 
     assert all(text.isprintable() for text in caplog.messages)
 
 
+NAMELESS, FAULTY = response_of(409, TEXTS[1]), response_of(400, '{"code":60,"fault":"\\u001b[31m"}')
+LET_OUT = mock.patch.object(way, "ValueError", UnicodeError, create=True)
 JUNK_CONTROLS: dict[str, tuple[list[bytes], ContextManager[object]]] = {
-    "what http.client lets out": (
-        HEADS,
-        mock.patch.object(way, "ValueError", UnicodeError, create=True),
-    ),
+    "what http.client lets out": (HEADS, LET_OUT),
     "texts of others as they came": (HEADS, mock.patch.object(way, "shown", str)),
-    "names of a refusal as they came": (
-        [response_of(409, TEXTS[1])],
-        mock.patch.multiple(errors.CounterError, __str__=Exception.__str__),
-    ),
-    "names of a fault as they came": (
-        [response_of(400, '{"code":60,"fault":"\\u001b[31m"}')],
-        mock.patch.object(lookups_module, "shown", str),
-    ),
+    "names of a refusal as they came": ([NAMELESS], AS_MADE),
+    "names of a fault as they came": ([FAULTY], mock.patch.object(lookups_module, "shown", str)),
 }
 
 

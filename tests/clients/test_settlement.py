@@ -6,20 +6,15 @@ import re
 import shutil
 import subprocess
 from pathlib import Path
-from typing import Any, Iterator
+from typing import Iterator
 
 import pytest
 
 from tests.conftest import TOP
-from tests.shared.counter_calls import apply, free_port, post, serve, wait_for
+from tests.shared.counter_calls import BONDS, RATES, apply, free_port, post, redeem, serve, wait_for
 
 DAY = "2012-02-06"
-RATES = [{"from": "2010-05", "rate": "2.00"}, {"from": "2010-11", "rate": "3.50"}]
 INVENTORY = "serial,denom,issued,owner,coowner\nL1EE,50,2010-11,7,\nM3EE,10000,2011-02,7,\n"
-BONDS = [
-    {"serial": "L1EE", "denom": 50, "issued": "2010-11", "owner": 7},
-    {"serial": "M3EE", "denom": 10000, "issued": "2011-02", "owner": 7},
-]
 #: A customer who walked in with one bond.
 WALK_IN = {"serial": "K2EE", "denom": 75, "issued": "2010-10", "owner": 9}
 WHOLE = """\
@@ -40,15 +35,15 @@ class Served:
         archive = (TOP / "samples/restore/archive", store, folder / "archive")
         messages = [
             post("/rates", {"number": 1, "rates": RATES}, b""),
-            post("/bonds", {"number": 2, "bonds": BONDS}, b""),
+            post("/bonds", {"number": 2, "bonds": BONDS[:3:2]}, b""),
             post("/day/open", {"number": 3, "day": DAY}, b""),
         ]
         assert all(status == 200 for status, _ in apply(program, folder / "day.db", messages[:1]))
         subprocess.run(archive, check=True)
         messages += [
-            post("/redeem", self.payment(4, 7, "L1EE", "M3EE"), b""),
+            redeem(0, 4, DAY, 7, "L1EE", "M3EE"),
             post("/bonds", {"number": 5, "bonds": [WALK_IN]}, b""),
-            post("/redeem", self.payment(6, 9, "K2EE"), b""),
+            redeem(0, 6, DAY, 9, "K2EE"),
             post("/day/close", {"number": 7, "day": DAY}, b""),
         ]
         assert all(status == 200 for status, _ in apply(program, folder / "day.db", messages[1:]))
@@ -56,17 +51,8 @@ class Served:
         self.process = serve(program, store, self.port)
         wait_for(self.port)
 
-    @staticmethod
-    def payment(number: int, payee: int, *serials: str) -> dict[str, Any]:
-        return {"number": number, "day": DAY, "payee": payee, "serials": list(serials)}
-
     def settlement(self, day: str, *sources: str) -> subprocess.CompletedProcess[str]:
-        client = [
-            "python3",
-            str(TOP / "clients/counter.py"),
-            "--at",
-            f"http://127.0.0.1:{self.port}",
-        ]
+        client = ["python3", f"{TOP}/clients/counter.py", "--at", f"http://127.0.0.1:{self.port}"]
         words = ["settlement", "--page", str(self.folder / "page.html"), day]
         named = [str(self.folder / source) for source in sources]
         return subprocess.run([*client, *words, *named], capture_output=True, text=True)

@@ -15,23 +15,8 @@ from tests.shared.hostile.desk import Books
 
 Strategy = st.SearchStrategy[Any]
 Draw = Callable[[Strategy], Any]
-WRONG: list[object] = [
-    None,
-    True,
-    0,
-    -1,
-    1.0,
-    10**30,
-    "",
-    "x",
-    [],
-    {},
-    51,
-    2**63,
-    "-0",
-    "9" * 400,
-]
-WRONG += ["2010-13", "20.01", "A0EE", "2012-02-30"]
+WRONG: list[object] = [None, True, 0, -1, 1.0, 10**30, "", "x", [], {}, 51, 2**63, "-0"]
+WRONG += ["9" * 400, "2010-13", "20.01", "A0EE", "2012-02-30"]
 TEXTS = ["", "[", "[" * 127 + "]" * 127, "[" * 128 + "]" * 128, '{"a":1e999}', '{"number":1e0}']
 TEXTS += ['"\\ud800"', "nul", "01", "-", "\ufeff{}", "{}x", "{}{}"]
 TARGETS = (
@@ -41,14 +26,8 @@ TARGETS += ["/ticket/%31", "/b\u00e4nk", "/Ticket/1", "/ticket/01", f"/ticket/{2
 FIELDS = ["Content-Length: 1", "content-LENGTH:0", "Transfer-Encoding: chunked", "Host: x", "x : 1"]
 FIELDS += ["transfer-encoding:", "Transfer-Encoding : x", "Connection: close", ": 1", " folded"]
 FIELDS += ["connection:\t CLOSE ", "Connection: keep-alive", "Connection: close, x", "no header"]
-FIELDS += [
-    'Connection: "close"',
-    "X-\xc3\xa4: 1",
-    "x: \xff\xfe",
-    "x: \x7f",
-    "x:\x00",
-    "x:" + "y" * 300,
-]
+FIELDS += ['Connection: "close"', "X-\xc3\xa4: 1", "x: \xff\xfe", "x: \x7f", "x:\x00"]
+FIELDS += ["x:" + "y" * 300]
 MONTHS = "2012-02 06/2015 2030-11 2005-05 2199-12 2200-01 x".split()
 LENGTHS = "0 1048576 1048577 +1 1x 1,1 -1 0x1".split() + ["", "9" * 30, "1 1"]
 
@@ -60,16 +39,12 @@ def seldom(usual: Strategy, other: Strategy, most: int = 9) -> Strategy:
     return st.integers(0, most).flatmap(lambda turn: other if turn == most else usual)
 
 
+denoms, issued = pick([*spelling.DENOMINATIONS, 51, "050"]), pick([*making.ISSUED, "2010"])
 asked = st.one_of(
     st.builds("/inventory/{}/{}".format, pick([*making.OWNERS, 0, "007", "x"]), pick(MONTHS)),
     st.builds("/ticket/{}".format, pick([1, 2, 3, 0, 2**63 - 1])),
     st.builds("/batch/{}".format, pick([*making.DAYS, "2012-02-30"])),
-    st.builds(
-        "/value/{}/{}/{}".format,
-        pick([*spelling.DENOMINATIONS, 51, "050"]),
-        pick([*making.ISSUED, "2010"]),
-        pick(MONTHS),
-    ),
+    st.builds("/value/{}/{}/{}".format, denoms, issued, pick(MONTHS)),
     pick(TARGETS),
 )
 

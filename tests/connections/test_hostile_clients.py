@@ -1,11 +1,8 @@
-"""Clients that do harm to `serve`, and faults of its device: each a server over a copy of one
-store.
-
-In the store a day is open, and customer 7 has three bonds."""
+"""Clients that do harm to `serve`, over a store in which a day is open, and customer 7 has three
+bonds."""
 
 from __future__ import annotations
 
-import functools
 import re
 import select
 import shutil
@@ -13,110 +10,88 @@ import socket
 import subprocess
 import time
 from pathlib import Path
-from typing import Callable, Iterator, Sequence
+from typing import Callable, Iterator
 
 import pytest
 
-from tests.shared import counter_calls
-from tests.shared.counter_calls import BONDS, RATES, free_port, piped, rows
+from tests.shared.counter_calls import BONDS, RATES, apply, free_port, get, piped, post
+from tests.shared.counter_calls import redeem, rows
 
 #: The seconds after which `serve` lets a client go.
 PATIENCE = 30
-post = functools.partial(counter_calls.post, headers=b"")
+DAY = "2012-02-06"
 BEGUN = [
-    post("/rates", {"number": 1, "rates": RATES}),
-    post("/bonds", {"number": 2, "bonds": BONDS[:3]}),
-    post("/day/open", {"number": 3, "day": "2012-02-06"}),
+    post("/rates", {"number": 1, "rates": RATES}, b""),
+    post("/bonds", {"number": 2, "bonds": BONDS[:3]}, b""),
+    post("/day/open", {"number": 3, "day": DAY}, b""),
 ]
-TICKET = b"GET /ticket/1 HTTP/1.1\r\n\r\n"
-ASKED = {"number": 4, "day": "2012-02-06", "payee": 7, "serials": ["L1EE"]}
-REDEEM = post("/redeem", ASKED)
-LINES = b'"lines":[{"paid":"25.88","serial":"L1EE"}],"payee":7,"ticket":1,"total":"25.88"}'
-PAID = b'{"day":"2012-02-06",' + LINES
-Ran = subprocess.CompletedProcess[bytes]
-strace = pytest.mark.needs("strace")
+TICKET, REDEEM = get("/ticket/1", b""), redeem(0, 4, DAY, 7, "L1EE")
 
 
-class Store:
-    """A copy of the store, and what is done with it."""
+class Server:
+    """`serve` over the store on a port of its own, for that many connections."""
 
-    def __init__(self, program: Path, path: Path) -> None:
-        self.program, self.path = program, path
-        self.servers: list[subprocess.Popen[str]] = []
-
-    def apply(self, stream: bytes, before: Sequence[str] = ()) -> Ran:
-        words = [*before, str(self.program), "apply", "--db", str(self.path)]
-        return subprocess.run(words, input=stream, capture_output=True, timeout=120)
-
-    def serve(self, connections: int | None = None, before: Sequence[str] = ()) -> None:
-        """`serve` on a port of its own, for that many connections, or without an end."""
-        self.port = free_port()
-        more = [] if connections is None else ["--connections", str(connections)]
-        words = [*before, str(self.program), "serve", "--db", str(self.path), *more]
-        words += ["--port", str(self.port)]
-        pipe = subprocess.PIPE
+    def __init__(self, program: Path, store: Path, connections: int) -> None:
+        self.port, pipe = free_port(), subprocess.PIPE
+        words = [str(program), "serve", "--db", str(store), "--port", str(self.port)]
+        words += ["--connections", str(connections)]
         self.process = subprocess.Popen(words, stdout=pipe, stderr=pipe, text=True)
-        self.servers.append(self.process)
 
-    def connect(self, room: int | None = None) -> socket.socket:
+    def connect(self) -> socket.socket:
         for _ in range(1200):
             client = socket.socket()
-            if room is not None:
-                client.setsockopt(socket.SOL_SOCKET, socket.SO_RCVBUF, room)
-            try:
-                client.connect(("127.0.0.1", self.port))
+            client.setsockopt(socket.SOL_SOCKET, socket.SO_RCVBUF, 4096)
+            if client.connect_ex(("127.0.0.1", self.port)) == 0:
                 return client
-            except ConnectionRefusedError:
-                client.close()
-                time.sleep(0.05)
+            client.close()
+            time.sleep(0.05)
         raise AssertionError("the server doesn't listen")
 
     def ask(self, stream: bytes) -> bytes:
         """All that is answered to a stream after which nothing is sent."""
+        text = b""
         with self.connect() as client:
             client.sendall(stream)
             client.shutdown(socket.SHUT_WR)
-            return rest_of(client)
+            try:
+                while more := client.recv(65536):
+                    text += more
+            except ConnectionResetError:
+                text += b"RESET"
+        return text
 
     def line(self) -> str:
-        said: str = piped(self.process.stdout).readline()
-        return said.strip()
-
-    def has_said(self) -> bool:
-        return select.select([self.process.stdout], [], [], 0)[0] != []
-
-    def ended(self) -> tuple[int, str]:
-        _, said = self.process.communicate(timeout=120)
-        return self.process.returncode, said.strip()
+        return str(piped(self.process.stdout).readline()).strip()
 
 
-def rest_of(client: socket.socket) -> bytes:
-    text = b""
-    while True:
-        try:
-            more = client.recv(65536)
-        except ConnectionResetError:
-            return text + b"RESET"
-        if not more:
-            return text
-        text += more
+Serve = Callable[[int], Server]
 
 
 @pytest.fixture
-def store(program: Path, folder: Path) -> Iterator[Store]:
-    found = Store(program, folder / "day.db")
-    assert found.apply(b"".join(BEGUN)).returncode == 0
-    yield found
-    for server in found.servers:
-        server.kill()
-        server.communicate()
+def store(program: Path, folder: Path) -> Path:
+    assert [status for status, _ in apply(program, folder / "day.db", BEGUN)] == [200] * 3
+    return folder / "day.db"
 
 
-def send_nothing(store: Store, client: socket.socket) -> None:
+@pytest.fixture
+def serve(program: Path, store: Path) -> Iterator[Serve]:
+    made: list[Server] = []
+
+    def begin(connections: int) -> Server:
+        made.append(Server(program, store, connections))
+        return made[-1]
+
+    yield begin
+    for server in made:
+        server.process.kill()
+        server.process.communicate()
+
+
+def send_nothing(server: Server, client: socket.socket) -> None:
     pass
 
 
-def trickle(store: Store, client: socket.socket) -> None:
+def trickle(server: Server, client: socket.socket) -> None:
     """A byte now and then: every wait is short, and the whole is long."""
     for byte in REDEEM:
         try:
@@ -126,132 +101,60 @@ def trickle(store: Store, client: socket.socket) -> None:
         time.sleep(2)
 
 
-def hardly_read(store: Store, client: socket.socket) -> None:
+def hardly_read(server: Server, client: socket.socket) -> None:
     """Takes 16 bytes a second of sheets of 90 kilobytes."""
-    client.sendall(b"GET /inventory/7/2012-02 HTTP/1.1\r\n\r\n" * 200)
+    client.sendall(get("/inventory/7/2012-02", b"") * 200)
     for _ in range(60):
-        if not store.has_said():
+        if not select.select([server.process.stdout], [], [], 0)[0]:
             client.recv(16)
             time.sleep(1)
 
 
 @pytest.mark.slow
-@pytest.mark.parametrize(
-    "behave, line",
-    [
-        (send_nothing, r"connection 1: 0 messages, ReadFailed"),
-        (trickle, r"connection 1: 0 messages, ReadFailed"),
-        (hardly_read, r"connection 1: \d+ messages, WriteFailed"),
-    ],
-)
+@pytest.mark.parametrize("behave", [send_nothing, trickle, hardly_read])
 def test_slow_client_is_let_go(
-    store: Store, behave: Callable[[Store, socket.socket], None], line: str
+    program: Path, store: Path, serve: Serve, behave: Callable[[Server, socket.socket], None]
 ) -> None:
     bonds = [dict(BONDS[0], serial=f"A{n}EE") for n in range(1, 501)]
-    assert store.apply(post("/bonds", {"number": 9, "bonds": bonds})).returncode == 0
-    store.serve(2)
-    with store.connect(room=4096) as client:
+    apply(program, store, [post("/bonds", {"number": 9, "bonds": bonds}, b"")])
+    server, fault = serve(2), "Write" if behave is hardly_read else "Read"
+    with server.connect() as client:
         begun = time.time()
-        behave(store, client)
-        assert re.fullmatch(line, store.line())
+        behave(server, client)
+        assert re.fullmatch(rf"connection 1: \d+ messages, {fault}Failed", server.line())
     assert PATIENCE - 1 < time.time() - begun < PATIENCE + 8
-    assert b'"fault":"NotFound"' in store.ask(TICKET), "the next client is answered"
-    assert store.ended() == (0, "")
+    assert b'"fault":"NotFound"' in server.ask(TICKET), "the next client is answered"
+    assert server.process.wait(120) == 0
 
 
-def test_quick_client_is_kept(store: Store) -> None:
+def test_quick_client_is_kept(serve: Serve) -> None:
     """Control: a client that sends and reads at once isn't let go."""
-    store.serve(1)
-    assert b'"fault":"NotFound"' in store.ask(TICKET)
-    assert store.line() == "connection 1: 1 messages, Closed"
+    server = serve(1)
+    assert b'"fault":"NotFound"' in server.ask(TICKET)
+    assert server.line() == "connection 1: 1 messages, Closed"
 
 
-def test_in_one_go(store: Store) -> None:
+def test_in_one_go(serve: Serve) -> None:
     """Of 1,500 messages in one go 1,000 answers arrive, and the connection ends by its limit."""
-    store.serve(1)
-    text = store.ask(TICKET * 1500)
+    server = serve(1)
+    text = server.ask(TICKET * 1500)
     assert text.count(b"HTTP/1.1 404 Not Found") == 1000 and not text.endswith(b"RESET")
-    assert store.line() == "connection 1: 1000 messages, Limit"
+    assert server.line() == "connection 1: 1000 messages, Limit"
 
 
 @pytest.mark.parametrize("size", [2_000_000, 30_000_000])
-def test_long_body(store: Store, size: int) -> None:
+def test_long_body(serve: Serve, size: int) -> None:
     """The answer to a body that is too long arrives."""
-    store.serve(1)
-    text = store.ask(b"POST /rates HTTP/1.1\r\nContent-Length: %d\r\n\r\n" % size + b"a" * size)
+    head = b"POST /rates HTTP/1.1\r\nContent-Length: %d\r\n\r\n" % size
+    text = serve(1).ask(head + b"a" * size)
     assert text.startswith(b"HTTP/1.1 413 ")
     assert text.endswith(b'{"code":62,"fault":"BodyTooLong"}'), text[-200:]
 
 
-def failing(call: str, at: int) -> list[str]:
-    """Every such call fails from this one on."""
-    inject = f"inject={call}:error=EIO:when={at}+"
-    return ["strace", "-f", "-qq", "-e", f"trace={call}", "-e", inject, "-o", "/dev/null"]
-
-
-def calls_to_open(store: Store, call: str) -> int:
-    """How many such calls a command makes before it answers a query."""
-    calls = store.path.with_suffix(".calls")
-    store.apply(TICKET, ["strace", "-f", "-qq", "-e", f"trace={call},write", "-o", str(calls)])
-    return calls.read_text().split("write(1,")[0].count(f"{call}(")
-
-
-@strace
-@pytest.mark.parametrize("call, more", [("fdatasync", 1), ("fdatasync", 2), ("pwrite64", 1)])
-def test_failing_device(store: Store, call: str, more: int) -> None:
-    """A request whose sync or write fails is answered 503, the program ends, and it is paid
-    once."""
-    at = calls_to_open(store, call) + more
-    other = Store(store.program, Path(shutil.copy(store.path, store.path.with_name("other.db"))))
-    store.serve(None, failing(call, at))
-    text = store.ask(REDEEM)
-    assert b"503 Service Unavailable" in text and b'"unserved":"StoreFailed"' in text, text
-    assert store.line() == "connection 1: 1 messages, Closed, the store failed"
-    assert store.ended() == (3, "store: StoreFailed")
-    assert store.apply(REDEEM).stdout.endswith(PAID), "the same request has its one reply"
-    ran = other.apply(REDEEM + TICKET, failing(call, at))
-    assert ran.returncode == 3 and ran.stderr == b"store: StoreFailed\n" and b"503" in ran.stdout
-    assert other.apply(REDEEM + TICKET).stdout.count(PAID) == 2
-
-
-@strace
-def test_later_failure_isnt_met(store: Store) -> None:
-    """Control: without a call that fails the request is paid."""
-    assert store.apply(REDEEM, failing("fdatasync", 999)).stdout.endswith(PAID)
-
-
-@strace
-def test_unwritten(store: Store) -> None:
-    """The write-back at the end fails: the reply stands, in the file and the log together."""
-    ran = store.apply(REDEEM, failing("ftruncate", 1))
-    assert (ran.returncode, ran.stderr) == (3, b"store: NotWrittenBack\n")
-    assert ran.stdout.endswith(PAID)
-    assert store.apply(REDEEM).stdout.endswith(PAID)
-
-
-def test_one_file(store: Store) -> None:
+def test_one_file(program: Path, store: Path) -> None:
     """A store at rest, copied as one file, has the ticket, and SQLite finds it whole."""
-    assert store.apply(REDEEM).returncode == 0
-    copy = Store(store.program, Path(shutil.copy(store.path, store.path.with_name("copied.db"))))
-    assert copy.apply(TICKET).stdout.endswith(PAID)
-    assert rows(copy.path, "PRAGMA integrity_check") == [("ok",)]
-    assert rows(copy.path, "SELECT total FROM tickets") == [(2588,)]
-
-
-LISTS: list[tuple[str, str, list[object], int]] = [
-    ("/rates", "rates", [{"from": "2010-11", "rate": "3.50"}] * 31_774, 500),
-    ("/bonds", "bonds", [dict(BONDS[0], serial=f"A{n}EE") for n in range(1, 17_092)], 500),
-    ("/redeem", "serials", [f"A{n}EE" for n in range(1, 96_330)], 100),
-]
-
-
-@pytest.mark.parametrize("path, key, items, most", LISTS, ids=["rates", "bonds", "serials"])
-def test_long_lists(store: Store, path: str, key: str, items: list[object], most: int) -> None:
-    """With 8 MB of stack a list that is too long is refused, and one of the most isn't for that."""
-    limit = ["prlimit", f"--stack={8 << 20}"]
-    other = {"day": "2012-02-06", "payee": 7} if key == "serials" else {}
-    for count in (0, most + 1, 16_384, len(items), most):
-        value = {"number": 9 + count, **other, key: items[:count]}
-        ran = store.apply(post(path, value), limit)
-        name = b'"Empty"' if count == 0 else b'"TooMany"'
-        assert ran.returncode == 0 and (name in ran.stdout) == (count != most), (count, ran)
+    (paid,) = apply(program, store, [REDEEM])
+    copy = Path(shutil.copy(store, store.with_name("copied.db")))
+    assert apply(program, copy, [TICKET]) == [paid] and '"total":"25.88"' in paid[1]
+    assert rows(copy, "PRAGMA integrity_check") == [("ok",)]
+    assert rows(copy, "SELECT total FROM tickets") == [(2588,)]

@@ -7,7 +7,7 @@ many are tried."""
 from __future__ import annotations
 
 import os
-from typing import Iterator
+from typing import Any, Iterator
 
 import pytest
 from hypothesis import HealthCheck, Phase, given, note, seed, settings
@@ -23,6 +23,9 @@ STREAMS = int(os.environ.get("STREAMS", "200"))
 BOND = {"denom": 50, "issued": "2010-11", "owner": 7}
 TICKET = b"GET /ticket/1 HTTP/1.1\r\n\r\n"
 Plant = str | None
+QUIET: dict[str, Any] = {"deadline": None, "database": None}
+QUIET["suppress_health_check"] = list(HealthCheck)
+PLANTS = ['.88" .89"', "409 404", "close xxxxx", '"code":6 "code":9']
 
 
 def compare(
@@ -53,14 +56,7 @@ def search(program: Program, most: int, plant: Plant = None, shrinks: bool = Tru
     """Random connections, one after another over a store, and all of its rows after them."""
     phases = tuple(Phase) if shrinks else (Phase.generate,)
 
-    @settings(
-        max_examples=most,
-        deadline=None,
-        database=None,
-        phases=phases,
-        print_blob=True,
-        suppress_health_check=list(HealthCheck),
-    )
+    @settings(max_examples=most, phases=phases, print_blob=True, **QUIET)
     @seed(SEED)
     @given(st.data())
     def connections(data: st.DataObject) -> None:
@@ -80,20 +76,11 @@ def test_random_streams(hostile: Program) -> None:
     search(hostile, STREAMS)
 
 
-@pytest.mark.parametrize(
-    "plant",
-    [
-        'changed_answer .88" .89"',
-        "changed_answer 409 404",
-        "changed_answer close xxxxx",
-        'changed_answer "code":6 "code":9',
-    ],
-)
-def test_changed_answer_is_found(hostile: Program, plant: str) -> None:
-    """Control: programs that answer another cent, status, header, or codes 90 to 98 for 60 to
-    68."""
+@pytest.mark.parametrize("change", PLANTS)
+def test_changed_answer_is_found(hostile: Program, change: str) -> None:
+    """Control: programs that answer another cent, status or header, or codes from 90 on."""
     with pytest.raises(AssertionError):
-        search(hostile, 2000, plant, shrinks=False)
+        search(hostile, 2000, f"changed_answer {change}", shrinks=False)
 
 
 def test_smallest_stream_is_printed(hostile: Program) -> None:

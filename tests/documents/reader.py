@@ -12,8 +12,6 @@ A block behind a comment `<!-- not run: REASON -->` isn't run; one behind `<!-- 
 -->` has to stand in that file. Before a block behind `<!-- goes on from FILE -->` the commands
 of that document are run in the same shell."""
 
-from __future__ import annotations
-
 import contextlib
 import functools
 import os
@@ -28,7 +26,8 @@ import time
 from dataclasses import dataclass
 from pathlib import Path
 
-from tests.conftest import TOP
+from tests.conftest import TOP, is_listening, until
+from tests.shared.counter_calls import piped, run
 
 LEFT_OUT_OF_COPIES = shutil.ignore_patterns(".git", "crates", "ee_cli", "__pycache__", ".*_cache")
 SECONDS, COLUMNS = 600, 100
@@ -37,7 +36,8 @@ COMMENT = re.compile(r"<!-- (not run: |quoted from |goes on from )(.*\S) *-->")
 NAMED = re.compile(r"`((?:docs|tests|samples|clients|benchmarks|include|crates|\.ci)/[\w./-]*\w)`")
 LINK = re.compile(r"\[[^\]]*\]\(([^)\s]+)\)")
 PRINTS = re.compile(r"`(\./ee_cli [^`]*)` prints `([^`]*)`")
-NOTICE = re.compile(r"\S+: line \d+: +\d+ (Killed|Terminated) ")
+#: What comes at any moment: what a shell says of a job, and that a server listens.
+NOTICE = re.compile(r"\S+: line \d+: +\d+ (Killed|Terminated) |listening on port ")
 UNMARKED = re.compile(r"(\./ee_cli|curl|sqlite3|rt|cc|cobc|pip) |(clients|tests|benchmarks)/", re.M)
 LIBRARY = Path(os.environ.get("EE_VALUE_LIBRARY", TOP / "clients/value/out/libee_value.so.1"))
 
@@ -90,7 +90,6 @@ def blocks_of(text: str) -> list[Block]:
 
 
 def prose_of(text: str) -> str:
-    """The document without its blocks."""
     return re.sub(r"^ *```.*?^ *```", "", text, flags=re.S | re.M)
 
 
@@ -140,24 +139,16 @@ class Shell:
         words = ["bash", "--noprofile", "--norc"]
         if has_networks():
             words = ["unshare", "--net", "sh", "-c", 'ip link set lo up && exec "$@"', "sh", *words]
-        pipe = subprocess.PIPE
+        pipe, both = subprocess.PIPE, subprocess.STDOUT
         self.process = subprocess.Popen(
-            words,
-            cwd=folder,
-            stdin=pipe,
-            stdout=pipe,
-            stderr=subprocess.STDOUT,
-            start_new_session=True,
+            words, cwd=folder, stdin=pipe, stdout=pipe, stderr=both, start_new_session=True
         )
-        assert self.process.stdin is not None and self.process.stdout is not None
-        self.stdin, self.stdout = self.process.stdin, self.process.stdout
+        self.stdin, self.stdout = piped(self.process.stdin), piped(self.process.stdout)
 
     def is_served(self, port: int) -> bool:
-        lines = Path(f"/proc/{self.process.pid}/net/tcp").read_text().splitlines()
-        return any(f":{port:04X} " in line[:20] and " 0A " in line for line in lines)
+        return is_listening(port, self.process.pid)
 
     def run(self, command: str) -> str:
-        """What it prints, on both outputs."""
         port = int((re.search(r"--port (\d+)", command) or ["", "0"])[1])
         assert not port or not self.is_served(port), f"something listens on port {port} already"
         with tempfile.NamedTemporaryFile("w", suffix=".sh") as script:
@@ -166,16 +157,14 @@ class Shell:
             self.stdin.write(f"source {script.name} < /dev/null; echo; echo '{MARK}'\n".encode())
             self.stdin.flush()
             text = self.read()
-        until = time.time() + SECONDS
-        while port and "&" in command and not self.is_served(port):
-            assert time.time() < until, f"nothing listens on port {port}"
-            time.sleep(0.1)
+        if port and "&" in command:
+            until(lambda: self.is_served(port), f"nothing listens on port {port}", SECONDS)
         return text
 
     def read(self) -> str:
-        text, until = b"", time.time() + SECONDS
+        text, end = b"", time.time() + SECONDS
         while f"\n{MARK}\n".encode() not in text:
-            ready = select.select([self.stdout], [], [], max(0, until - time.time()))[0]
+            ready = select.select([self.stdout], [], [], max(0, end - time.time()))[0]
             more = os.read(self.stdout.fileno(), 65536) if ready else b""
             assert more, f"it ends the shell, or doesn't end; it printed: {text.decode()}"
             text += more
@@ -215,7 +204,6 @@ def run_shell(shell: Shell, block: Block) -> int:
 
 
 def run_before(shell: Shell, document: str) -> None:
-    """The commands of the document from which a block goes on."""
     for block in blocks_of((TOP / document).read_text()):
         if block.begins("$ ") and not block.kind:
             run_shell(shell, block)
@@ -227,9 +215,7 @@ def run_python(folder: Path, block: Block) -> None:
     words = "-m doctest -o NORMALIZE_WHITESPACE -o ELLIPSIS session.txt".split()
     places = {"EE_VALUE_LIBRARY": str(LIBRARY), "PYTHONPATH": str(TOP / "clients/value")}
     env = {**os.environ, **places}
-    ran = subprocess.run(
-        [sys.executable, *words], cwd=folder, env=env, capture_output=True, text=True
-    )
+    ran = run(sys.executable, *words, cwd=folder, env=env)
     assert ran.returncode == 0, f"line {block.line}: the session of Python\n{ran.stdout}"
 
 

@@ -3,8 +3,6 @@
 The changes and what is said of them are in clauses.toml: status 1 for a contract that may be
 weaker, 0 for comments, spaces, bodies and added `ensures`, 2 for what can't be read."""
 
-from __future__ import annotations
-
 import shutil
 import subprocess
 import tomllib
@@ -15,14 +13,14 @@ import pytest
 
 from tests.conftest import TOP
 
-EDITS: list[dict[str, Any]] = tomllib.loads((TOP / "tests/documents/clauses.toml").read_text())[
-    "edit"
-]
+TABLE: dict[str, Any] = tomllib.loads((TOP / "tests/documents/clauses.toml").read_text())
+EDITS: list[dict[str, Any]] = TABLE["edit"]
 CRATES = ("ee_units", "ee_keeper", "ee_desk_model", "ee_wire_framing")
 MOVED = {
     "ee_desk_model/specs/Lists.antt": "ee_keeper/specs/Lists.antt",
     "ee_units/src/customers.rt": "ee_keeper/src/buyers.rt",
 }
+PLACES = ("ee_keeper::buyers", "ee_units::customers")
 RESULT = "ensures { result ≡ in_range 1 highest_customer number }"
 
 
@@ -38,7 +36,6 @@ def compared(top: Path, *words: str) -> tuple[int, str]:
 
 @pytest.fixture
 def top(tmp_path: Path) -> Path:
-    """A repository of four crates."""
     left_out = shutil.ignore_patterns("out", "proofs", "must-fail")
     for crate in CRATES:
         shutil.copytree(TOP / "crates" / crate, tmp_path / "crates" / crate, ignore=left_out)
@@ -79,10 +76,7 @@ def test_moves(top: Path) -> None:
     status, said = compared(top, "HEAD~", "HEAD")
     assert status == 0 and ", 0 changed, 0 gone, 0 new" in said
     assert "moved: definition ee_keeper::Lists::Rising, from ee_desk_model::Lists::Rising" in said
-    moved, before = (
-        "ee_keeper::buyers::impl Customer::new",
-        "ee_units::customers::impl Customer::new",
-    )
+    moved, before = (f"{place}::impl Customer::new" for place in PLACES)
     assert f"moved: public function {moved}, from {before}" in said
     file = top / "crates/ee_keeper/src/buyers.rt"
     file.write_text(file.read_text().replace(RESULT, "ensures { ⊤ }"))
@@ -94,5 +88,4 @@ def test_moves(top: Path) -> None:
 
 
 def test_words(top: Path) -> None:
-    """No commit, and one that isn't there."""
     assert compared(top)[0] == 2 and compared(top, "no_such_commit")[0] == 2

@@ -1,8 +1,6 @@
 """The commands of the documents print what is written, and links, headings and named files are
 there."""
 
-from __future__ import annotations
-
 import re
 import subprocess
 from pathlib import Path
@@ -37,13 +35,11 @@ def test_document(program: Path, folder: Path, name: str) -> None:
 
 
 def unknown_documents(text: str) -> list[str]:
-    """The documents that a text names and that aren't there."""
     names = set(MENTIONED.findall(text))
     return [name for name in names if "NOWHERE" not in name and not (TOP / name).exists()]
 
 
 def unindexed(index: str, names: list[str]) -> list[str]:
-    """The documents that the index doesn't name."""
     others = set(names) - set(LINK.findall(index)) - {"README.md"}
     return sorted(name for name in others if name.endswith((".md", ".json")))
 
@@ -87,10 +83,7 @@ FAULTS = {
     "another output in a line": ("`./ee_cli --version` prints `ee_cli 0`.", "it prints"),
     "a command without its mark": (f"{FENCE}\n./ee_cli --version\n{FENCE}", "without `$ `"),
     "not in its file": (f"<!-- quoted from README.md -->\n{FENCE}\nno such\n{FENCE}", "stand so"),
-    "goes on from nowhere": (
-        f"<!-- goes on from NOWHERE.md -->\n{FENCE}\n$ ls\n{FENCE}",
-        "NOWHERE",
-    ),
+    "goes on from nowhere": (f"<!-- goes on from NO.md -->\n{FENCE}\n$ ls\n{FENCE}", "NO.md"),
     "a line that is too long": ("long " * 20 + "lines", "has 105 columns"),
     "a block without an end": (f"{FENCE}\n$ echo 1\n1\n", "has no end"),
 }

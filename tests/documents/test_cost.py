@@ -4,16 +4,14 @@ A stub in the place of rt starts processes with the words and folders of rt's ch
 which takes a known time of the processor. The tables are put between the marks of a page, and of
 nothing else."""
 
-from __future__ import annotations
-
 import re
-import subprocess
 import sys
 from pathlib import Path
 
 import pytest
 
 from tests.conftest import TOP
+from tests.shared.counter_calls import run
 
 #: Starts processes, one after another: SECONDS FOLDER WORDS .. of each. A process works for its
 #: seconds, and stays a while to be seen.
@@ -29,8 +27,9 @@ sys.exit({status})
 MARK = "<!-- the cost: .ci/cost --page .ci/README.md .ci/run --from-nothing -->"
 PAGE = f"Before.\n{MARK}\nold\n<!-- the end of the cost -->\nAfter.\n"
 CHECK = "/kit/bin/rattle check --crate-name"
+Process = tuple[float, str, str]
 #: The seconds, the folder and the words of a process for every part.
-PROCESSES = [
+PROCESSES: list[Process] = [
     (0.6, "crates/one", f"{CHECK} one"),
     (2.0, "crates/one", f"{CHECK} one --test"),
     (0.5, "crates/one", "/kit/bin/rattle-link out/one"),
@@ -44,36 +43,22 @@ FIRST = PROCESSES[:1]
 
 
 class Gate:
-    """A command that starts processes, and what `.ci/cost` says of it."""
-
     def __init__(self, top: Path) -> None:
         self.top, self.page = top, top / "page.md"
         self.page.write_text(PAGE)
 
     def cost(
-        self,
-        started: list[tuple[float, str, str]],
-        printed: str = "",
-        status: int = 0,
-        name: str = "rt",
+        self, started: list[Process], printed: str = "", status: int = 0, name: str = "rt"
     ) -> tuple[int, str]:
+        top, path = str(self.top), self.top / name
         processes = [
-            (seconds, f"{self.top}/{folder}", words.replace("TOP", str(self.top)).split())
+            (seconds, f"{top}/{folder}", words.replace("TOP", top).split())
             for seconds, folder, words in started
         ]
-        path = self.top / name
         path.parent.mkdir(exist_ok=True)
         path.write_text(STUB.format(processes=processes, printed=printed, status=status))
-        words = [
-            str(TOP / ".ci/cost"),
-            "--least",
-            "0",
-            "--page",
-            str(self.page),
-            sys.executable,
-            str(path),
-        ]
-        ran = subprocess.run(words, stdout=subprocess.PIPE, stderr=subprocess.STDOUT, text=True)
+        words = ("--least", "0", "--page", self.page, sys.executable, path)
+        ran = run(TOP / ".ci/cost", *words)
         return ran.returncode, ran.stdout
 
 
@@ -83,10 +68,8 @@ def gate(tmp_path: Path) -> Gate:
 
 
 def cells_of(text: str, first: str) -> list[str]:
-    rows = [
-        line.strip("| ").split(" | ") for line in text.splitlines() if line.startswith(f"| {first}")
-    ]
-    return rows[0] if rows else []
+    found = re.search(rf"^\| ({first}.*) \|$", text, re.M)
+    return found[1].split(" | ") if found else []
 
 
 def numbers(cells: list[str]) -> list[float]:

@@ -2,13 +2,10 @@
 
 With WRITE=1 the table of alerts of docs/WATCHING.md is written anew first."""
 
-from __future__ import annotations
-
 import os
 import re
 import subprocess
 from collections.abc import Callable
-from typing import NamedTuple
 
 import pytest
 
@@ -33,103 +30,63 @@ def count(path: str, pattern: str) -> str:
     return str(len(re.findall(pattern, text(path), re.M)))
 
 
-# ---- what is there
-
-
-def alerts() -> str:
-    return count("samples/watch/alerts.yml", r"^  - alert: ")
-
-
-def kinds() -> str:
-    return count("tests/samples/parts/damage.toml", r"^\[\[kind\]\]")
-
-
-def program() -> str:
-    return only("crates/ee_cli_commands/src/rows.rt", r'VERSION: &str = "([\d.]+)"')
-
-
-def store() -> str:
-    line = r'version_line = codes "ee_cli [\d.]+, store version (\d+)"'
-    return only("crates/ee_cli_program/specs/Statuses.antt", line)
-
-
-def client() -> str:
-    return only("clients/python/src/ee_counter_client/version.py", r'"([\d.]+)"')
-
-
-def library() -> str:
-    return only("clients/value/package.json", r'"version": "([\d.]+)"')
-
-
-def messages() -> str:
-    return only("docs/openapi.json", r'"version": "([\d.]+)"')
+STORE = r'version_line = codes "ee_cli [\d.]+, store version (\d+)"'
+PROGRAM = ("crates/ee_cli_commands/src/rows.rt", r'VERSION: &str = "([\d.]+)"')
+#: Numbers and versions that can be counted, or stand in one place.
+THERE: dict[str, Callable[[], str]] = {
+    "alerts": lambda: count("samples/watch/alerts.yml", r"^  - alert: "),
+    "kinds": lambda: count("tests/samples/parts/damage.toml", r"^\[\[kind\]\]"),
+    "program": lambda: only(*PROGRAM),
+    "store": lambda: only("crates/ee_cli_program/specs/Statuses.antt", STORE),
+    "client": lambda: only("clients/python/src/ee_counter_client/version.py", r'"([\d.]+)"'),
+    "library": lambda: only("clients/value/package.json", r'"version": "([\d.]+)"'),
+    "messages": lambda: only("docs/openapi.json", r'"version": "([\d.]+)"'),
+    "libc": lambda: functions("libc"),
+    "os": lambda: functions("os"),
+    "both": lambda: str(int(functions("libc")) + int(functions("os"))),
+}
 
 
 def functions(of: str) -> str:
     """How many functions of C the page on premises names behind `of`."""
     listed = rf"(?s)^- (?:\d+) of the \d+ that `{of}` declares: (.*?)\.$"
-    return str(len(re.findall(r"`[^`]+`", only("docs/ASSUMPTIONS.md", listed))))
-
-
-def of_libc() -> str:
-    return functions("libc")
-
-
-def of_os() -> str:
-    return functions("os")
-
-
-def of_both() -> str:
-    return str(int(of_libc()) + int(of_os()))
-
-
-class Fact(NamedTuple):
-    """What a page says, by the group of `pattern`, and what it has to say."""
-
-    page: str
-    pattern: str
-    wanted: Callable[[], str]
+    return str(len(only("docs/ASSUMPTIONS.md", listed).split()))
 
 
 NEWEST = r"\A(?:(?!## ).*\n)*## ([\d.]+)\n"
 OF_STORE = r"\A(?:(?!## ).*\n)*## [\d.]+\n\n(?:.*\n)*?.*store has version (\d+)"
+#: A page, the pattern of a number in it, and the number's name in THERE.
 FACTS = [
-    Fact("docs/WATCHING.md", r"for the (\d+) alerts", alerts),
-    Fact("docs/CLAIMS.md", r"of (\d+) kinds of damage", kinds),
-    Fact("tests/samples/parts/damage.toml", r"the (\d+) kinds of damage", kinds),
-    Fact("docs/VERSIONS.md", r"^\| the program \| ([\d.]+) \|", program),
-    Fact("docs/VERSIONS.md", r"^\| the store \| (\d+) \|", store),
-    Fact("docs/VERSIONS.md", r"^\| the library of values \| ([\d.]+) \|", library),
-    Fact("docs/VERSIONS.md", r"^\| the Python client \| ([\d.]+) \|", client),
-    Fact("docs/VERSIONS.md", r"^\| messages \| ([\d.]+) \|", messages),
-    Fact("README.md", r"\*\*Status\.\*\* Version ([\d.]+)", program),
-    Fact("CHANGELOG.md", NEWEST, program),
-    Fact("CHANGELOG.md", OF_STORE, store),
-    Fact("packaging/debian/changelog", r"\Aladwenpik \(([\d.]+)-", program),
-    Fact("docs/LIBRARY.md", r"`ee_value-([\d.]+)-py3-none-manylinux_2_5", library),
-    Fact("docs/PYTHON_CLIENT.md", r"ee_counter_client-([\d.]+)-py3", client),
-    Fact("docs/ASSUMPTIONS.md", r"^- (\d+) of the \d+ that `libc` declares", of_libc),
-    Fact("docs/ASSUMPTIONS.md", r"^- (\d+) of the \d+ that `os` declares", of_os),
-    Fact("docs/ASSUMPTIONS.md", r"contracts of (\d+) functions that C defines", of_both),
+    ("docs/WATCHING.md", r"for the (\d+) alerts", "alerts"),
+    ("docs/CLAIMS.md", r"of (\d+) kinds of damage", "kinds"),
+    ("tests/samples/parts/damage.toml", r"the (\d+) kinds of damage", "kinds"),
+    ("docs/VERSIONS.md", r"^\| the program \| ([\d.]+) \|", "program"),
+    ("docs/VERSIONS.md", r"^\| the store \| (\d+) \|", "store"),
+    ("docs/VERSIONS.md", r"^\| the library of values \| ([\d.]+) \|", "library"),
+    ("docs/VERSIONS.md", r"^\| the Python client \| ([\d.]+) \|", "client"),
+    ("docs/VERSIONS.md", r"^\| messages \| ([\d.]+) \|", "messages"),
+    ("README.md", r"\*\*Status\.\*\* Version ([\d.]+)", "program"),
+    ("CHANGELOG.md", NEWEST, "program"),
+    ("CHANGELOG.md", OF_STORE, "store"),
+    ("packaging/debian/changelog", r"\Aladwenpik \(([\d.]+)-", "program"),
+    ("docs/LIBRARY.md", r"`ee_value-([\d.]+)-py3-none-manylinux_2_5", "library"),
+    ("docs/PYTHON_CLIENT.md", r"ee_counter_client-([\d.]+)-py3", "client"),
+    ("docs/ASSUMPTIONS.md", r"^- (\d+) of the \d+ that `libc` declares", "libc"),
+    ("docs/ASSUMPTIONS.md", r"^- (\d+) of the \d+ that `os` declares", "os"),
+    ("docs/ASSUMPTIONS.md", r"contracts of (\d+) functions that C defines", "both"),
 ]
 
 
-@pytest.mark.parametrize(
-    "fact", FACTS, ids=[f"{fact.page}: {fact.wanted.__name__}" for fact in FACTS]
-)
-def test_fact(fact: Fact) -> None:
+@pytest.mark.parametrize("path, pattern, what", FACTS)
+def test_fact(path: str, pattern: str, what: str) -> None:
     """A line may end at every space. Control: the number one higher is another one."""
-    pattern, page = fact.pattern.replace(" ", r"\s+"), text(fact.page)
-    said = re.findall(pattern, page, re.M)
-    assert said and set(said) == {fact.wanted()}
+    pattern, page, wanted = pattern.replace(" ", r"\s+"), text(path), THERE[what]()
+    assert set(re.findall(pattern, page, re.M)) == {wanted}
     found = re.search(pattern, page, re.M)
     assert found is not None
     higher = re.sub(r"\d+$", lambda digits: str(int(digits[0]) + 1), found[1])
     changed = page[: found.start(1)] + higher + page[found.end(1) :]
-    assert set(re.findall(pattern, changed, re.M)) != {fact.wanted()}
-
-
-# ---- tables
+    assert set(re.findall(pattern, changed, re.M)) != {wanted}
 
 
 def plain(words: str) -> str:

@@ -1,11 +1,9 @@
-"""`./ee_cli` proves, builds and answers, through stops and faults, over a toolchain that proves
-nothing.
+"""`./ee_cli` proves, builds and answers, through stops, faults and other toolchains, over a
+toolchain that proves nothing; and what a usual call costs.
 
-A case has a folder of its own, with `ee_cli`, crates.txt, a source in every crate, and a command
+A case has a folder of its own, with `ee_cli`, crates.txt, sources in every crate, and a command
 `rt` that writes down how it is called and makes what the real one makes: libraries, and programs
 that print their words. If it is held, it waits in its first crate until the case lets it go."""
-
-from __future__ import annotations
 
 import contextlib
 import os
@@ -15,15 +13,19 @@ import signal
 import subprocess
 import tempfile
 import time
-from collections.abc import Callable
 from pathlib import Path
+from typing import Any, Callable
 
 import pytest
 
-from tests.conftest import TOP
+from tests.conftest import TOP, until
+from tests.shared.counter_calls import run
 
 #: The seconds after which a call that still runs is wrong.
 PATIENCE = 600
+WANTED = re.findall(r'^wanted="(.*)"$', (TOP / "ee_cli").read_text(), re.M)[0]
+OTHER = "rattle-kit-12a logic 0123456789abcdef"
+WITHOUT_RT = "/usr/bin:/bin"
 VALUE = "value 50 2010-05 2015-05 3.50"
 SMALL, WHOLE = "ee_cli_value_alone", "ee_cli"
 RT = r"""#!/usr/bin/env bash
@@ -41,7 +43,7 @@ one() {
 program() {
   if [ -e fails ]; then echo "error: $name is not proved"; exit 1; fi
   mkdir -p out
-  printf '#!/usr/bin/env bash\n[ %s = ee_cli ] || { [ "${1-}" = value ] && [ $# -lt 7 ]; } || exit 4\necho "%s $(cat "%s/src/source.rt"): $*"; exit 1\n' "$name" "$name" "$PWD" > out/"$name"
+  printf '#!/bin/bash\n[ %s = ee_cli ] || { [ "${1-}" = value ] && [ $# -lt 7 ]; } || exit 4\necho "%s $(cat "%s/src/source.rt"): $*"; exit 1\n' "$name" "$name" "$PWD" > out/"$name"
   chmod +x out/"$name"
 }
 case $1 in
@@ -52,32 +54,19 @@ esac
 """
 
 
-def wait_until(is_so: Callable[[], object], what: str) -> None:
-    deadline = time.monotonic() + PATIENCE
-    while not is_so():
-        assert time.monotonic() < deadline, what
-        time.sleep(0.05)
-
-
 class Call:
     """A running call of `./ee_cli`. Its messages go to a file, which can be read meanwhile."""
 
-    def __init__(self, top: Path, words: str, environment: dict[str, str]) -> None:
+    def __init__(self, words: list[str], env: dict[str, str]) -> None:
         self.messages = tempfile.TemporaryFile("w+")
-        self.process = subprocess.Popen(
-            [str(top / "ee_cli"), *words.split()],
-            env=environment,
-            stdout=subprocess.PIPE,
-            stderr=self.messages,
-            text=True,
-            preexec_fn=lambda: signal.signal(signal.SIGINT, signal.SIG_DFL),
-        )
+        pipes: dict[str, Any] = {"stdout": subprocess.PIPE, "stderr": self.messages}
+        ready = lambda: signal.signal(signal.SIGINT, signal.SIG_DFL)
+        self.process = subprocess.Popen(words, env=env, text=True, preexec_fn=ready, **pipes)
 
     def said(self) -> str:
         return os.pread(self.messages.fileno(), 1 << 20, 0).decode()
 
     def ended(self) -> tuple[int, str, str]:
-        """Its status, its output and its messages."""
         out, _ = self.process.communicate(timeout=PATIENCE)
         return self.process.returncode, out, self.said()
 
@@ -86,32 +75,42 @@ class Case:
     """A folder with the program's sources and the toolchain that proves nothing."""
 
     def __init__(self, top: Path) -> None:
-        self.top = top
-        shutil.copy(TOP / "ee_cli", top)
-        shutil.copy(TOP / "crates.txt", top)
+        self.top, self.path = top, f"{top}/bin:{WITHOUT_RT}"
+        for name in ("ee_cli", "crates.txt"):
+            shutil.copy(TOP / name, top)
         for name in re.findall(r"^(\w+)[^#\n]*:", (TOP / "crates.txt").read_text(), re.M):
-            (top / "crates" / name / "src").mkdir(parents=True)
+            for part in ("src", "specs"):
+                (top / "crates" / name / part).mkdir(parents=True)
+            (top / "crates" / name / "specs/Old.antt").write_text("old")
             self.write(name, "first")
-        path = os.pathsep.join([f"{top}/bin", "/usr/bin", "/bin"])
-        self.environment = {**os.environ, "PATH": path, "CRATES": "ee_units ee_store"}
         (top / "bin").mkdir()
         (top / "bin/rt").write_text(RT)
         (top / "bin/rt").chmod(0o755)
+        self.identify(WANTED)
+
+    def identify(self, identity: str) -> None:
+        (self.top / "KIT-ID").write_text(f"{identity}\n")
+
+    def source(self, name: str) -> Path:
+        return self.top / "crates" / name / "src/source.rt"
 
     def write(self, name: str, text: str) -> None:
-        (self.top / "crates" / name / "src/source.rt").write_text(text)
+        self.source(name).write_text(text)
 
-    def begin(self, words: str) -> Call:
-        return Call(self.top, words, self.environment)
+    def environment(self) -> dict[str, str]:
+        return {**os.environ, "PATH": self.path, "CRATES": "ee_units ee_store"}
 
-    def call(self, words: str) -> tuple[int, str, str]:
-        return self.begin(words).ended()
+    def begin(self, words: str, *before: str) -> Call:
+        return Call([*before, str(self.top / "ee_cli"), *words.split()], self.environment())
+
+    def call(self, words: str, *before: str) -> tuple[int, str, str]:
+        return self.begin(words, *before).ended()
 
     def begin_held(self, words: str) -> Call:
         """A call whose toolchain was called, and waits until `go`."""
         (self.top / "held").touch()
         call = self.begin(words)
-        wait_until(lambda: (self.top / "calls").exists(), "the toolchain is called")
+        until((self.top / "calls").exists, "the toolchain is called", PATIENCE)
         return call
 
     def go(self) -> None:
@@ -135,10 +134,20 @@ class Case:
     def has(self, name: str) -> bool:
         return (self.top / "crates" / name / "out" / f"{name}.sources").exists()
 
+    def is_usual(self) -> bool:
+        """The built program answers, nothing is said, and the toolchain isn't called."""
+        return self.call("sheet")[2] == "" and not self.calls()
+
 
 @pytest.fixture
-def case(tmp_path: Path) -> Case:
-    return Case(tmp_path)
+def case(folder: Path) -> Case:
+    return Case(folder)
+
+
+@pytest.fixture
+def built(case: Case) -> Case:
+    assert case.call("sheet")[:2] == answer(WHOLE, "sheet") and case.calls()
+    return case
 
 
 def answer(name: str, words: str, source: str = "first") -> tuple[int, str]:
@@ -146,9 +155,9 @@ def answer(name: str, words: str, source: str = "first") -> tuple[int, str]:
 
 
 def test_without_the_toolchain(case: Case) -> None:
-    (case.top / "bin/rt").unlink()
+    case.path = WITHOUT_RT
     status, out, err = case.call(VALUE)
-    assert (status, out) == (3, "") and "rt is not on the PATH" in err
+    assert (status, out) == (3, "") and err.endswith(f"rt is not on the PATH: {WANTED}\n")
     assert not any(case.top.glob("crates/*/out"))
 
 
@@ -163,9 +172,7 @@ def test_value_first(case: Case) -> None:
     assert re.search(r"7 of 7 crates .* about \d+ minutes on \d cores", err)
     assert "crate 6 of 7" in err and "crate 6 of 6" not in err
     last = err.splitlines()[-2:]
-    another = (
-        r"another command proves and builds the whole program in about \d+ minutes on \d cores"
-    )
+    another = r"another command proves and builds the whole program in about \d+ minutes on \d"
     assert re.search(another, last[0]) and "docs/INSTALL.md" in last[1]
     assert case.call(VALUE) == (*answer(SMALL, VALUE), "") and not case.calls()
     longer = f"{VALUE} 4.00 5.00"
@@ -184,26 +191,38 @@ def test_other_words_first(case: Case) -> None:
     assert case.has(SMALL) and calls[-1] == "ee_cli all test" and "ee_store_tables lib" in calls[:2]
 
 
-def test_changed_sources(case: Case) -> None:
-    """A source that has changed is proved, also while it is proved; one that is written as it
-    was isn't."""
-    case.call("sheet")
-    case.calls()
+def test_sources_that_change_meanwhile(built: Case) -> None:
+    """A source that changes while it is proved is proved again; one that is written as it was
+    isn't."""
     time.sleep(0.1)
-    case.write("ee_units", "first")
-    assert case.call("sheet")[:2] == answer(WHOLE, "sheet") and not case.calls()
+    built.write("ee_units", "first")
+    assert built.call("sheet")[:2] == answer(WHOLE, "sheet") and not built.calls()
+    built.write("ee_cli", "third")
+    held = built.begin_held("sheet")
     time.sleep(0.1)
-    case.write("ee_cli", "second")
-    assert case.call("sheet")[:2] == answer(WHOLE, "sheet", "second")
-    case.calls()
-    case.write("ee_cli", "third")
-    held = case.begin_held("sheet")
-    time.sleep(0.1)
-    case.write("ee_cli", "fourth")
-    case.go()
+    built.write("ee_cli", "fourth")
+    built.go()
     held.ended()
-    case.calls()
-    assert case.call("sheet")[:2] == answer(WHOLE, "sheet", "fourth") and case.calls()
+    built.calls()
+    assert built.call("sheet")[:2] == answer(WHOLE, "sheet", "fourth") and built.calls()
+
+
+FEWER = "ee_cli: ee_cli_value_alone\nee_cli_value_alone:\n"
+CHANGES: dict[str, Callable[[Path], object]] = {
+    "changed": lambda top: (top / "crates/ee_cli/src/source.rt").write_text("second"),
+    "added": lambda top: (top / "crates/ee_store_tables/specs/New.antt").write_text("new"),
+    "removed": lambda top: (top / "crates/ee_store_tables/specs/Old.antt").unlink(),
+    "crates.txt": lambda top: (top / "crates.txt").write_text(FEWER),
+}
+
+
+@pytest.mark.parametrize("change", CHANGES)
+def test_changed_sources(built: Case, change: str) -> None:
+    time.sleep(0.1)
+    CHANGES[change](built.top)
+    source = "second" if change == "changed" else "first"
+    assert built.call("sheet")[:2] == answer(WHOLE, "sheet", source) and built.calls()
+    assert built.is_usual()
 
 
 def test_crate_that_fails(case: Case) -> None:
@@ -233,7 +252,7 @@ def test_stopped(case: Case, number: int, wanted: int) -> None:
     assert status == wanted, err
     if number != signal.SIGKILL:
         assert "what was proved is kept" in err
-        wait_until(lambda: not case.processes(), "the toolchain, which is held, is ended")
+        until(lambda: not case.processes(), "the toolchain, which is held, is ended", PATIENCE)
     assert not case.has(SMALL)
     case.go()
     assert case.call("sheet")[:2] == answer(WHOLE, "sheet")
@@ -243,10 +262,89 @@ def test_calls_at_once(case: Case) -> None:
     """Two of three calls say that they wait; all have their answers, and each crate is proved
     once."""
     calls = [case.begin_held("sheet"), case.begin(VALUE), case.begin("sheet")]
-    for call in calls[1:]:
-        wait_until(lambda call=call: "waiting for it" in call.said(), "it says that it waits")  # type: ignore[misc]
+    until(lambda: all("waiting for it" in call.said() for call in calls[1:]), "", PATIENCE)
     case.go()
     found = [call.ended()[:2] for call in calls]
     assert found == [answer(WHOLE, "sheet"), answer(SMALL, VALUE), answer(WHOLE, "sheet")]
     made = case.calls()
     assert len(made) == len(set(made)) == 9
+
+
+@pytest.mark.needs("strace")
+def test_a_usual_call_starts_one_process(built: Case) -> None:
+    """bash, find, and the program, which is a script here. The toolchain, whose call takes long,
+    isn't asked."""
+
+    def programs() -> list[str]:
+        trace = built.top / "trace"
+        built.call("sheet", "strace", "-f", "-qq", "-e", "trace=execve", "-o", str(trace))
+        found = re.findall(r'execve\("([^"]*)".* = 0', trace.read_text())
+        return [name.rpartition("/")[2] for name in found]
+
+    # The first call after a build finds the folders that it made.
+    assert built.is_usual()
+    assert programs() == ["ee_cli", "find", "ee_cli", "cat"]
+    built.source("ee_cli").touch()
+    assert len(programs()) > 8, "control: a file that is newer takes more"
+    assert programs() == ["ee_cli", "find", "ee_cli", "cat"]
+
+
+def test_another_toolchain_is_named(built: Case) -> None:
+    """A program that is built runs all the same; one that isn't built isn't begun."""
+    built.identify(OTHER)
+    said = f"ee_cli: these sources want the toolchain {WANTED}, and rt is {OTHER}\n"
+    assert built.call("sheet") == (*answer(WHOLE, "sheet"), said)
+    built.write("ee_cli", "second")
+    status, out, err = built.call("sheet")
+    assert (status, out, built.calls()) == (3, "", []) and err.endswith(said)
+    built.identify(WANTED)
+    assert built.call("sheet")[:2] == answer(WHOLE, "sheet", "second") and built.calls()
+    assert built.is_usual()
+
+
+def test_a_program_of_an_earlier_toolchain_is_built_again(built: Case) -> None:
+    kit = built.top / "crates/ee_cli/out/ee_cli.kit"
+    kit.write_text(kit.read_text().replace(WANTED, OTHER))
+    assert built.call("sheet")[:2] == answer(WHOLE, "sheet") and built.calls()
+    assert built.is_usual()
+
+
+def test_without_a_toolchain_a_built_program_answers(built: Case) -> None:
+    built.path = WITHOUT_RT
+    assert built.is_usual()
+
+
+def test_through_a_link_and_from_another_folder(built: Case) -> None:
+    (built.top / "link").symlink_to(built.top / "ee_cli")
+    for line, where in (("../link x", "bin"), ("./ee_cli x", "."), ("bash ee_cli x", ".")):
+        ran = run(*line.split(), cwd=built.top / where, env=built.environment())
+        assert (ran.returncode, ran.stdout) == answer(WHOLE, "x")
+
+
+@pytest.mark.root
+def test_another_user_may_run_it(built: Case) -> None:
+    """One who may not write beside the program: a source that is newer and the same is no reason
+    to fail."""
+    run("chmod", "-R", "a+rX", built.top)
+    built.source("ee_cli").touch()
+    user = ("setpriv", "--reuid=65534", "--clear-groups")
+    assert built.call("sheet", *user) == (*answer(WHOLE, "sheet"), "") and not built.calls()
+
+
+def test_the_readme_names_the_toolchain() -> None:
+    assert f"`{WANTED}`" in (TOP / "README.md").read_text()
+
+
+#: The tutorials, and what is written after these words in their commands.
+TUTORIALS = ("README.md", "docs/FIRST_DAY.md", "docs/COUNTER_CLIENT.md", "docs/PYTHON_CLIENT.md")
+MADE = re.compile(r"(?:--db|--journal|--archive|2?>|-m venv|Counter\()[ \"]*([\w.]+)")
+
+
+def test_git_ignores_what_the_tutorials_make() -> None:
+    text = "".join((TOP / name).read_text() for name in TUTORIALS)
+    lines = [line for line in text.splitlines() if line.startswith(("$ ", "with Counter("))]
+    made = {name for line in lines for name in MADE.findall(line)} - {"1", "2"}
+    assert {"day.db", "desk3.journal", "served.txt"} <= made
+    made |= {"day.db-wal", "desk3.journal.keys", "desk3.journal.lock"}
+    ran = run("git", "check-ignore", *sorted(made), cwd=TOP)
+    assert sorted(ran.stdout.split()) == sorted(made)

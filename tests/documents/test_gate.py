@@ -2,8 +2,6 @@
 
 It works on a small repository with the gate of this one and a few tests."""
 
-from __future__ import annotations
-
 import shutil
 import subprocess
 import sys
@@ -12,6 +10,8 @@ from pathlib import Path
 import pytest
 
 from tests.conftest import TOP
+from tests.samples.books import script
+from tests.shared.counter_calls import run
 
 RT = """#!/bin/sh
 mkdir -p crates/ee_cli/out
@@ -41,7 +41,7 @@ def test_odd() -> None:
 def test_missing() -> None:
     pass
 '''
-COPIED = (".ci", "pyproject.toml", "samples/rates.csv", "crates/published_values/data/rates.csv")
+COPIED = ("pyproject.toml", "samples/rates.csv", "crates/published_values/data/rates.csv")
 #: What a machine has that has no package for tests. Most gates here run so, which is quick.
 BARE = "sh bash env git python3 awk cmp head wc mktemp nproc timeout cat rm mkdir ln date dirname"
 
@@ -51,17 +51,14 @@ class Gate:
 
     def __init__(self, top: Path) -> None:
         self.top, self.tools = top, top / "tools"
+        shutil.copytree(TOP / ".ci", top / ".ci")
         for name in COPIED:
             (top / name).parent.mkdir(parents=True, exist_ok=True)
-            if (TOP / name).is_dir():
-                shutil.copytree(TOP / name, top / name)
-            else:
-                shutil.copy(TOP / name, top / name)
+            shutil.copy(TOP / name, top / name)
         for name in ("lemmas", "one_opening"):
             (top / ".ci" / name).write_text("#!/bin/sh\n")
         self.tools.mkdir()
-        (self.tools / "rt").write_text(RT)
-        (self.tools / "rt").chmod(0o755)
+        script(self.tools / "rt", RT)
         (top / "tests").mkdir()
         (top / "tests/test_some.py").write_text(TESTS)
         subprocess.run(["git", "-C", top, "init", "-q"], check=True)
@@ -77,9 +74,7 @@ class Gate:
         subprocess.run(["git", "-C", self.top, "add", "-A"], check=True)
         shutil.rmtree(self.top / "crates/ee_cli", ignore_errors=True)
         env = {"HOME": str(self.top), "PATH": f"{self.tools}:{bare}", **settings}
-        command = [str(self.top / ".ci/run"), *words]
-        both = subprocess.STDOUT
-        ran = subprocess.run(command, env=env, stdout=subprocess.PIPE, stderr=both, text=True)
+        ran = run(self.top / ".ci/run", *words, env=env)
         return ran.returncode, ran.stdout.splitlines()
 
 
@@ -133,9 +128,7 @@ def test_unreached_loopback(gate: Gate) -> None:
     tests.write_text(tests.read_text().replace('("127.0.0.1", 0)', '("192.0.2.1", 0)'))
     status, said = gate.run()
     assert (status, said[-2:]) == (0, ["1 skipped", "3 passed, 0 failed"])
-    assert said[-3].startswith(
-        "ALL TESTS ARE SKIPPED: this machine doesn't reach its own 127.0.0.1"
-    )
+    assert said[-3].startswith("ALL TESTS ARE SKIPPED: this machine doesn't reach its own 127.0.")
 
 
 def test_from_nothing(gate: Gate) -> None:
@@ -153,12 +146,7 @@ STOPS = {
     "unused name": ("it.py", "import wave\n", "'wave' imported but unused", "pyflakes3"),
     "split word": ("it", "#!/bin/sh\ncat $1\n", "SC2086", "shellcheck"),
     "no module": ("clients/teller/it.js", "import { a b } from 'c';\n", "it.js", "node"),
-    "a page's type": (
-        "clients/teller/it.js",
-        'export const a = "".size;\n',
-        "it.js(1,",
-        "tsc node",
-    ),
+    "a page's type": ("clients/teller/it.js", 'export const a = "".b;\n', "it.js(1,", "tsc node"),
 }
 SLOW = ("wrong type", "no types")
 NAMES = [pytest.param(name, marks=[pytest.mark.slow] * (name in SLOW)) for name in STOPS]

@@ -2,8 +2,6 @@
 
 It proves a crate of five functions that it writes, a dozen times."""
 
-from __future__ import annotations
-
 import shutil
 import subprocess
 import tomllib

@@ -1,7 +1,5 @@
 """The sheet for the window prints on two sides, and its PDF is the page's."""
 
-from __future__ import annotations
-
 import re
 import subprocess
 import sys
@@ -31,14 +29,11 @@ def sides(pdf: Path) -> list[str]:
 def pictures(pdf: Path) -> list[str]:
     """The widths, heights and sizes of the pictures of a PDF."""
     listed = subprocess.run(["pdfimages", "-list", pdf], stdout=subprocess.PIPE, check=True)
-    return [
-        " ".join(line.split()[3:5] + line.split()[-2:-1])
-        for line in listed.stdout.decode().splitlines()[2:]
-    ]
+    cells = [line.split() for line in listed.stdout.decode().splitlines()[2:]]
+    return [" ".join(line[3:5] + line[-2:-1]) for line in cells]
 
 
 def other_page(folder: Path, text: str) -> Path:
-    """A page next to the same pictures."""
     (folder / "pictures").symlink_to(PAGE.parent / "pictures")
     page = folder / "page.md"
     page.write_text(text)
@@ -58,15 +53,13 @@ def test_a_longer_page_is_found(folder: Path) -> None:
     """Control: with a second table of what is odd the sheet has a third side."""
     text = PAGE.read_text()
     page = other_page(folder, text + text[text.index("| You see") : text.index("![A payment")])
-    with pytest.raises(AssertionError):
-        assert len(printed(page, folder / "page.pdf")) == 2
+    assert len(printed(page, folder / "page.pdf")) > 2
 
 
 def test_a_changed_sentence_is_found(folder: Path) -> None:
     """Control: the PDF of another page isn't this page's."""
     page = other_page(folder, PAGE.read_text().replace("Don't pay.", "Pay it."))
-    with pytest.raises(AssertionError):
-        assert printed(page, folder / "page.pdf") == sides(PDF)
+    assert printed(page, folder / "page.pdf") != sides(PDF)
 
 
 def unknown_words(text: str) -> list[str]:
@@ -78,12 +71,8 @@ def unknown_words(text: str) -> list[str]:
     return [part for part in parts if part not in words]
 
 
-def test_the_words_are_the_pages() -> None:
-    assert unknown_words(PAGE.read_text()) == []
-
-
 def test_other_words_are_found() -> None:
-    """Control: a button of another name."""
-    assert unknown_words(PAGE.read_text().replace("*Send it now*", "*Send at once*")) == [
-        "Send at once"
-    ]
+    """The words are the page's. Control: a button of another name."""
+    text = PAGE.read_text()
+    assert unknown_words(text) == []
+    assert unknown_words(text.replace("*Send it now*", "*Send at once*")) == ["Send at once"]

@@ -3,8 +3,6 @@
 Every file that names ten or more of them has to be a place; proofs, wrong bodies and files that
 REST names are left out."""
 
-from __future__ import annotations
-
 import re
 import tomllib
 from typing import Any
@@ -45,10 +43,9 @@ def faults(text: str, place: dict[str, Any], refusals: Refusals = REFUSALS) -> l
     wrong += [f"{name} is no refusal" for name in names - refusals.keys()]
     for said in found:
         known = refusals.get(said["name"], {})
-        numbers = [what for what in ("code", "status") if what in said and what in known]
-        wrong += [
-            f"{said} has another {what}" for what in numbers if int(said[what]) != known[what]
-        ]
+        for what in ("code", "status"):
+            if what in said and what in known and int(said[what]) != known[what]:
+                wrong.append(f"{said} has another {what}")
         if "keys" in said and re.findall(r'"(\w+)"', said["keys"]) != known.get("keys"):
             wrong.append(f"{said} has other keys")
     return wrong

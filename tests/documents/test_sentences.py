@@ -1,7 +1,5 @@
 """Pages whose sentences are short: none has more than 30 words, and one in ten more than 25."""
 
-from __future__ import annotations
-
 import re
 
 import pytest
@@ -9,8 +7,6 @@ import pytest
 from tests.conftest import TOP
 
 MOST, LONG = 30, 25
-#: Pages that don't keep to it yet. The list only gets shorter.
-LATER = {f"docs/{name}.md" for name in ("ASSUMPTIONS", "CLAIMS", "HEADLINE", "PROMISES")}
 PAGES = sorted(
     str(path.relative_to(TOP))
     for place in ("*.md", "*/*.md", ".ci/*.md", "samples/*/*.md")
@@ -54,7 +50,7 @@ def faults(text: str) -> list[str]:
     return found
 
 
-@pytest.mark.parametrize("page", [page for page in PAGES if page not in LATER])
+@pytest.mark.parametrize("page", PAGES)
 def test_sentences_are_short(page: str) -> None:
     assert faults((TOP / page).read_text()) == []
 

@@ -6,8 +6,6 @@ Wrong bodies, proofs, CONTRIBUTING.md itself, and documents that record what was
 measured are left out. A walk has a line that begins with `**Version:**`, and one with
 `**Limits:**`."""
 
-from __future__ import annotations
-
 import re
 from typing import NamedTuple
 

@@ -2,8 +2,6 @@
 
 With WRITE=1 the counts that fell are written into it."""
 
-from __future__ import annotations
-
 import os
 import re
 import tomllib
@@ -20,17 +18,7 @@ PROSE = (".md", ".txt", ".h", ".1", ".5", ".7", ".html")
 #: How comments look in code.
 HASH = r'^[ \t]*#(.*)$|"""(.*?)"""'
 COMMENTS = {".rt": r"//[/!]?(.*)$", ".antt": r"--(.*)$", ".js": r"//(.*)$", ".c": r"/\*(.*?)\*/"}
-ROOMS = (
-    "docs",
-    "samples",
-    "packaging",
-    "clients",
-    "include",
-    "crates",
-    "tests",
-    ".ci",
-    "benchmarks",
-)
+ROOMS = "docs samples packaging clients include crates tests .ci benchmarks".split()
 
 
 def prose_of(name: str, text: str) -> str:
@@ -38,9 +26,8 @@ def prose_of(name: str, text: str) -> str:
     space."""
     ending = os.path.splitext(name)[1]
     if ending not in PROSE:
-        found = re.findall(
-            COMMENTS.get(ending, HASH), text, re.M | re.S if ending == ".c" else re.M
-        )
+        flags = re.M | re.S if ending == ".c" else re.M
+        found = re.findall(COMMENTS.get(ending, HASH), text, flags)
         text = "\n".join(part if isinstance(part, str) else "".join(part) for part in found)
     return re.sub(r"\s+", " ", text)
 

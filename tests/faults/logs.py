@@ -209,8 +209,6 @@ HARMS: dict[str, Harm] = {
     "another byte": other_byte,
     "512 zeros": in_sector(512, lambda at, size, older, dice: bytes(size)),
     "4096 zeros": in_sector(4096, lambda at, size, older, dice: bytes(size)),
-    "4096 older bytes": in_sector(
-        4096, lambda at, size, older, dice: older[at : at + size].ljust(size, b"\0")
-    ),
+    "4096 older bytes": in_sector(4096, lambda at, n, old, _: old[at : at + n].ljust(n, b"\0")),
     "512 random bytes": in_sector(512, lambda at, size, older, dice: dice.randbytes(size)),
 }

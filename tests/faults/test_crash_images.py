@@ -1,11 +1,9 @@
 """What a crash may leave of a store at every point between two calls opens rightly.
 
-Every write, change of length and sync of the two files is recorded while a new store is made and a
-day worked in it, while a store is opened whose log was not written back, and while stores of
-version 1 are migrated. Of every point there are images in which the unsynced steps are lost, kept,
-or torn (tests/shared/hostile/disk.py). Those in which all is lost or kept are tried always, and
-IMAGES others by chance, 100 if it isn't set; and some images are opened by a run that is recorded
-in its turn.
+Every write, change of length and sync of the two files is recorded while a day is worked in a new
+store, a store with a log is opened, and stores of version 1 are migrated. Of every point there are
+images in which the unsynced steps are lost, kept, or torn (tests/shared/hostile/disk.py). Those in
+which all is lost or kept are tried always, and IMAGES others by chance, 100 if it isn't set.
 
 An image is right if the program shows the books after just those requests that were answered
 before the point, or after one more; if the same requests then have their one reply each, byte
@@ -183,11 +181,8 @@ def too_early(steps: list[disk.Step]) -> list[disk.Step]:
     """The steps, in which every answer stands before the log's sync that it waited for."""
     moved: list[disk.Step] = []
     for step in steps:
-        syncs = [
-            at
-            for at, other in enumerate(moved)
-            if (other.kind, other.file) == (disk.SYNC, disk.LOG)
-        ]
+        kinds = [(other.kind, other.file) for other in moved]
+        syncs = [at for at, kind in enumerate(kinds) if kind == (disk.SYNC, disk.LOG)]
         moved.insert(max(syncs, default=len(moved)) if step.kind == disk.TELL else len(moved), step)
     return moved
 

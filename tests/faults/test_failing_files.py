@@ -1,10 +1,8 @@
 """Every call on the two files of a store fails in turn, is interrupted, or moves fewer bytes.
 
 A call fails once, or from then on, until a run meets no fault. The answers are those of the desk's
-rules, or 503 StoreFailed, and all that was said before the fault was right; the status is that of
-docs/STATUSES.md; the next command finds books that these answers allow, in its answers and in all
-rows; and the same requests again have their one reply each. Of calls that come often each EVERY-th
-fails, the tenth if it isn't set."""
+rules, or 503 StoreFailed; the next command finds books that they allow; and the same requests again
+have their one reply each. Of calls that come often each EVERY-th fails, the tenth by default."""
 
 from __future__ import annotations
 
@@ -21,19 +19,9 @@ from tests.shared.hostile.scenes import CONNECTIONS, FILES, Scene
 
 EVERY, MOST = int(os.environ.get("EVERY", "10")), 100_000
 #: What a call of a kind fails with. The last two are streams of `apply`.
-FAILS = {
-    "open": [errno.EIO],
-    "read": [errno.EIO],
-    "write": [errno.ENOSPC, errno.EIO],
-    "truncate": [errno.ENOSPC],
-    "sync": [errno.EIO],
-    "stat": [errno.EIO],
-    "lock": [errno.EAGAIN],
-    "advise": [errno.EIO],
-    "own": [errno.EIO],
-    "hear": [errno.EIO],
-    "tell": [errno.EIO],
-}
+KINDS = "open read write truncate sync stat lock advise own hear tell".split()
+FAILS = {kind: [errno.EIO] for kind in KINDS}
+FAILS |= {"write": [errno.ENOSPC, errno.EIO], "truncate": [errno.ENOSPC], "lock": [errno.EAGAIN]}
 STREAMS = ("hear", "tell")
 #: The kinds that come often, and those that can move fewer bytes.
 MANY, FEWER = ("read", "write", "stat", "tell"), ("read", "write", "hear", "tell")

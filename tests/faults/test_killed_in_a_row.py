@@ -1,34 +1,35 @@
-"""Five commands in a row, each killed at every call on the files of a store and sent again.
+"""Seven commands in a row, each killed at every call on the files of a store and run again: over no
+file, over a store of version 1, and over the two files of a killed server.
 
-The commands import rates and bonds, open a day and redeem, export, and close the day. One of
-them is killed as it enters one call on the store or its log, or a write of its answer; then the
-same line is run again, and the later ones after it. What it had printed begins what it prints
-without a kill; what is printed after it, and at last every row, is that of a run without kills.
-EVERY names the step."""
+They import rates and bonds, open a day, redeem, print a sheet and the unpaid bonds, and close the
+day. What a killed command had printed begins what it prints without a kill. What is printed after
+it, and at last every row, is that of a row without kills: each request acts once, and keeps its
+reply."""
 
 from __future__ import annotations
 
-import os
 import shutil
 import signal
+import socket
 import subprocess
 from pathlib import Path
-from typing import NamedTuple
+from typing import Any, NamedTuple
 
 import pytest
 
-from tests.shared.counter_calls import post, rows
+from tests.shared.counter_calls import free_port, make_version_one, piped, post, rows, served
+from tests.shared.counter_calls import ask as asked
 
-EVERY = int(os.environ.get("EVERY", "4"))
 CALLS = (
     "openat pwrite64 write fsync fdatasync ftruncate fallocate unlink rename pread64 close".split()
 )
-RATES = "from,rate\n2010-05,2.00\n2010-11,3.50\n"
+RATES = "from,rate\n2010-05,3.50\n2010-11,3.50\n"
 BONDS = "serial,denom,issued,owner,coowner\n" + "".join(
-    f"A{n}EE,50,2010-11,7,\n" for n in range(1, 41)
+    f"L{n}EE,50,2010-11,7,\n" for n in range(1, 41)
 )
-DAY = "2012-02-06"
+DAY = "2026-11-30"
 NUMBERS = (1, 2, 3, 4, 5)
+BEGINNINGS = ("no file", "version 1", "killed server")
 pytestmark = pytest.mark.needs("strace")
 
 
@@ -39,35 +40,63 @@ class Command(NamedTuple):
 
 def commands(numbers: tuple[int, ...] = NUMBERS) -> list[Command]:
     rates, bonds, opened, redeemed, closed = numbers
-    serials = ["A1EE", "A2EE", "A3EE"]
-    redeem = post("/redeem", {"number": redeemed, "day": DAY, "payee": 7, "serials": serials}, b"")
+    day: dict[str, Any] = {"desk": 9, "day": DAY}
+    desk = "--db day.db --desk 9 --number"
+    paid = {**day, "number": redeemed, "payee": 7, "serials": ["L1EE", "L2EE", "L3EE"]}
     return [
-        Command(f"import rates rates.csv --db day.db --number {rates}"),
-        Command(f"import inventory bonds.csv --db day.db --number {bonds}"),
-        Command(
-            "apply --db day.db", post("/day/open", {"number": opened, "day": DAY}, b"") + redeem
-        ),
+        Command(f"import rates rates.csv {desk} {rates}"),
+        Command(f"import inventory bonds.csv {desk} {bonds}"),
+        Command("apply --db day.db", post("/day/open", {**day, "number": opened}, b"")),
+        Command("serve --db day.db --connections 1 --port", post("/redeem", paid)),
+        Command("sheet 7 2026-11 --db day.db"),
         Command("export 7 --db day.db"),
-        Command("apply --db day.db", post("/day/close", {"number": closed, "day": DAY}, b"")),
+        Command("apply --db day.db", post("/day/close", {**day, "number": closed}, b"")),
     ]
+
+
+def begin(program: Path, folder: Path, beginning: str) -> None:
+    """What a folder first holds."""
+    (folder / "rates.csv").write_text(RATES)
+    (folder / "bonds.csv").write_text(BONDS)
+    if beginning == "version 1":
+        make_version_one(str(folder / "day.db"), 500, 10)
+    elif beginning == "killed server":
+        with served(program, folder / "day.db") as port:
+            rates = [{"from": "2010-05", "rate": "3.50"}]
+            assert asked(port, post("/rates", {"desk": 8, "number": 1, "rates": rates}))
+        assert (folder / "day.db-wal").stat().st_size > 0
+
+
+def sent(process: subprocess.Popen[bytes], port: int, message: bytes) -> bytes:
+    """What `serve` answers to a message, once it says that it listens, as far as it comes."""
+    answer = b""
+    if piped(process.stderr).readline():
+        try:
+            with socket.create_connection(("127.0.0.1", port), 60) as client:
+                client.sendall(message)
+                while more := client.recv(65536):
+                    answer += more
+        except OSError:
+            pass
+    return answer
 
 
 class Bench:
     """Runs commands in folders, and knows what they print and leave without a kill."""
 
-    def __init__(self, program: Path, place: Path) -> None:
+    def __init__(self, program: Path, place: Path, beginning: str) -> None:
         self.program, self.place, self.row = program, place, commands()
         self.before, self.printed = [], []
         folder = place / "whole"
         folder.mkdir()
-        (folder / "rates.csv").write_text(RATES)
-        (folder / "bonds.csv").write_text(BONDS)
+        begin(program, folder, beginning)
         for at, command in enumerate(self.row):
             self.before.append(Path(shutil.copytree(folder, place / f"before-{at}")))
             status, said = self.run(folder, command)
             assert status == 0, said
             self.printed.append(said)
         self.content = content(folder)
+        assert self.content[0] == [("ok",)]
 
     def case(self, at: int) -> Path:
         """A folder as it is before a command."""
@@ -77,30 +106,27 @@ class Bench:
     def run(
         self, folder: Path, command: Command, tracer: tuple[str, ...] = ()
     ) -> tuple[int, bytes]:
-        words = [*tracer, str(self.program), *command.words.split()]
-        ran = subprocess.run(words, cwd=folder, input=command.messages, capture_output=True)
-        return ran.returncode, ran.stdout
+        """The status of a command, and what it answered and printed."""
+        words, pipe, answer = (
+            [*tracer, str(self.program), *command.words.split()],
+            subprocess.PIPE,
+            b"",
+        )
+        serves, port = command.words.startswith("serve"), free_port()
+        words += [str(port)] if serves else []
+        with subprocess.Popen(words, cwd=folder, stdin=pipe, stdout=pipe, stderr=pipe) as process:
+            if serves:
+                answer = sent(process, port, command.messages)
+            printed, _ = process.communicate(b"" if serves else command.messages, timeout=60)
+        return process.returncode, answer + printed
 
     def is_killed(self, at: int, call: str, of_answer: bool, when: int) -> bool:
-        """Whether a command has that call, at which it is killed, and sent again."""
+        """Whether a command has that call, at which it is killed, and run again."""
         folder = self.case(at)
-        paths = (
-            () if of_answer else ("-P", str(folder / "day.db"), "-P", str(folder / "day.db-wal"))
-        )
-        inject = f"inject={call}:signal=SIGKILL:when={when}"
-        tracer = (
-            "strace",
-            "-f",
-            "-qq",
-            "-o",
-            "/dev/null",
-            *paths,
-            "-e",
-            f"trace={call}",
-            "-e",
-            inject,
-        )
-        status, said = self.run(folder, self.row[at], tracer)
+        files = ["-P", str(folder / "day.db"), "-P", str(folder / "day.db-wal")]
+        inject = f"--inject={call}:signal=SIGKILL:when={when}"
+        traced = ["strace", "-f", "-qq", "-o", "/dev/null", f"--trace={call}", inject]
+        status, said = self.run(folder, self.row[at], (*traced, *files[: 0 if of_answer else 4]))
         if status == 0:
             assert said == self.printed[at]
             return False
@@ -117,36 +143,35 @@ class Bench:
 
 
 def content(folder: Path) -> list[object]:
-    """Every row of the store, and what SQLite says of the file."""
+    """What SQLite says of the file, and every row of the store."""
     store = folder / "day.db"
     tables = rows(store, "SELECT name FROM sqlite_schema WHERE type = 'table' ORDER BY name")
     whole = rows(store, "PRAGMA integrity_check")
-    return [
-        whole,
-        *((name, sorted(rows(store, f'SELECT * FROM "{name}"'), key=str)) for (name,) in tables),
-    ]
+    named = [(name, rows(store, f'SELECT * FROM "{name}"')) for (name,) in tables]
+    return [whole, *((name, sorted(found, key=str)) for name, found in named)]
 
 
-@pytest.fixture
-def bench(program: Path, folder: Path) -> Bench:
-    found = Bench(program, folder)
-    assert found.content[0] == [("ok",)]
-    return found
+@pytest.fixture(params=BEGINNINGS)
+def bench(request: pytest.FixtureRequest, program: Path, folder: Path) -> Bench:
+    return Bench(program, folder, request.param)
 
 
-@pytest.mark.parametrize("at", range(5), ids=["rates", "bonds", "redeem", "export", "close"])
-def test_every_kill(bench: Bench, at: int) -> None:
-    kills = 0
-    for call, of_answer in [*((call, False) for call in CALLS), ("write", True)]:
-        when = 1
-        while bench.is_killed(at, call, of_answer, when):
-            kills, when = kills + 1, when + EVERY
-    assert kills >= 20 // EVERY, "control: the kills came"
+@pytest.mark.parametrize("every", [16, pytest.param(1, marks=pytest.mark.slow)])
+def test_every_kill(bench: Bench, every: int) -> None:
+    for at, command in enumerate(bench.row):
+        kills = 0
+        for call, of_answer in [*((call, False) for call in CALLS), ("write", True)]:
+            when = 1
+            while bench.is_killed(at, call, of_answer, when):
+                kills, when = kills + 1, when + every
+        print(f"{command.words}: {kills} kills")
+        assert kills >= max(1, 16 // every), "control: the kills came"
 
 
+@pytest.mark.parametrize("bench", BEGINNINGS[:1], indirect=True)
 @pytest.mark.parametrize(
     "at, numbers",
-    [(0, (11, 2, 3, 4, 5)), (1, (1, 12, 3, 4, 5)), (2, (1, 2, 13, 14, 5)), (4, (1, 2, 3, 4, 15))],
+    [(0, (11, 2, 3, 4, 5)), (1, (1, 12, 3, 4, 5)), (3, (1, 2, 3, 14, 5)), (6, (1, 2, 3, 4, 15))],
 )
 def test_second_act_is_found(bench: Bench, at: int, numbers: tuple[int, ...]) -> None:
     """Control: a request again under a new number gives other replies and rows."""

@@ -14,7 +14,7 @@ from pathlib import Path
 
 import pytest
 
-from tests.shared.counter_calls import make_version_one, post, rows, sql
+from tests.shared.counter_calls import make_version_one, post, redeem, rows, sql
 
 RATES = "from,rate\n2010-05,2.00\n2010-11,3.50\n"
 BONDS = "serial,denom,issued,owner,coowner\nL1EE,50,2010-11,7,\nK2EE,75,2010-10,7,8\nM3EE,10000,2011-02,7,\n"
@@ -48,16 +48,11 @@ class Counter:
 
     def pay(self, store: Path, number: int, day: str, bonds: list[tuple[str, int]]) -> None:
         """Opens a day, pays bonds, and closes it; the next command gives the same answers again."""
-        acts = [("/day/open", {"number": number, "day": day})]
+        acts = [post("/day/open", {"number": number, "day": day}, b"")]
         for place, (serial, payee) in enumerate(bonds, 2):
-            acts.append(
-                (
-                    "/redeem",
-                    {"number": number + place, "day": day, "payee": payee, "serials": [serial]},
-                )
-            )
-        acts.append(("/day/close", {"number": number + 1, "day": day}))
-        stream = b"".join(post(path, value, b"") for path, value in acts)
+            acts.append(redeem(0, number + place, day, payee, serial))
+        acts.append(post("/day/close", {"number": number + 1, "day": day}, b""))
+        stream = b"".join(acts)
         first, again = (self.run(f"apply --db {store}", stream) for _ in range(2))
         assert first[0] == 0 and first[1].count("HTTP/1.1 200 OK") == len(acts), first
         assert again == first
@@ -96,10 +91,7 @@ def test_new_store(counter: Counter, store: Path, content: bytes | None) -> None
     counter.pay(store, 1000, "2015-05-01", [("L1EE", 7)])
     counter.pay(store, 2000, "2015-05-02", [("K2EE", 8)])
     assert shown(store) == [PAGE, 2]
-    assert sql(store, "SELECT count(*) FROM paid; SELECT count(*) FROM answers").split() == [
-        "2",
-        "8",
-    ]
+    assert sql(store, "SELECT count(*) FROM paid; SELECT count(*) FROM answers") == "2\n8\n"
 
 
 @pytest.mark.needs("sqlite3")
@@ -112,9 +104,7 @@ def test_pages_of_before(counter: Counter, store: Path, size: int) -> None:
     assert shown(store) == [size, 2]
 
 
-@pytest.mark.parametrize(
-    "words", [[], ["--without-extensions"]], ids=["whole", "without extensions"]
-)
+@pytest.mark.parametrize("words", [[], ["--without-extensions"]], ids=["whole", "without"])
 def test_version_one(counter: Counter, store: Path, words: list[str]) -> None:
     """A store of version 1 is migrated, keeps its page size and its replies, and is paid from."""
     make_version_one(store, 2000, 300, *words)
@@ -128,12 +118,8 @@ def test_version_one(counter: Counter, store: Path, words: list[str]) -> None:
     assert shown(store) == [4096, 2]
 
 
-NONE = [bytes([byte]) for byte in b"\0\1Sx7\n7\xff"] + [
-    b"\0\0",
-    b"xx",
-    b"SQLite format 3",
-    b"no store at all",
-]
+NONE = [bytes([byte]) for byte in b"\0\1Sx7\n7\xff"]
+NONE += [b"\0\0", b"xx", b"SQLite format 3", b"no store at all"]
 NONE += [b"\0" * 100, b"x" * 100, b"\0" * PAGE, b"x" * PAGE, b"\0" * 4096]
 NONE += [b"SQLite format 3\0" + b"\0" * (PAGE - 16)]
 
@@ -154,18 +140,14 @@ def test_files_that_are_none(counter: Counter, store: Path, log: bytes | str | N
         for _ in range(2):
             assert counter.export(store) == (3, "", FAILED), content
             file, found = held(store)
-            assert (
-                file == content and found is not None and len(found) in (0, 1, 12, 15, 41)
-            ), content
+            assert file == content, content
+            assert found is not None and len(found) in (0, 1, 12, 15, 41), content
 
 
 def test_empty_file_is_taken(counter: Counter, store: Path) -> None:
     """Control: a file without a byte is no file that is refused."""
     store.write_bytes(b"")
     assert counter.export(store) == (0, EXPORTED, "")
-
-
-# ---- full disks
 
 
 @contextmanager

@@ -1,16 +1,13 @@
 """Losses of power under a load, on the file systems of this machine's kernel: what each leaves
 opens.
 
-The first command meets no store. Then requests are sent one after another to `apply`, which ends,
-and to `serve`, which is killed, in turn, while another program writes to the same file system and
-syncs. The disk, a file in memory, is served by FUSE, which records its writes and flushes in order.
-So this tests the program with a machine's kernel and file system, not whether its own disk keeps
-what it was told to flush.
+Requests are sent to `apply`, which ends, and to `serve`, which is killed, in turn, while another
+program writes and syncs. The disk, a file in memory, is served by FUSE, which records its writes
+and flushes in order. Whether a disk keeps what it was told to flush isn't tested.
 
-An image is what the disk may hold if power is lost at some place of the record: it has all writes
-before the last flush, and later ones are lost, kept, reordered or torn into sectors. For each fifth
-image power is lost again while it is mounted and opened. It is right if the next command shows the
-books after the first K requests, K being at least all acknowledged ones and at most those that were
+An image has all writes before the last flush; later ones are lost, kept, reordered or torn into
+sectors. For each fifth image power is lost again while it is mounted and opened. It is right if the
+next command shows the books after at least all acknowledged requests and at most those that were
 sent; and if all requests, sent again, get the responses of the undisturbed load byte for byte.
 
 IMAGES names how many are tried of each file system, REQUESTS how many are sent, and OPTIONS
@@ -174,17 +171,17 @@ class Case:
         return tag
 
 
-@pytest.fixture(
-    params=[pytest.param(kind, marks=pytest.mark.needs(f"mkfs.{kind}")) for kind in volumes.MAKERS]
-)
+KINDS = [pytest.param(kind, marks=pytest.mark.needs(f"mkfs.{kind}")) for kind in volumes.MAKERS]
+
+
+@pytest.fixture(params=KINDS)
 def case(request: pytest.FixtureRequest, program: Path, dice: Random) -> Iterator[Case]:
     with tempfile.TemporaryDirectory(prefix="power.", dir=MEMORY) as folder:
         yield Case(program, request.param, Path(folder), dice)
 
 
 def own_mounts() -> None:
-    """A namespace of mounts of its own: nobody else's keeps a file system that was unmounted
-    here."""
+    """A namespace of mounts of its own, in which alone a file system is mounted."""
     libc = ctypes.CDLL(None, use_errno=True)
     new_namespace, private = 0x20000, 0x4000 | 0x40000
     assert libc.unshare(new_namespace) == 0 and libc.mount(None, b"/", None, private, None) == 0

@@ -18,7 +18,7 @@ import pytest
 from tests.conftest import TOP
 from tests.shared.hostile import commands, desk, judging
 from tests.shared.hostile.judging import Wrong
-from tests.shared.hostile.program import Program, Ran
+from tests.shared.hostile.program import Program, Ran, read_counts
 from tests.shared.hostile.returning import come_back, put, shows_ample
 from tests.shared.hostile.scenes import CONNECTIONS, FILES, Scene
 
@@ -89,89 +89,54 @@ def test_wrong_program_is_found(
             meets(hostile, scene, f"{at} 1", 1, "stays_refused")
 
 
-# ---- tests of the crates, as they are natively built
-
-#: A malloc that refuses the request of the number REFUSE_AT, and says so.
-REFUSE = r"""
-#include <stdio.h>
-#include <stdlib.h>
-void *__libc_malloc(size_t);
-void *__libc_realloc(void *, size_t);
-static long asked, refused;
-static int is_refused(void) {
-    if (refused == 0) {
-        const char *at = getenv("REFUSE_AT");
-        refused = at ? atol(at) : -1;
-    }
-    asked += 1;
-    if (asked != refused) return 0;
-    fputs("memory was refused\n", stderr);
-    return 1;
-}
-void *malloc(size_t size) { return is_refused() ? NULL : __libc_malloc(size); }
-void *realloc(void *old, size_t size) { return is_refused() ? NULL : __libc_realloc(old, size); }
-"""
-OVER = ("day", "stream", "files", "one_list")
+OVER = [
+    f"{what}_over_{place}"
+    for what in ("a_day", "a_stream", "files", "one_list")
+    for place in ("a_list", "tables")
+]
 TESTS = {
-    "library_tests": [f"{module}::refused_memory" for module in ("framing", "calls", "wire")]
-    + ["files::written::refused_memory"],
-    "store_tests": ["version_1_many_replies::refused_memory"]
-    + [
-        f"refused::refused_memory_in_a_{what}_over_{place}"
-        for what in OVER[:2]
-        for place in ("a_list", "tables")
-    ]
-    + [
-        f"refused::refused_memory_in_{what}_over_{place}"
-        for what in OVER[2:]
-        for place in ("a_list", "tables")
+    "library_tests": ["framing", "calls", "wire", "files::written"],
+    "store_tests": [
+        "version_1_many_replies",
+        *(f"refused::refused_memory_in_{one}" for one in OVER),
     ],
 }
 #: How a test says that memory was refused to its own preparation or comparison.
-LACKS = r"""^error: .*(AllocFailed|AllocError|NoMemory|OutOfMemory|unserved)
-|: [A-Za-z]*[(]?(AllocFailed|AllocError|OutOfMemory)( \{ \.\. \})?[)]?$""".replace(
-    "\n", ""
-)
+LACKS = r"^error: .*(AllocFailed|AllocError|NoMemory|OutOfMemory|unserved)"
+LACKS += r"|: [A-Za-z]*[(]?(AllocFailed|AllocError|OutOfMemory)( \{ \.\. \})?[)]?$"
 
 
-def refused_in_turn(words: list[str], shim: Path) -> int:
+def refused_in_turn(program: Program, words: list[str]) -> int:
     """How many requests were refused until a run met none. A test may fail if it says so itself."""
     for at in range(1, 100_000):
-        env = {**os.environ, "REFUSE_AT": str(at), "LD_PRELOAD": str(shim)}
+        store = program.place("in_turn")
+        env = {**os.environ, **program.environment(store, refuse=f"{at} 1")}
         ran = subprocess.run(words, env=env, text=True, capture_output=True)
         said = ran.stdout + ran.stderr
-        if "memory was refused" not in said:
+        if not read_counts(store + ".counts").get("refused"):
             assert ran.returncode == 0, said
             return at - 1
         assert ran.returncode == 0 or re.search(LACKS, said, re.M), said
     raise AssertionError("no run came without a refusal")
 
 
-@pytest.fixture
-def refuse(tmp_path: Path) -> Path:
-    (tmp_path / "refuse.c").write_text(REFUSE)
-    words = ["cc", "-O1", "-shared", "-fPIC", "-o", "refuse.so", "refuse.c"]
-    subprocess.run(words, cwd=tmp_path, check=True)
-    return tmp_path / "refuse.so"
-
-
 @pytest.mark.slow
 @pytest.mark.needs("rt", "cc")
 @pytest.mark.parametrize("crate", TESTS)
-def test_crates(crate: str, refuse: Path) -> None:
+def test_crates(crate: str, hostile: Program) -> None:
     """It builds the tests of a crate, which takes ten minutes."""
     folder = TOP / "crates" / crate
     subprocess.run(["rt", "test"], cwd=folder, check=True)
     for name in TESTS[crate]:
-        assert refused_in_turn([str(folder / "out" / f"{crate}_tests"), name], refuse) > 0, name
+        whole = name if "::refused" in name else f"{name}::refused_memory"
+        words = [str(folder / "out" / f"{crate}_tests"), whole]
+        assert refused_in_turn(hostile, words) > 0, name
 
 
-@pytest.mark.needs("cc")
-def test_crash_is_found(refuse: Path, tmp_path: Path) -> None:
+def test_crash_is_found(hostile: Program, tmp_path: Path) -> None:
     """Control: a program that uses memory without a look at what it got."""
-    (tmp_path / "crash.c").write_text(
-        "#include <stdlib.h>\nint main(void) { volatile char *it = malloc(64); it[0] = 1; return 0; }\n"
-    )
+    crash = "volatile char *it = malloc(64); it[0] = 1; return 0;"
+    (tmp_path / "crash.c").write_text(f"#include <stdlib.h>\nint main(void) {{ {crash} }}\n")
     subprocess.run(["cc", "-o", tmp_path / "crash", tmp_path / "crash.c"], check=True)
     with pytest.raises(AssertionError):
-        refused_in_turn([str(tmp_path / "crash")], refuse)
+        refused_in_turn(hostile, [str(tmp_path / "crash")])

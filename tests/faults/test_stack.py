@@ -70,13 +70,11 @@ def bonds(letter: str, first: int, count: int) -> list[dict[str, object]]:
 @functools.cache
 def bodies() -> dict[str, bytes]:
     """Bodies over a new store: deep, wide and as long as they may be."""
-    found = {
-        f"JSON {kind} {depth} deep": talk.message(
-            "POST /rates " + front * depth + "0" + end * depth
-        )
-        for kind, front, end in (("arrays", "[", "]"), ("objects", '{"a":', "}"))
-        for depth in (127, 128, 170_000)
-    }
+    found = {}
+    for kind, front, end in (("arrays", "[", "]"), ("objects", '{"a":', "}")):
+        for depth in (127, 128, 170_000):
+            text = front * depth + "0" + end * depth
+            found[f"JSON {kind} {depth} deep"] = talk.message(f"POST /rates {text}")
     wide = {f"k{n}": n for n in range(70_000)}
     text = '{"x":"' + "a" * 1_048_550 + '"}'
     return {
@@ -100,13 +98,13 @@ def lists() -> dict[str, bytes]:
     one, day = {"from": "2010-11", "rate": "3.50"}, {"day": "2012-02-06", "payee": 7}
     serials = [f"A{n}EE" for n in range(1, 96_330)]
     hundred = posted("/bonds", {"number": 8, "bonds": bonds("A", 1, 100)})
+    paid = posted("/redeem", {"number": 9, **day, "serials": serials[:100]})
     return {
         "190 rates with extensions": posted("/rates", {"number": 9, "rates": rates}),
         "31,774 rates": posted("/rates", {"number": 9, "rates": [one] * 31_774}),
         "500 bonds": posted("/bonds", {"number": 9, "bonds": bonds("A", 1, 500)}),
         "17,091 bonds": posted("/bonds", {"number": 9, "bonds": bonds("A", 1, 17_091)}),
-        "100 serial numbers": hundred
-        + posted("/redeem", {"number": 9, **day, "serials": serials[:100]}),
+        "100 serial numbers": hundred + paid,
         "96,329 serial numbers": posted("/redeem", {"number": 9, **day, "serials": serials}),
     }
 
@@ -171,9 +169,8 @@ def test_inventories(hostile: Program, owned: Made) -> None:
     right(hostile, Case(APPLY, owned.path, asked, wanted), "an inventory of 17,003 bonds")
     exported = owned.books.export(7).encode()
     right(hostile, Case("export 7 --db DB", owned.path, b"", exported), "`export` of 17,003 bonds")
-    right(
-        hostile, Case("sheet 7 2012-02 --db DB", owned.path, b"", sheet), "`sheet` of 17,003 bonds"
-    )
+    case = Case("sheet 7 2012-02 --db DB", owned.path, b"", sheet)
+    right(hostile, case, "`sheet` of 17,003 bonds")
 
 
 def test_files(hostile: Program, begun: Made) -> None:

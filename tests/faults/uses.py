@@ -22,7 +22,7 @@ from tests.shared.counter_calls import free_port
 NOBODY = 65534
 RATES = b"from,rate\n2010-11,3.50\n"
 BONDS = b"serial,denom,issued,owner,coowner\nL1EE,50,2010-11,7,\n"
-FILE_OF = {"rates": "rates.csv", "inventory": "bonds.csv"}
+FILES = {"rates": ("rates.csv", RATES), "inventory": ("bonds.csv", BONDS)}
 #: The byte of a database file that SQLite locks for a reader, and how many it locks.
 LOCKED_FROM, LOCKED = 1 << 30, 512
 MESSAGE = b"GET /value/50/2010-11/2012-02 HTTP/1.1\r\n\r\n"
@@ -39,8 +39,7 @@ class Ran:
 
 @dataclass
 class Streams:
-    """What a line's standard input and output are: bytes or a descriptor, and a descriptor, or
-    none."""
+    """A line's standard input, bytes or a descriptor, and its standard output."""
 
     given: bytes | int = b""
     output: int = subprocess.PIPE
@@ -64,7 +63,8 @@ class Counter:
         line = [*start, str(self.program), *words]
         error = subprocess.PIPE
         ran = subprocess.run(line, stdout=streams.output, stderr=error, **more)  # type: ignore[call-overload]
-        return Ran(ran.returncode, ran.stdout or b"", ran.stderr.decode())
+        said = ran.stderr.decode().removeprefix(f"listening on port {SERVED}\n")
+        return Ran(ran.returncode, ran.stdout or b"", said)
 
     def path(self, name: str) -> Path:
         return self.folder / name
@@ -76,15 +76,17 @@ class Counter:
 
     def store(self, name: str = "day.db") -> Path:
         """Makes a store with a rate and a bond. The files that it was made of stay there."""
-        for number, (kind, content) in enumerate({"rates": RATES, "inventory": BONDS}.items(), 1):
-            self.put(FILE_OF[kind], content)
-            line = f"import {kind} {FILE_OF[kind]} --db {name} --number {number}"
+        for number, (kind, (file, content)) in enumerate(FILES.items(), 1):
+            self.put(file, content)
+            line = f"import {kind} {file} --db {name} --number {number}"
             assert self.run(list(line.split())).status == 0
         return self.path(name)
 
 
 Make = Callable[[Counter], object]
 During = Callable[[Counter], AbstractContextManager[Streams]]
+nothing: Make = lambda it: None
+alone: During = lambda it: nullcontext(Streams())
 
 
 @dataclass(frozen=True)
@@ -96,8 +98,8 @@ class Use:
     first: str
     second: str | None
     status: int = 3
-    make: Make = lambda it: None
-    during: During = lambda it: nullcontext(Streams())
+    make: Make = nothing
+    during: During = alone
     is_claps: bool = False
 
 
@@ -130,54 +132,50 @@ def socket_at(name: str) -> Make:
     return make
 
 
-def note(it: Counter) -> None:
-    it.put("note", b"x")
+def has(name: str, content: bytes) -> Make:
+    return lambda it: it.put(name, content)
 
 
-def imports(kind: str, file: str, first: str, second: str, make: Make = lambda it: None) -> Use:
-    lines = [f"import {what} '{file}' --db day.db --number 1" for what in ("rates", "inventory")]
+def imports(kind: str, file: str, first: str, second: str, make: Make = nothing) -> Use:
+    lines = [f"import {what} '{file}' --db day.db --number 1" for what in FILES]
     return Use(kind, tuple(lines), first, f"{file}: {second}", make=make)
 
 
-def path(kind: str, file: str, cause: str, make: Make = lambda it: None) -> Use:
+def path(kind: str, file: str, cause: str, make: Make = nothing) -> Use:
     again = "correct the path, and send the file again"
     return imports(kind, file, "input or output failed", f"{cause}; {again}", make)
 
 
-def unread(kind: str, file: str, cause: str, make: Make = lambda it: None) -> Use:
+def unread(kind: str, file: str, cause: str, make: Make = nothing) -> Use:
     return imports(kind, file, "file: row 1 code 73", f"{cause}; send the file again", make)
 
 
-MISSING, DENIED, NO_FOLDER = (
-    "no such file or folder",
-    "permission denied",
-    "a part of the path is no folder",
-)
-LONG_NAME, CIRCLE = "a name of the path is too long", "symbolic links lead in a circle"
+MISSING, DENIED = "no such file or folder", "permission denied"
+NO_FOLDER, CIRCLE = "a part of the path is no folder", "symbolic links lead in a circle"
+LONG_NAME, FOLDER = "a name of the path is too long", "it is a folder"
 PARTS = "it has more than 1048576 bytes; send it in parts, each under a number of its own"
+CSV = "rates.csv"
 PATHS = [
-    path("no file", "rates.csv", MISSING),
+    path("no file", CSV, MISSING),
     path("no folder", "missing/rates.csv", MISSING),
     path("an empty path", "", MISSING),
-    path(
-        "a link to nothing", "rates.csv", MISSING, lambda it: it.path("rates.csv").symlink_to("x")
-    ),
-    path("an unreadable file", "rates.csv", DENIED, lambda it: it.put("rates.csv", RATES).chmod(0)),
+    path("a link to nothing", CSV, MISSING, lambda it: it.path(CSV).symlink_to("x")),
+    path("an unreadable file", CSV, DENIED, lambda it: it.put(CSV, RATES).chmod(0)),
     path("in a folder that may not be searched", "closed/rates.csv", DENIED, closed_folder),
-    path("a path through a file", "note/rates.csv", NO_FOLDER, note),
+    path("a path through a file", "note/rates.csv", NO_FOLDER, has("note", b"x")),
     path("a name that is too long", "r" * 256, LONG_NAME),
     path("symbolic links in a circle", "one", CIRCLE, loop),
-    path("a socket", "rates.csv", "it was not opened", socket_at("rates.csv")),
-    unread("a folder", "rates.csv", "it is a folder", lambda it: it.path("rates.csv").mkdir()),
-    unread("the folder where it runs", ".", "it is a folder"),
+    path("a socket", CSV, "it was not opened", socket_at(CSV)),
+    unread("a folder", CSV, FOLDER, lambda it: it.path(CSV).mkdir()),
+    unread("the folder where it runs", ".", FOLDER),
     unread("a file whose first read fails", "/proc/self/mem", "a read failed"),
     imports("a device that never ends", "/dev/zero", "file: row 1 code 75", PARTS),
 ]
 
-
 # ---- stores that aren't opened, under each command that opens one
 
 SYSTEM = "look at the path, and at who may use the file and its folder"
+NO_PATH, BARRED = f"{MISSING}; {SYSTEM}", f"{DENIED}; {SYSTEM}"
 IN_USE = "another process uses it; send requests to that process, or end it first"
 ONE_NAME = "it is not one regular file with one name; correct the path, or remove the other name"
 DAMAGED = "it or its log is damaged, or a page's checksum is wrong; restore a copy"
@@ -186,29 +184,24 @@ NO_FILE = "SQLite takes it for no file; put ./ in front of it"
 JOURNAL = "a rollback journal of SQLite lies beside it; open it with sqlite3 first"
 VERSION = "its version is neither 2 nor 1; use the program that made it"
 ROWS = "its tables or rows are not those of this program; restore a copy"
-ORPHANED = (
-    "it is missing or empty, and its log shows that it was there; put the file back next to its log"
-)
+LOST = "it is missing or empty, and its log shows that it was there; "
+LOST += "put the file back next to its log"
 FAILED = "a read or a write of it failed; look at the disk, and send the same requests again"
-#: The store is opened before FILE and the port are, so neither of them is there.
-OPENING = (
-    "apply --db {}",
-    "import rates missing.csv --db {} --number 9",
-    "export 7 --db {}",
-    "sheet 7 2012-02 --db {}",
-    "serve --db {} --port 1",
-)
+TAKEN, SERVED = free_port(), free_port()
+#: The store is opened before FILE is, so that isn't there.
+OPENING = "apply|import rates missing.csv --number 9|export 7|sheet 7 2012-02"
+OPENING += f"|serve --port {SERVED}"
 
 
 def store(
     kind: str,
     second: str,
-    make: Make = lambda it: None,
+    make: Make = nothing,
     at: str = "day.db",
     fault: str = "StoreFailed",
-    during: During = lambda it: nullcontext(Streams()),
+    during: During = alone,
 ) -> Use:
-    lines = tuple(line.format(f"'{at}'") for line in OPENING)
+    lines = tuple(f"{line} --db '{at}'" for line in OPENING.split("|"))
     return Use(f"a store: {kind}", lines, f"store: {fault}", f"{at}: {second}", 3, make, during)
 
 
@@ -248,21 +241,18 @@ def changed(statement: str) -> Make:
     return make
 
 
-def other_database(it: Counter) -> None:
+def scripted(it: Counter, script: str) -> None:
+    """A database that SQLite makes of a script."""
     with closing(sqlite3.connect(it.put("day.db", b""))) as base:
-        base.execute("CREATE TABLE notes (text)")
+        base.executescript(script)
 
 
 def read_back(it: Counter) -> None:
     """A dump of a store, which was read back: its tables come in another order."""
     with closing(sqlite3.connect(it.store("made.db"))) as made:
         dump = [line for line in made.iterdump() if line not in ("BEGIN TRANSACTION;", "COMMIT;")]
-    with closing(sqlite3.connect(it.put("day.db", b""))) as base:
-        base.executescript(
-            "".join(
-                sorted(dump, key=lambda line: ("CREATE" not in line, "TABLE" not in line, line))
-            )
-        )
+    dump.sort(key=lambda line: ("CREATE" not in line, "TABLE" not in line, line))
+    scripted(it, "".join(dump))
 
 
 def orphaned_log(it: Counter) -> None:
@@ -278,8 +268,9 @@ def both(*makes: Make) -> Make:
     return lambda it: [make(it) for make in makes]
 
 
-def with_file(name: str, content: bytes) -> Make:
-    return lambda it: it.put(name, content)
+def beside(name: str, content: bytes) -> Make:
+    """A store, and another file beside it."""
+    return both(Counter.store, has(name, content))
 
 
 def with_mode(name: str, mode: int) -> Make:
@@ -292,83 +283,52 @@ def pipe(it: Counter) -> None:
     it.path("day.db").chmod(0o666)
 
 
-def second_name(it: Counter) -> None:
-    os.link(it.store(), it.path("second"))
-
-
 STORES = [
-    store("in a folder that is missing", f"{MISSING}; {SYSTEM}", at="missing/day.db"),
-    store("no path", f"{MISSING}; {SYSTEM}", at=""),
-    store("through a file", f"{NO_FOLDER}; {SYSTEM}", note, "note/day.db"),
+    store("in a folder that is missing", NO_PATH, at="missing/day.db"),
+    store("no path", NO_PATH, at=""),
+    store("through a file", f"{NO_FOLDER}; {SYSTEM}", has("note", b"x"), "note/day.db"),
     store("a folder", ONE_NAME, lambda it: it.path("day.db").mkdir()),
     store("a pipe with a name", ONE_NAME, pipe),
     store("a socket", ONE_NAME, socket_at("day.db")),
     store("a device", ONE_NAME, at="/dev/null"),
-    store("a file with a second name", ONE_NAME, second_name),
-    store("unreadable", f"{DENIED}; {SYSTEM}", with_mode("day.db", 0)),
-    store("not to be written", f"{DENIED}; {SYSTEM}", with_mode("day.db", 0o444)),
-    store("a log not to be written", f"{DENIED}; {SYSTEM}", with_mode("day.db-wal", 0o444)),
-    store(
-        "new in a folder not to be written",
-        f"{DENIED}; {SYSTEM}",
-        lambda it: it.folder.chmod(0o555),
-    ),
-    store("in a folder not to be searched", f"{DENIED}; {SYSTEM}", closed_folder, "closed/day.db"),
+    store("a file with a second name", ONE_NAME, lambda it: os.link(it.store(), it.path("other"))),
+    store("unreadable", BARRED, with_mode("day.db", 0)),
+    store("not to be written", BARRED, with_mode("day.db", 0o444)),
+    store("a log not to be written", BARRED, with_mode("day.db-wal", 0o444)),
+    store("new in a folder not to be written", BARRED, lambda it: it.folder.chmod(0o555)),
+    store("in a folder not to be searched", BARRED, closed_folder, "closed/day.db"),
     store("a name that is too long", f"{LONG_NAME}; {SYSTEM}", at="d" * 256),
     store("symbolic links in a circle", f"{CIRCLE}; {SYSTEM}", loop, "one"),
     store("a name that SQLite takes for no file", NO_FILE, at=":memory:"),
     store("a URI", NO_FILE, at="file:day.db"),
-    store("a text", NO_DATABASE, with_file("day.db", b"no store\n")),
-    store(
-        "a file of rates",
-        NO_DATABASE,
-        with_file("day.db", b"from,rate\n" + b"2010-05,2.00\n" * 500),
-    ),
-    store("one byte", NO_DATABASE, with_file("day.db", b"x")),
-    store(
-        "a rollback journal",
-        JOURNAL,
-        both(Counter.store, with_file("day.db-journal", b"\xd9\xd5\x05\xf9")),
-    ),
+    store("a text", NO_DATABASE, has("day.db", b"no store\n")),
+    store("a file of rates", NO_DATABASE, has("day.db", b"from,rate\n" + b"2010-05,2.00\n" * 500)),
+    store("one byte", NO_DATABASE, has("day.db", b"x")),
+    store("a rollback journal", JOURNAL, beside("day.db-journal", b"\xd9\xd5\x05\xf9")),
     store("a changed byte of a page", DAMAGED, change_byte(3 * 1024 - 100)),
     store("a changed byte of the first page", DAMAGED, change_byte(200)),
     store("half of its pages", DAMAGED, lambda it: os.truncate(it.store(), 5 * 1024)),
-    store(
-        "a damaged log",
-        DAMAGED,
-        both(Counter.store, with_file("day.db-wal", b"\x37\x7f\x06\x82" + bytes(60))),
-    ),
-    store("none next to a log with changes", ORPHANED, orphaned_log),
-    store(
-        "empty next to a log with changes", ORPHANED, both(orphaned_log, with_file("day.db", b""))
-    ),
+    store("a damaged log", DAMAGED, beside("day.db-wal", b"\x37\x7f\x06\x82" + bytes(60))),
+    store("none next to a log with changes", LOST, orphaned_log),
+    store("empty next to a log with changes", LOST, both(orphaned_log, has("day.db", b""))),
     store("one that another process has open", IN_USE, during=locked),
     store("one that SQLite reads", IN_USE, during=read_by_sqlite),
-    store("a database of another program", ROWS, other_database, fault="Unusable"),
-    store("a dump that was read back", ROWS, read_back, fault="Unusable"),
-    store("a later version", VERSION, changed("UPDATE desk SET version = 3"), fault="WrongVersion"),
-    store("version 0", VERSION, changed("UPDATE desk SET version = 0"), fault="WrongVersion"),
-    store("no version", ROWS, changed("DELETE FROM desk"), fault="Unusable"),
-    store("a table more", ROWS, changed("CREATE TABLE notes (text)"), fault="Unusable"),
-    store("a table less", ROWS, changed("DROP TABLE extensions"), fault="Unusable"),
-    store("an index less", ROWS, changed("DROP INDEX bonds_owner"), fault="Unusable"),
-    store(
-        "a bond without its ticket", ROWS, changed("UPDATE bonds SET ticket = 1"), fault="Unusable"
-    ),
-    store(
-        "a denomination that no bond has",
-        ROWS,
-        changed("UPDATE bonds SET denom = 51"),
-        fault="Unusable",
-    ),
-    store(
-        "a space in a kept act",
-        ROWS,
-        changed("UPDATE answers SET act = act || ' '"),
-        fault="Unusable",
-    ),
 ]
-
+UNUSABLE = {
+    "a database of another program": lambda it: scripted(it, "CREATE TABLE notes (text)"),
+    "a dump that was read back": read_back,
+    "no version": changed("DELETE FROM desk"),
+    "a table more": changed("CREATE TABLE notes (text)"),
+    "a table less": changed("DROP TABLE extensions"),
+    "an index less": changed("DROP INDEX bonds_owner"),
+    "a bond without its ticket": changed("UPDATE bonds SET ticket = 1"),
+    "a denomination that no bond has": changed("UPDATE bonds SET denom = 51"),
+    "a space in a kept act": changed("UPDATE answers SET act = act || ' '"),
+}
+STORES += [store(kind, ROWS, make, fault="Unusable") for kind, make in UNUSABLE.items()]
+for version in (0, 3):
+    make = changed(f"UPDATE desk SET version = {version}")
+    STORES.append(store(f"of version {version}", VERSION, make, fault="WrongVersion"))
 
 # ---- disks, which only root can mount
 
@@ -406,7 +366,6 @@ DISKS = [
     store("too little room for its log", FAILED, at="disk/day.db", during=full),
 ]
 
-
 # ---- ports and streams
 
 
@@ -417,29 +376,24 @@ def taken(it: Counter) -> Iterator[Streams]:
 
 
 @contextmanager
-def opened(it: Counter, descriptor: int, **more: object) -> Iterator[int]:
+def opened(it: Counter, descriptor: int, is_input: bool = False) -> Iterator[Streams]:
+    """A store, and a line whose output or input is the descriptor."""
     it.store()
     try:
-        yield descriptor
+        yield Streams(given=descriptor) if is_input else Streams(MESSAGE, descriptor)
     finally:
         os.close(descriptor)
 
 
 def to_full(it: Counter) -> AbstractContextManager[Streams]:
-    return writing(it, os.open("/dev/full", os.O_WRONLY))
+    return opened(it, os.open("/dev/full", os.O_WRONLY))
 
 
 def unread_output(it: Counter) -> AbstractContextManager[Streams]:
     """A pipe whose reader has gone, as after `| head`."""
     end, output = os.pipe()
     os.close(end)
-    return writing(it, output)
-
-
-@contextmanager
-def writing(it: Counter, output: int) -> Iterator[Streams]:
-    with opened(it, output):
-        yield Streams(given=MESSAGE, output=output)
+    return opened(it, output)
 
 
 @contextmanager
@@ -448,10 +402,8 @@ def closed_output(it: Counter) -> Iterator[Streams]:
     yield Streams(given=MESSAGE, is_closed=True)
 
 
-@contextmanager
-def folder_input(it: Counter) -> Iterator[Streams]:
-    with opened(it, os.open(it.folder, os.O_RDONLY)) as given:
-        yield Streams(given=given)
+def folder_input(it: Counter) -> AbstractContextManager[Streams]:
+    return opened(it, os.open(it.folder, os.O_RDONLY), is_input=True)
 
 
 @contextmanager
@@ -476,64 +428,47 @@ def visited(it: Counter) -> Iterator[Streams]:
             client.join()
 
 
-TAKEN, SERVED = free_port(), free_port()
-IO = "input or output failed"
+IO, APPLY = "input or output failed", ("apply --db day.db",)
+SHOWN = ("export 7", "sheet 7 2012-02", "import rates rates.csv --number 1")
 FULL, UNREAD = "standard output: no space left on the disk", "standard output: nothing reads it"
-NO_WRITE, FOLDER = "standard output: a write failed", "standard input: it is a folder"
+NO_WRITE, IS_FOLDER = "standard output: a write failed", f"standard input: {FOLDER}"
 AGAIN = "run the line again: what was decided gets its reply"
 SEND = "send again: what was decided gets its reply"
 PORT = "choose another port, or end what uses it"
+IN_USE_PORT = f"port {TAKEN}: address in use; {PORT}"
 START = f"{FULL}; start the server again"
-APPLY = ("apply --db day.db",)
-PRINTING = (
-    "value 50 2010-05 2015-05 3.50",
-    "export 7 --db day.db",
-    "sheet 7 2012-02 --db day.db",
-    "import rates rates.csv --db day.db --number 1",
-)
-TAKEN_LINE, SERVED_LINE = f"serve --db day.db --port {TAKEN}", f"serve --db day.db --port {SERVED}"
+PRINTING = ("value 50 2010-05 2015-05 3.50", *(f"{what} --db day.db" for what in SHOWN))
+ON_TAKEN, ON_SERVED = ((f"serve --db day.db --port {port}",) for port in (TAKEN, SERVED))
 STREAMS = [
-    Use(
-        "a port that is in use",
-        (TAKEN_LINE,),
-        IO,
-        f"port {TAKEN}: address in use; {PORT}",
-        during=taken,
-    ),
+    Use("a port that is in use", ON_TAKEN, IO, IN_USE_PORT, during=taken),
     Use("a full disk behind the output", PRINTING, IO, f"{FULL}; {AGAIN}", during=to_full),
     Use("a full disk behind the answers", APPLY, IO, f"{FULL}; {SEND}", during=to_full),
-    Use("a full disk behind a server's log", (SERVED_LINE,), IO, START, during=visited),
+    Use("a full disk behind a server's log", ON_SERVED, IO, START, during=visited),
     Use("an output that nothing reads", PRINTING, IO, f"{UNREAD}; {AGAIN}", during=unread_output),
     Use("answers that nothing reads", APPLY, IO, f"{UNREAD}; {SEND}", during=unread_output),
     Use("an output that is closed", PRINTING, IO, f"{NO_WRITE}; {AGAIN}", during=closed_output),
     Use("answers to a closed output", APPLY, IO, f"{NO_WRITE}; {SEND}", during=closed_output),
-    Use("a folder for the input", APPLY, IO, f"{FOLDER}; {SEND}", during=folder_input),
+    Use("a folder for the input", APPLY, IO, f"{IS_FOLDER}; {SEND}", during=folder_input),
 ]
 LOWEST = Path("/proc/sys/net/ipv4/ip_unprivileged_port_start")
 if LOWEST.exists() and int(LOWEST.read_text()) > 80:
     line = "serve --db day.db --port 80"
     STREAMS.append(Use("a port of root's", (line,), IO, f"port 80: permission denied; {PORT}"))
 
-
 # ---- a disk that fails during a command, by the library of tests/shared/hostile
 
 MORE = "import rates more.csv --db day.db --number 3"
-EXPORT = "export 7 --db day.db"
+TWO = (MORE, "export 7 --db day.db")
 ROOM = "no space left on the disk; make room, and run the line again"
 NO_READ = "a read or a write of it failed; look at the disk, and run the line again"
 REFUSED = f"the system refused it; {SYSTEM}"
 KEPT = "the work is done, and is kept in the file and its log together; look at the disk"
 #: By kind: the lines, the fault, what the second line says, and which calls fail.
 FAILING = {
-    "full as a store is opened": ((MORE, EXPORT), "StoreFailed", ROOM, "write any 1 0 e 28"),
-    "no write as a store is opened": ((MORE, EXPORT), "StoreFailed", NO_READ, "write any 1 0 e 5"),
-    "no read as a store is opened": (
-        (MORE, EXPORT, *APPLY),
-        "StoreFailed",
-        NO_READ,
-        "read db 1 0 e 5",
-    ),
-    "no file is opened": ((MORE, EXPORT, *APPLY), "StoreFailed", REFUSED, "open any 1 0 e 5"),
+    "full as a store is opened": (TWO, "StoreFailed", ROOM, "write any 1 0 e 28"),
+    "no write as a store is opened": (TWO, "StoreFailed", NO_READ, "write any 1 0 e 5"),
+    "no read as a store is opened": ((*TWO, *APPLY), "StoreFailed", NO_READ, "read db 1 0 e 5"),
+    "no file is opened": ((*TWO, *APPLY), "StoreFailed", REFUSED, "open any 1 0 e 5"),
     "a failure during a command": ((MORE,), "StoreFailed", FAILED, "write log 8 0 e 5"),
     "a log that can't be written back": ((MORE,), "NotWrittenBack", KEPT, "truncate log 1 1 e 5"),
 }

@@ -1,21 +1,19 @@
 """What the tests of the fence share: the built program, a site over a counter, the packages, and a fresh Debian that has them."""
 
-from __future__ import annotations
-
 import os
 import re
 import shutil
 import subprocess
 import tempfile
-import time
 from pathlib import Path
-from typing import Iterator, Mapping, Protocol
+from typing import Any, Callable, Iterator, Mapping
 
 import pytest
 
-from tests.conftest import MEMORY, TOP
+from tests.conftest import MEMORY, TOP, is_listening, until
 from tests.fence.fresh import Fresh, bootstrap, done, run
-from tests.fence.site import Site, free_port
+from tests.fence.site import Site
+from tests.shared.counter_calls import free_port, matched
 
 #: Groups of the people of docs/INSTALL.md.
 GROUPS = {"anna": "teller", "bert": "supervisor", "cleo": "registrar", "dora": "office"}
@@ -41,16 +39,9 @@ class Counter:
         self.start()
 
     def start(self) -> None:
-        """Serves, and returns once it listens. /proc/net/tcp is asked: a connection would be a request."""
         words = ["serve", "--db", str(self.store), "--port", str(self.port)]
         self.process = subprocess.Popen([self.program, *words], stdout=subprocess.DEVNULL)
-        listening = f" 0100007F:{self.port:04X} 00000000:0000 0A "
-        for _ in range(600):
-            if listening in Path("/proc/net/tcp").read_text():
-                return
-            assert self.process.poll() is None, "the counter ended"
-            time.sleep(0.1)
-        raise AssertionError("the counter doesn't listen")
+        until(lambda: is_listening(self.port), "the counter doesn't listen")
 
     def end(self) -> None:
         self.process.kill()
@@ -64,33 +55,17 @@ def counter(program: Path, folder: Path) -> Iterator[Counter]:
     made.end()
 
 
-class MakeSite(Protocol):
-    def __call__(
-        self,
-        groups: Mapping[str, str] = ...,
-        *,
-        counter: str | None = ...,
-        changed: Mapping[str, str] | None = ...,
-        replies: bool = ...,
-    ) -> Site:
-        ...
+#: Makes a site for these groups, before the fixture `counter` if `counter=` names no other.
+MakeSite = Callable[..., Site]
 
 
 @pytest.fixture
 def site(request: pytest.FixtureRequest, folder: Path) -> Iterator[MakeSite]:
-    """Makes sites, which end with the test. Each is in front of the fixture `counter`, if `counter=` names no other, such as http://127.0.0.1:PORT."""
     made: list[Site] = []
 
-    def make(
-        groups: Mapping[str, str] = GROUPS,
-        *,
-        counter: str | None = None,
-        changed: Mapping[str, str] | None = None,
-        replies: bool = False,
-    ) -> Site:
-        url = counter or request.getfixturevalue("counter").url
-        where = folder / f"site{len(made)}"
-        made.append(Site(where, url, groups, changed=changed, replies=replies))
+    def make(groups: Mapping[str, str] = GROUPS, **more: Any) -> Site:
+        url = more.pop("counter", None) or request.getfixturevalue("counter").url
+        made.append(Site(folder / f"site{len(made)}", url, groups, **more))
         return made[-1]
 
     yield make
@@ -99,23 +74,17 @@ def site(request: pytest.FixtureRequest, folder: Path) -> Iterator[MakeSite]:
 
 
 class Release:
-    """A folder of packages that packaging/build made with a program."""
+    """A folder of packages that the packaging/build of a tree made with a program."""
 
-    def __init__(self, program: Path, folder: Path) -> None:
+    def __init__(self, program: Path, folder: Path, tree: Path = TOP, **env: str) -> None:
         self.folder = folder / "packages"
         # The library of values isn't installed here: empty files take its place.
         (folder / "library").mkdir()
         for name in ("libee_value.a", "libee_value.so.1"):
             (folder / "library" / name).touch()
-        words = (TOP / "packaging/build", "--program", program, "--library", folder / "library")
-        ran = subprocess.run(
-            [*words, "--to", self.folder],
-            stdout=subprocess.PIPE,
-            stderr=subprocess.STDOUT,
-            text=True,
-            env={**os.environ, "TMPDIR": str(folder), "DPKG_DEB_COMPRESSOR_TYPE": "none"},
-        )
-        assert ran.returncode == 0, ran.stdout
+        words = (tree / "packaging/build", "--program", program, "--library", folder / "library")
+        env = {**os.environ, "TMPDIR": str(folder), "DPKG_DEB_COMPRESSOR_TYPE": "none", **env}
+        done(*words, "--to", self.folder, env=env)
 
     def deb(self, name: str = "ladwenpik") -> Path:
         (found,) = self.folder.glob(f"{name}_*.deb")
@@ -140,12 +109,13 @@ def root() -> Iterator[Path]:
         yield Path(bootstrap(made))
 
 
+def blocks_below(heading: str, text: str) -> list[str]:
+    part = matched(rf"(?ms)^#+ {re.escape(heading)}\n(.*?)(?=^#+ |\Z)", text)[1]
+    return re.findall(r"^```\n(.*?)^```$", part, re.M | re.S)
+
+
 def blocks(page: str, heading: str) -> list[str]:
-    """The blocks of commands below a heading of a page in docs."""
-    text = (TOP / "docs" / f"{page}.md").read_text()
-    found = re.search(rf"^#+ {re.escape(heading)}\n(.*?)(?=^#+ |\Z)", text, re.M | re.S)
-    assert found, f"docs/{page}.md has no heading {heading}"
-    return re.findall(r"^```\n(.*?)^```$", found[1], re.M | re.S)
+    return blocks_below(heading, (TOP / f"docs/{page}.md").read_text())
 
 
 class Machine(Fresh):
@@ -165,9 +135,9 @@ class Machine(Fresh):
             self.devices.append(device)
             node = f"mknod -m 660 {device} b 7 {device.removeprefix('/dev/loop')}"
             self.shell(f"{node}; mkdir -p {at}; mount {device} {at}")
-        self.shell(
-            f"btrfs -q subvolume create /srv/counter/store; mkdir -p /srv/counter/snapshots /var/lib/counter; mount -o subvol=store {self.devices[0]} /var/lib/counter"
-        )
+        self.shell("btrfs -q subvolume create /srv/counter/store")
+        self.shell("mkdir -p /srv/counter/snapshots /var/lib/counter")
+        self.shell(f"mount -o subvol=store {self.devices[0]} /var/lib/counter")
 
     def end(self) -> None:
         super().end()
@@ -192,12 +162,9 @@ class Machine(Fresh):
         self.shell(blocks("INSTALL", "End the trial")[0])
 
     def ask(self, name: str, path: str, body: str = "") -> str:
-        """What the page's `ask` prints."""
-        found = re.search(
-            r"^ask\(\) \{\n.*?^\}\n", "".join(blocks("INSTALL", "The first day")), re.M | re.S
-        )
-        assert found
-        return self.shell(f"{found[0]}ask {name} {path} '{body}'").strip()
+        page = "".join(blocks("INSTALL", "The first day"))
+        function = matched(r"(?ms)^ask\(\) \{\n.*?^\}\n", page)[0]
+        return self.shell(f"{function}ask {name} {path} '{body}'").strip()
 
     def write(self, path: str, text: str, mode: int = 0o644) -> None:
         file = Path(self.path(path))
@@ -206,9 +173,7 @@ class Machine(Fresh):
         file.chmod(mode)
 
 
-class MakeMachine(Protocol):
-    def __call__(self) -> Machine:
-        ...
+MakeMachine = Callable[[], Machine]
 
 
 @pytest.fixture(scope="session")

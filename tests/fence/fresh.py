@@ -1,7 +1,6 @@
 """A fresh Debian that runs under a systemd of its own: process 1 of namespaces (mounts, processes, network, cgroups), over a root of debootstrap that isn't written. All that it writes is in
 memory, and gone at its end. The way is that of the script that runs the units of samples/systemd."""
-from __future__ import annotations
-
+import contextlib
 import os
 import re
 import stat
@@ -9,7 +8,7 @@ import subprocess
 import sys
 import time
 from pathlib import Path
-from typing import Any, NoReturn
+from typing import Any, Callable, NoReturn
 
 SUITE = "bookworm"
 MIRROR = "http://deb.debian.org/debian"
@@ -25,18 +24,22 @@ WAIT = 120
 
 
 def run(*words: str | Path, **more: Any) -> subprocess.CompletedProcess[str]:
-    return subprocess.run(
-        words, stdout=subprocess.PIPE, stderr=subprocess.STDOUT, text=True, **more
-    )
+    pipe, both = subprocess.PIPE, subprocess.STDOUT
+    return subprocess.run(words, stdout=pipe, stderr=both, text=True, **more)
 
 
 def done(*words: str | Path, **more: Any) -> str:
     ran = run(*words, **more)
-    if ran.returncode != 0:
-        sys.exit(
-            f"WRONG: {' '.join(map(str, words))} ended with status {ran.returncode}\n{ran.stdout}"
-        )
+    assert ran.returncode == 0, f"{words} ended with status {ran.returncode}\n{ran.stdout}"
     return ran.stdout
+
+
+def until(is_so: Callable[[], object], what: Callable[[], str], seconds: float = WAIT) -> None:
+    """As in tests/conftest.py, which what runs within the namespaces can't import."""
+    end = time.monotonic() + seconds
+    while not is_so():
+        assert time.monotonic() < end, what()
+        time.sleep(0.1)
 
 
 def bootstrap(folder: str, suite: str = SUITE, included: str = INCLUDED) -> str:
@@ -106,29 +109,25 @@ class Fresh:
             enter, stdout=subprocess.DEVNULL, stderr=open(self.told, "w"), start_new_session=True
         )
         try:
-            self.process = self.first_process()
-            self.wait_until_up()
+            until(self.has_begun, lambda: f"no systemd\n{open(self.told).read()}")
+            until(self.is_up, lambda: "systemd doesn't come up")
         except BaseException:
             self.end()
             raise
 
-    def first_process(self) -> int:
-        for _ in range(WAIT * 10):
-            children = f"/proc/{self.outer.pid}/task/{self.outer.pid}/children"
-            found = open(children).read().split() if os.path.exists(children) else []
-            if found and os.readlink(f"/proc/{found[0]}/exe").endswith("/systemd"):
-                return int(found[0])
-            if self.outer.poll() is not None:
-                break
-            time.sleep(0.1)
-        sys.exit(f"WRONG: systemd didn't become process 1\n{open(self.told).read()}")
+    def has_begun(self) -> bool:
+        """Whether systemd is process 1 in the namespaces."""
+        assert self.outer.poll() is None, open(self.told).read()
+        children = f"/proc/{self.outer.pid}/task/{self.outer.pid}/children"
+        found = open(children).read().split() if os.path.exists(children) else []
+        if found and os.readlink(f"/proc/{found[0]}/exe").endswith("/systemd"):
+            self.process = int(found[0])
+            return True
+        return False
 
-    def wait_until_up(self) -> None:
-        for _ in range(WAIT * 10):
-            if self.on("systemctl", "is-system-running").stdout.strip() in ("running", "degraded"):
-                return
-            time.sleep(0.1)
-        sys.exit("WRONG: systemd doesn't come up")
+    def is_up(self) -> bool:
+        state = self.on("systemctl", "is-system-running").stdout.strip()
+        return state in ("running", "degraded")
 
     def path(self, name: str) -> str:
         """A file of the machine, as it is seen from outside."""
@@ -144,10 +143,9 @@ class Fresh:
         return run(*self.words(*words), env=env, **more)
 
     def shell(self, text: str) -> str:
-        """What some lines of a shell print; the test ends if they fail."""
+        """What some lines of a shell print. They may not fail."""
         ran = self.on("bash", "-euo", "pipefail", "-c", f"cd /root\n{text}")
-        if ran.returncode != 0:
-            sys.exit(f"WRONG: status {ran.returncode} after\n{text}\n{ran.stdout}")
+        assert ran.returncode == 0, f"status {ran.returncode} after\n{text}\n{ran.stdout}"
         return ran.stdout
 
     def shown(self, unit: str, name: str) -> str:
@@ -167,26 +165,22 @@ class Fresh:
 
 
 def make_group() -> str:
-    top = next(
-        (line.split()[1] for line in open("/proc/mounts") if line.split()[2] == "cgroup2"), None
-    )
-    if top is None:
-        sys.exit("no cgroup 2 is mounted")
-    group = os.path.join(top, f"package-{os.getpid()}-{time.monotonic_ns()}")
+    mounts = [line.split() for line in open("/proc/mounts")]
+    tops = [at for _, at, kind, *_ in mounts if kind == "cgroup2"]
+    assert tops, "no cgroup 2 is mounted"
+    group = os.path.join(tops[0], f"package-{os.getpid()}-{time.monotonic_ns()}")
     os.mkdir(group)
     return group
 
 
 def remove_group(group: str) -> None:
-    for _ in range(100):
+    def is_gone() -> bool:
         for path, _, _ in os.walk(group, topdown=False):
-            try:
+            with contextlib.suppress(OSError):
                 os.rmdir(path)
-            except OSError:
-                pass
-        if not os.path.exists(group):
-            return
-        time.sleep(0.1)
+        return not os.path.exists(group)
+
+    until(is_gone, lambda: f"{group} isn't empty", 10)
 
 
 if __name__ == "__main__":

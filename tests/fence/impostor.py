@@ -2,8 +2,6 @@
 
 Tries each way again and again, and answers each connection with a payment that was never made. At its end it prints how each way ended (the names of errors, or "done") and how many connections came."""
 
-from __future__ import annotations
-
 import collections
 import ctypes
 import errno
@@ -62,6 +60,10 @@ def enter_from_own() -> None:
     enter()
 
 
+def enter_of_process() -> None:
+    enter(f"/proc/{of_the_counter()[0]}/ns/net")
+
+
 def of_the_counter() -> list[int]:
     """The processes of the counter and of its proxy, by their words."""
     found = []
@@ -98,9 +100,7 @@ def in_child(do: Callable[[], object]) -> None:
 FORBIDDEN: dict[str, Callable[[], object]] = {
     "enter the network from a user namespace": lambda: in_child(enter_from_own),
     "enter the network": lambda: in_child(enter),
-    "enter the network of a process": lambda: in_child(
-        lambda: enter(f"/proc/{of_the_counter()[0]}/ns/net")
-    ),
+    "enter the network of a process": lambda: in_child(enter_of_process),
     "listen on nginx's port": lambda: listener(socket.AF_INET, ("127.0.0.2", 443)).close(),
     "connect to the socket": lambda: socket.socket(socket.AF_UNIX).connect(SOCKET),
     "rename the socket": lambda: os.rename(SOCKET, f"{SOCKET}.old"),

@@ -1,16 +1,14 @@
 """A server in the counter's place, at a Unix socket as on a bank's machine, that records what reaches it."""
 
-from __future__ import annotations
-
 import contextlib
 import dataclasses
 import re
 import socketserver
 import threading
 from pathlib import Path
-from typing import Mapping, TypeVar
+from typing import Self
 
-from tests.fence.site import Site
+from tests.fence.site import Site, Texts
 
 ANSWER = b'{"recorded":true}'
 
@@ -25,7 +23,6 @@ class Message:
 
     @property
     def words(self) -> tuple[bytes, bytes]:
-        """Method and target."""
         method, _, rest = self.head.partition(b" ")
         return method, rest.split(b"\r\n")[0].rpartition(b" ")[0]
 
@@ -47,7 +44,6 @@ class Recorder(socketserver.ThreadingUnixStreamServer):
         self.server_close()
 
     def take(self) -> list[Message]:
-        """The messages since the last call."""
         taken, self.messages = self.messages, []
         return taken
 
@@ -72,11 +68,8 @@ class Conversation(socketserver.StreamRequestHandler):
         message = Message(head, body)
         assert isinstance(self.server, Recorder)
         self.server.messages.append(message)
-        self.wfile.write(
-            b"HTTP/1.1 %d OK\r\nContent-Type: application/json\r\nContent-Length: %d\r\n\r\n"
-            % (self.server.status, len(ANSWER))
-            + ANSWER
-        )
+        form = b"Content-Type: application/json\r\nContent-Length: %d" % len(ANSWER)
+        self.wfile.write(b"HTTP/1.1 %d OK\r\n%s\r\n\r\n%s" % (self.server.status, form, ANSWER))
         is_last = re.search(rb"(?i)\r\nconnection: *close", head) is not None
         message.rest = self.rfile.read() if is_last else b""
         return not is_last
@@ -86,20 +79,13 @@ class Conversation(socketserver.StreamRequestHandler):
 UNLIMITED = {"rate=10r/s": "rate=100000r/s"}
 
 
-Self = TypeVar("Self", bound="RecordedSite")
-
-
 class RecordedSite(Site):
-    """A site before a recorder."""
-
-    def __init__(
-        self, folder: Path, groups: Mapping[str, str], changed: Mapping[str, str] = UNLIMITED
-    ) -> None:
+    def __init__(self, folder: Path, groups: Texts, changed: Texts = UNLIMITED) -> None:
         folder.chmod(0o755)
         self.recorder = Recorder(folder / "counter.sock")
         super().__init__(folder / "site", self.recorder.at, groups, changed=changed)
 
-    def __enter__(self: Self) -> Self:
+    def __enter__(self) -> Self:
         return self
 
     def __exit__(self, *_: object) -> None:

@@ -1,23 +1,23 @@
 """nginx over samples/nginx/nginx.conf on a port of its own: only paths, the port and the user differ from what a bank runs."""
 
-from __future__ import annotations
-
+import contextlib
 import http.client
 import json
 import os
 import signal
-import socket
 import ssl
 import subprocess
 import time
 from pathlib import Path
 from typing import Any, Mapping, NamedTuple
 
+from tests.conftest import TOP, is_listening, until
+from tests.shared.counter_calls import free_port, replaced
 from tests.fence.staff import Staff, make_server_certificate
 
-TOP = Path(__file__).resolve().parents[2]
+Texts = Mapping[str, str]
 #: What every client of ours sends.
-CLIENT: Mapping[str, str] = {"X-Counter-Client": "test", "Content-Type": "application/json"}
+CLIENT: Texts = {"X-Counter-Client": "test", "Content-Type": "application/json"}
 
 
 class Answer(NamedTuple):
@@ -29,25 +29,13 @@ class Answer(NamedTuple):
         return json.loads(self.text)
 
 
-def free_port() -> int:
-    with socket.create_server(("127.0.0.1", 0)) as server:
-        port: int = server.getsockname()[1]
-        return port
-
-
 class Site:
     """`groups` has the groups of each user. `changed` pairs are replaced in the configuration: a control takes a guard away."""
 
     name = "127.0.0.1"
 
     def __init__(
-        self,
-        folder: Path,
-        counter: str,
-        groups: Mapping[str, str],
-        *,
-        changed: Mapping[str, str] | None = None,
-        replies: bool = False,
+        self, folder: Path, counter: str, groups: Texts, changed: Texts = {}, replies: bool = False
     ) -> None:
         self.folder, self.port = folder, free_port()
         for name in ("log", "page", "extra", "temporary"):
@@ -60,19 +48,18 @@ class Site:
         (folder / "page/bank.js").write_text((TOP / "clients/teller/bank.js").read_text())
         if replies:
             self.add("replies", TOP / "samples/nginx/replies", counter)
-        self.write(counter, changed or {})
+        self.write(counter, changed)
         self.process = self.start()
 
-    def write_groups(self, groups: Mapping[str, str]) -> None:
+    def write_groups(self, groups: Texts) -> None:
         lines = [f'{name} "{those}";\n' for name, those in groups.items() if those]
         (self.folder / "groups").write_text("".join(lines))
 
     def placed(self, text: str, counter: str) -> str:
         """A file of the samples with this site's own paths."""
-        temporary = " ".join(
-            f"{kind}_temp_path {self.folder}/temporary/{kind};"
-            for kind in ("client_body", "proxy", "fastcgi", "uwsgi", "scgi")
-        )
+        own = f"_temp_path {self.folder}/temporary"
+        kinds = ("client_body", "proxy", "fastcgi", "uwsgi", "scgi")
+        temporary = " ".join(f"{kind}{own}/{kind};" for kind in kinds)
         for old, new in {
             "user counter-nginx;": f"user {'root' if os.getuid() == 0 else 'nobody'};",
             "worker_processes auto;": "worker_processes 2;",
@@ -92,30 +79,21 @@ class Site:
         return text
 
     def add(self, name: str, source: Path, counter: str) -> None:
-        """Adds an optional part, as a link in /etc/counter/extra does."""
         (self.folder / "extra" / name).mkdir()
         for file in source.glob("*.conf"):
             text = self.placed(file.read_text(), counter)
             (self.folder / "extra" / name / file.name).write_text(text)
 
-    def write(self, counter: str, changed: Mapping[str, str]) -> None:
+    def write(self, counter: str, changed: Texts) -> None:
         text = self.placed((TOP / "samples/nginx/nginx.conf").read_text(), counter)
-        for old, new in changed.items():
-            assert old in text, f"nginx.conf has no {old}"
-            text = text.replace(old, new)
-        (self.folder / "nginx.conf").write_text(text)
+        (self.folder / "nginx.conf").write_text(replaced(text, changed.items()))
 
     def start(self) -> subprocess.Popen[bytes]:
         words = ["-e", f"{self.folder}/error.log", "-c", f"{self.folder}/nginx.conf"]
         process = subprocess.Popen(["/usr/sbin/nginx", *words, "-g", "daemon off;"])
-        deadline = time.monotonic() + 60
-        while process.poll() is None and time.monotonic() < deadline:
-            try:
-                socket.create_connection((self.name, self.port)).close()
-                return process
-            except ConnectionRefusedError:
-                time.sleep(0.05)
-        raise AssertionError(f"nginx doesn't listen\n{self.errors()}")
+        until(lambda: process.poll() or is_listening(self.port), self.errors)
+        assert process.poll() is None, self.errors()
+        return process
 
     def errors(self) -> str:
         return (self.folder / "error.log").read_text()
@@ -124,9 +102,7 @@ class Site:
         """Reloads, and returns once new workers serve: the pages of a reload don't say when that is."""
         before = workers(self.process.pid)
         self.process.send_signal(signal.SIGHUP)
-        deadline = time.monotonic() + 30
-        while not workers(self.process.pid) - before and time.monotonic() < deadline:
-            time.sleep(0.05)
+        until(lambda: workers(self.process.pid) - before, self.errors)
         time.sleep(0.3)
 
     def restart(self) -> None:
@@ -134,6 +110,11 @@ class Site:
         self.process.send_signal(signal.SIGQUIT)
         self.process.wait(60)
         self.process = self.start()
+
+    def kill(self) -> None:
+        for process in (self.process.pid, *map(int, workers(self.process.pid))):
+            os.kill(process, signal.SIGKILL)
+        self.process.wait()
 
     def end(self) -> None:
         self.process.terminate()
@@ -156,20 +137,16 @@ class Site:
         method: str,
         path: str,
         value: object = None,
-        headers: Mapping[str, str] = CLIENT,
+        headers: Texts = CLIENT,
     ) -> Answer:
         """The answer to one request, as a client of the bank sends it if no `headers` are given."""
-        connection = self.connect(user)
         body = value if value is None or isinstance(value, (bytes, str)) else json.dumps(value)
-        try:
+        with contextlib.closing(self.connect(user)) as connection:
             connection.request(method, path, body, dict(headers))
             response = connection.getresponse()
             return Answer(response.status, response.headers, response.read().decode())
-        finally:
-            connection.close()
 
     def log(self, name: str = "counter.log") -> list[dict[str, str]]:
-        """The entries of a log."""
         text = (self.folder / "log" / name).read_text()
         return [json.loads(line) for line in text.splitlines()]
 

@@ -1,99 +1,45 @@
 """Ways to write the target of a request so that nginx and the counter may read it differently."""
+
 from __future__ import annotations
 
+#: What may stand before a path: a way that leads back to it, an origin, or what is dropped.
+BEFORE = rb"""
+    . / // /. /x/.. /ticket/.. /ticket/1//../.. /value/50/../.. /teller/.. /user/.. /ticket/../.. /..
+    /%2e /ticket/%2e%2e /ticket/%252e%252e /ticket/..; /ticket/1?/.. /ticket/1#/.. /ticket/1%00/..
+    /ticket/%c0%ae%c0%ae http://127.0.0.1 https://127.0.0.1:PORT http://other.example
+    http://127.0.0.1/ HTTP://127.0.0.1 http://bert@127.0.0.1 //127.0.0.1
+    /ticket/1%20HTTP/1.1%0d%0aHost:%20x%0d%0a%0d%0aPOST%20
+""".split()
+#: The same, in place of its first slash.
+FIRST = rb"\ /\ /%2f /ticket/..%2f /ticket/..%252f /ticket/..%5c /%00 /%c0%af /%20".split()
+FIRST += [b"", *("/ticket/..\u2215".encode(), "/\ufeff".encode())]
+#: What may stand behind it, beside blanks and NUL.
+BEHIND = rb"/ // . /. /x %2F ;x=1 ; ? ?x=1 ?/ticket/1 %3f #x %23x %00 %20 + %09 %0d%0a % %2".split()
+BEHIND += [b"\0", b" ", b"\t", "\u200b".encode()]
 
-def each_byte_encoded(path: bytes) -> bytes:
-    return b"/" + b"".join(b"/" if byte == 0x2F else b"%%%02x" % byte for byte in path[1:])
+
+def percent(text: bytes) -> bytes:
+    return b"".join(b"/" if byte == 0x2F else b"%%%02x" % byte for byte in text)
 
 
-def spellings(path: bytes, port: int) -> dict[str, bytes]:
-    """Returns the targets by what was done to the path."""
+def spellings(path: bytes, port: int) -> list[bytes]:
+    """The targets, of which the first is the path itself."""
     rest, last = path[1:], path[-1:]
-    name = rest.rsplit(b"/", 1)[-1]
-    return {
-        "as it is": path,
-        "capitals": path.upper(),
-        "a first capital": b"/" + rest.capitalize(),
-        "a last capital": path[:-1] + last.upper(),
-        "a slash behind": path + b"/",
-        "two slashes behind": path + b"//",
-        "two slashes before": b"/" + path,
-        "three slashes before": b"//" + path,
-        "each slash doubled": path.replace(b"/", b"//"),
-        "no slash before": rest,
-        "a dot before": b"/." + path,
-        "a dot without a slash": b"." + path,
-        "a dot behind": path + b".",
-        "a slash and a dot behind": path + b"/.",
-        "a name and back": b"/x/.." + path,
-        "a ticket and back": b"/ticket/.." + path,
-        "a ticket, doubled slashes and back": b"/ticket/1//../.." + path,
-        "a value and back": b"/value/50/../.." + path,
-        "the page and back": b"/teller/.." + path,
-        "the user's own path and back": b"/user/.." + path,
-        "further back than there is": b"/ticket/../.." + path,
-        "back alone": b"/.." + path,
-        "forth and back": path + b"/../" + name,
-        "something behind": path + b"/x",
-        "a first letter in percent": b"/%%%02x" % rest[0] + rest[1:],
-        "a last letter in percent": path[:-1] + b"%%%02X" % path[-1],
-        "each letter in percent": each_byte_encoded(path),
-        "each slash in percent": b"/" + rest.replace(b"/", b"%2f"),
-        "a slash more in percent": b"/%2f" + rest,
-        "a slash behind in percent": path + b"%2F",
-        "a first letter in percent twice": b"/%%25%02x" % rest[0] + rest[1:],
-        "each letter in percent twice": each_byte_encoded(path).replace(b"%", b"%25"),
-        "a dot in percent": b"/%2e" + path,
-        "a ticket and back in percent": b"/ticket/%2e%2e" + path,
-        "a ticket and back in percent, its slash too": b"/ticket/..%2f" + rest,
-        "a ticket and back in percent twice": b"/ticket/%252e%252e" + path,
-        "a ticket and back, its slash in percent twice": b"/ticket/..%252f" + rest,
-        "parameters": path + b";x=1",
-        "a semicolon behind": path + b";",
-        "back with parameters": b"/ticket/..;" + path,
-        "a question mark": path + b"?",
-        "a query": path + b"?x=1",
-        "a query that is a path": path + b"?/ticket/1",
-        "a query with a way back": b"/ticket/1?/.." + path,
-        "a question mark in percent": path + b"%3f",
-        "a fragment": path + b"#x",
-        "a fragment with a way back": b"/ticket/1#/.." + path,
-        "a fragment in percent": path + b"%23x",
-        "a backslash": b"\\" + rest,
-        "a slash and a backslash": b"/\\" + rest,
-        "backslashes within": path[:1] + rest.replace(b"/", b"\\"),
-        "back by backslashes": b"/ticket\\.." + path.replace(b"/", b"\\"),
-        "back by a backslash in percent": b"/ticket/..%5c" + rest,
-        "absolute": b"http://127.0.0.1" + path,
-        "absolute, over TLS, with the port": b"https://127.0.0.1:%d" % port + path,
-        "absolute, of another host": b"http://other.example" + path,
-        "absolute, with two slashes": b"http://127.0.0.1/" + path,
-        "absolute, in capitals": b"HTTP://127.0.0.1" + path,
-        "absolute, with a user": b"http://bert@127.0.0.1" + path,
-        "a host of its own": b"//127.0.0.1" + path,
-        "NUL behind": path + b"\0",
-        "NUL behind in percent": path + b"%00",
-        "NUL before in percent": b"/%00" + rest,
-        "NUL and a way back": b"/ticket/1%00/.." + path,
-        "an overlong slash": b"/%c0%af" + rest,
-        "back by overlong dots": b"/ticket/%c0%ae%c0%ae" + path,
-        "an overlong first letter": b"/%%%02x%%%02x" % (0xC0 | rest[0] >> 6, 0x80 | rest[0] & 63)
-        + rest[1:],
-        "a blank behind": path + b" ",
-        "a blank behind in percent": path + b"%20",
-        "a blank before in percent": b"/%20" + rest,
-        "a plus behind": path + b"+",
-        "a tab behind": path + b"\t",
-        "a tab behind in percent": path + b"%09",
-        "an end of a line behind in percent": path + b"%0d%0a",
-        "a line of its own in percent": b"/ticket/1%20HTTP/1.1%0d%0aHost:%20x%0d%0a%0d%0aPOST%20"
-        + path,
-        "wide letters": b"/"
-        + "".join(chr(0xFEE0 + byte) for byte in rest if byte != 0x2F).encode(),
-        "a slash of Unicode": b"/ticket/..\xe2\x88\x95" + rest,
-        "a space of no width": path + b"\xe2\x80\x8b",
-        "a mark of order": b"/\xef\xbb\xbf" + rest,
-        "a letter of %u": b"/%%u%04x" % rest[0] + rest[1:],
-        "a percent sign behind": path + b"%",
-        "half a byte in percent": path + b"%2",
-    }
+    wide = "".join(chr(0xFEE0 + byte) for byte in rest if byte != 0x2F).encode()
+    overlong = b"%%%02x%%%02x" % (0xC0 | rest[0] >> 6, 0x80 | rest[0] & 63)
+    backwards = path.replace(b"/", b"\\")
+    # Letters in other cases or written by their numbers, once or twice.
+    ones = [rest.upper(), rest.capitalize(), rest[:-1] + last.upper(), wide, percent(rest)]
+    ones += [percent(rest).replace(b"%", b"%25"), b"%%u%04x" % rest[0] + rest[1:]]
+    ones += [those + rest[1:] for those in (percent(rest[:1]), b"%%25%02x" % rest[0], overlong)]
+    ones += [rest[:-1] + b"%%%02X" % rest[-1], rest.replace(b"/", b"%2f"), backwards[1:]]
+    return [
+        path,
+        *(b"/" + one for one in ones),
+        *(before.replace(b"PORT", b"%d" % port) + path for before in BEFORE),
+        *(first + rest for first in FIRST),
+        *(path + behind for behind in BEHIND),
+        path.replace(b"/", b"//"),
+        path + b"/../" + rest.rsplit(b"/", 1)[-1],
+        b"/ticket\\.." + backwards,
+    ]

@@ -1,7 +1,5 @@
 """An authority of the staff by Debian's easy-rsa, as docs/WHO_MAY_DO_WHAT.md makes it, and a server's certificate."""
 
-from __future__ import annotations
-
 import subprocess
 from pathlib import Path
 
@@ -40,11 +38,9 @@ class Staff:
 def make_server_certificate(folder: Path, *names: str) -> None:
     """Writes certificate.pem and key.pem for these names."""
     alternatives = ",".join(f"IP:{name}" if name[0].isdigit() else f"DNS:{name}" for name in names)
-    subprocess.run(
-        ["openssl", "req", "-x509", "-newkey", "ec", "-pkeyopt", "ec_paramgen_curve:prime256v1"]
-        + ["-nodes", "-days", "2", "-subj", f"/CN={names[0]}"]
-        + ["-addext", f"subjectAltName={alternatives}"]
-        + ["-keyout", str(folder / "key.pem"), "-out", str(folder / "certificate.pem")],
-        check=True,
-        capture_output=True,
+    line = (
+        "openssl req -x509 -newkey ec -pkeyopt ec_paramgen_curve:prime256v1 -nodes -days 2".split()
     )
+    line += ["-subj", f"/CN={names[0]}", "-addext", f"subjectAltName={alternatives}"]
+    line += ["-keyout", f"{folder}/key.pem", "-out", f"{folder}/certificate.pem"]
+    subprocess.run(line, check=True, capture_output=True)

@@ -1,7 +1,5 @@
 """Chromium and Firefox with a certificate of the staff, set up by the commands of docs/TELLERS.md, by policy and by hand: each pays a bond, and a revoked certificate gets nothing."""
 
-from __future__ import annotations
-
 import os
 import re
 import shutil
@@ -15,6 +13,7 @@ import pytest
 from tests.fence.conftest import MakeSite, blocks
 from tests.fence.site import Site
 from tests.fence.staff import Staff
+from tests.shared.counter_calls import piped
 
 pytest.importorskip("selenium")
 from tests.browser.engines import Chromium, Firefox
@@ -22,12 +21,8 @@ from tests.browser.marionette import Firefox as Marionette
 from tests.browser.page import Page
 from selenium.webdriver.chrome.service import Service
 
-pytestmark = [
-    pytest.mark.browser,
-    pytest.mark.nginx,
-    pytest.mark.slow,
-    pytest.mark.needs("Xvfb", "xdotool"),
-]
+pytestmark = [pytest.mark.browser, pytest.mark.nginx, pytest.mark.slow]
+pytestmark += [pytest.mark.needs("Xvfb", "xdotool")]
 GROUPS = {"anna": "teller", "bert": "supervisor"}
 DAY = "2012-02-06"
 REFUSED = "No certificate of the staff was sent, or it has ended or was revoked."
@@ -85,23 +80,18 @@ SIZE = (1100, 820)
 
 
 class OwnChromium(Chromium):
-    """Chromium at a desk, with its home and its /etc."""
-
     def __init__(self, desk: Desk, display: str | None) -> None:
         driver = desk.folder / "chromedriver"
         words = " ".join(f"'{word}'" for word in [*desk.within(), "chromedriver"])
         driver.write_text(f'#!/bin/sh\nexec {words} "$@"\n')
         driver.chmod(0o755)
         service = Service(str(driver), env=desk.environment(display))
-        way, strategy = (
-            ("--headless=new", "normal") if display is None else ("--no-first-run", "none")
-        )
+        with_screen, without = ("--no-first-run", "none"), ("--headless=new", "normal")
+        way, strategy = with_screen if display else without
         self.begin(desk.home / "chromium", SIZE, service, False, strategy, [way])
 
 
 class OwnFirefox(Firefox):
-    """Firefox at a desk, with its home and its /etc."""
-
     def __init__(self, desk: Desk, display: str | None) -> None:
         own = [f"{name}={text}" for name, text in desk.environment(display).items()]
         way, strategy = ("--headless", "normal") if display is None else ("--no-remote", "none")
@@ -180,11 +170,9 @@ def test_by_policy(desk: Desk, browser: str) -> None:
 
 @pytest.fixture
 def display() -> Iterator[str]:
-    """A screen that nobody sees."""
     words = ["Xvfb", "-displayfd", "1", "-screen", "0", "1100x820x24", "-nolisten", "tcp"]
     running = subprocess.Popen(words, stdout=subprocess.PIPE, stderr=subprocess.DEVNULL)
-    assert running.stdout is not None
-    yield f":{int(running.stdout.readline())}"
+    yield f":{int(piped(running.stdout).readline())}"
     running.kill()
     running.wait()
 

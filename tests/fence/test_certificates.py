@@ -1,7 +1,5 @@
 """Certificates that aren't of the staff, or not any more, and subjects that look like another person's."""
 
-from __future__ import annotations
-
 import contextlib
 import datetime
 import ssl
@@ -20,25 +18,19 @@ from tests.fence.site import Answer
 from tests.fence.wire import answer_in, connected, everything, message
 
 GROUPS = {"anna": "teller", "bert": "supervisor"}
+PEM = serialization.Encoding.PEM
 KEY = ec.generate_private_key(ec.SECP256R1())
 DAY = datetime.timedelta(days=1)
-NAME, UNIT, BANK, SERIAL, USER_ID = (
-    NameOID.COMMON_NAME,
-    NameOID.ORGANIZATIONAL_UNIT_NAME,
-    NameOID.ORGANIZATION_NAME,
-    NameOID.SERIAL_NUMBER,
-    NameOID.USER_ID,
-)
+NAME, SERIAL, USER_ID = NameOID.COMMON_NAME, NameOID.SERIAL_NUMBER, NameOID.USER_ID
+UNIT, BANK = NameOID.ORGANIZATIONAL_UNIT_NAME, NameOID.ORGANIZATION_NAME
 Part = tuple[x509.ObjectIdentifier, str]
 
 
 def subject(*parts: Part | list[Part]) -> x509.Name:
     """A subject of these parts, the most general first. A part may have several kinds."""
-    each = [part if isinstance(part, list) else [part] for part in parts]
-    sets = [
-        [x509.NameAttribute(kind, text, _validate=False) for kind, text in part] for part in each
-    ]
-    return x509.Name([x509.RelativeDistinguishedName(those) for those in sets])
+    sets = [part if isinstance(part, list) else [part] for part in parts]
+    names = [[x509.NameAttribute(*one, _validate=False) for one in part] for part in sets]
+    return x509.Name([x509.RelativeDistinguishedName(those) for those in names])
 
 
 def named(name: str) -> x509.Name:
@@ -59,22 +51,14 @@ class Authority:
         usage: x509.ObjectIdentifier = ExtendedKeyUsageOID.CLIENT_AUTH,
     ) -> str:
         now = datetime.datetime.utcnow()
-        made = x509.CertificateBuilder(
-            self.name,
-            name,
-            KEY.public_key(),
-            x509.random_serial_number(),
-            now + since * DAY,
-            now + until * DAY,
-        )
+        dates, number = (now + since * DAY, now + until * DAY), x509.random_serial_number()
+        made = x509.CertificateBuilder(self.name, name, KEY.public_key(), number, *dates)
         made = made.add_extension(x509.ExtendedKeyUsage([usage]), False)
-        return (
-            made.sign(self.key, hashes.SHA256()).public_bytes(serialization.Encoding.PEM).decode()
-        )
+        signed: bytes = made.sign(self.key, hashes.SHA256()).public_bytes(PEM)
+        return signed.decode()
 
 
 def of_easyrsa(staff: Path) -> Authority:
-    """The authority that easy-rsa keeps in a folder."""
     key = serialization.load_pem_private_key((staff / "private/ca.key").read_bytes(), None)
     assert isinstance(key, ec.EllipticCurvePrivateKey)
     certificate = x509.load_pem_x509_certificate((staff / "ca.crt").read_bytes())
@@ -89,11 +73,8 @@ class Scene(RecordedSite):
         self.authority = of_easyrsa(self.staff.folder)
 
     def client(self, certificate: str) -> ssl.SSLContext:
-        key = KEY.private_bytes(
-            serialization.Encoding.PEM,
-            serialization.PrivateFormat.PKCS8,
-            serialization.NoEncryption(),
-        )
+        form = serialization.PrivateFormat.PKCS8
+        key = KEY.private_bytes(PEM, form, serialization.NoEncryption())
         file = self.folder / "client.pem"
         file.write_text(certificate + key.decode())
         made = self.context(None)
@@ -108,11 +89,14 @@ class Scene(RecordedSite):
     def rights(self, context: ssl.SSLContext) -> tuple[str | None, str, bool, bool]:
         """What a client has: the name and groups that /user says, and whether it is served as a teller and as a supervisor."""
         user = self.answer(context, b"GET /user HTTP/1.1").json()
-        served = [
+        teller, supervisor = (
             self.answer(context, b"POST %s HTTP/1.1" % path).text == ANSWER.decode()
             for path in (b"/redeem", b"/day/close")
-        ]
-        return user.get("user"), user.get("groups", ""), served[0], served[1]
+        )
+        return user.get("user"), user.get("groups", ""), teller, supervisor
+
+    def rights_of(self, name: x509.Name) -> tuple[str | None, str, bool, bool]:
+        return self.rights(self.client(self.authority.certificate(name)))
 
 
 @pytest.fixture(scope="module")
@@ -123,29 +107,24 @@ def scene(tmp_path_factory: pytest.TempPathFactory) -> Iterator[Scene]:
 
 NOBODY = (None, "", False, False)
 ANNA = named("anna")
-#: Certificates that get nothing. A chain may have more than one.
-KEPT_OUT: dict[str, Callable[[Scene], str]] = {
-    "another authority": lambda scene: Authority(named("other"), KEY).certificate(ANNA),
-    "another authority of the same name": lambda scene: Authority(
-        scene.authority.name, KEY
-    ).certificate(ANNA),
-    "signed for itself": lambda scene: Authority(ANNA, KEY).certificate(ANNA),
-    "signed by a teller": lambda scene: Authority(ANNA, KEY).certificate(named("bert"))
-    + scene.authority.certificate(ANNA),
-    "ended yesterday": lambda scene: scene.authority.certificate(ANNA, -2, -1),
-    "from tomorrow": lambda scene: scene.authority.certificate(ANNA, 1, 2),
-    "a server's": lambda scene: scene.authority.certificate(
-        ANNA, usage=ExtendedKeyUsageOID.SERVER_AUTH
-    ),
-    "for signing programs": lambda scene: scene.authority.certificate(
-        ANNA, usage=ExtendedKeyUsageOID.CODE_SIGNING
-    ),
+SELF = Authority(ANNA, KEY)
+USAGE = ExtendedKeyUsageOID
+#: Certificates that get nothing, by the site's authority. A chain may have more than one.
+KEPT_OUT: dict[str, Callable[[Authority], str]] = {
+    "another authority": lambda _: Authority(named("other"), KEY).certificate(ANNA),
+    "another authority of the same name": lambda own: Authority(own.name, KEY).certificate(ANNA),
+    "signed for itself": lambda _: SELF.certificate(ANNA),
+    "signed by a teller": lambda own: SELF.certificate(named("bert")) + own.certificate(ANNA),
+    "ended yesterday": lambda own: own.certificate(ANNA, -2, -1),
+    "from tomorrow": lambda own: own.certificate(ANNA, 1, 2),
+    "a server's": lambda own: own.certificate(ANNA, usage=USAGE.SERVER_AUTH),
+    "for signing programs": lambda own: own.certificate(ANNA, usage=USAGE.CODE_SIGNING),
 }
 
 
 @pytest.mark.parametrize("made", KEPT_OUT.values(), ids=KEPT_OUT)
-def test_who_is_kept_out(scene: Scene, made: Callable[[Scene], str]) -> None:
-    context = scene.client(made(scene))
+def test_who_is_kept_out(scene: Scene, made: Callable[[Authority], str]) -> None:
+    context = scene.client(made(scene.authority))
     before = scene.log()
     assert scene.rights(context) == NOBODY
     for line in (b"GET /teller/ HTTP/1.1", b"GET /user HTTP/1.1", b"POST /redeem HTTP/1.1"):
@@ -155,19 +134,14 @@ def test_who_is_kept_out(scene: Scene, made: Callable[[Scene], str]) -> None:
 
 
 def test_control_a_teller_is_let_in(scene: Scene) -> None:
-    assert scene.rights(scene.client(scene.authority.certificate(ANNA))) == (
-        "anna",
-        "teller",
-        True,
-        False,
-    )
+    assert scene.rights_of(ANNA) == ("anna", "teller", True, False)
     assert scene.rights(scene.context("bert")) == ("bert", "supervisor", False, True)
 
 
 def test_control_without_the_test_of_certificates_anybody_is_let_in(tmp_path: Path) -> None:
     changed = {"ssl_verify_client on": "ssl_verify_client optional_no_ca"}
     with Scene(tmp_path, **changed, **{"$ssl_client_verify ": "SUCCESS "}) as scene:
-        assert scene.rights(scene.client(KEPT_OUT["another authority"](scene)))[2]
+        assert scene.rights(scene.client(KEPT_OUT["another authority"](scene.authority)))[2]
 
 
 #: Subjects that look like bert's, and the name of each. None but his own is bert.
@@ -207,31 +181,21 @@ SUBJECTS = {
 
 def test_no_subject_is_taken_for_another_person(scene: Scene) -> None:
     for kind, (name, user) in SUBJECTS.items():
-        found = scene.rights(scene.client(scene.authority.certificate(name)))
+        found = scene.rights_of(name)
         assert found == (user, GROUPS.get(user, ""), user == "anna", False), kind
         assert not user or scene.log()[-1]["user"] == user, kind
     with_bank = subject((BANK, "Bank"), (UNIT, "desk 3"), (NAME, "bert"))
-    assert scene.rights(scene.client(scene.authority.certificate(with_bank)))[0] == "bert"
+    assert scene.rights_of(with_bank)[0] == "bert"
 
 
-LOOSE = {
-    '"~^SUCCESS CN=(?<cn>[a-z0-9._@-]{1,64})(,|$)" $cn;': '"~*CN=(?<cn>[a-z0-9._@-]{1,64})" $cn;',
-}
+CN = "CN=(?<cn>[a-z0-9._@-]{1,64})"
+LOOSE = {f'"~^SUCCESS {CN}(,|$)" $cn;': f'"~*{CN}" $cn;'}
 
 
 def test_control_by_a_looser_pattern_others_are_bert(tmp_path: Path) -> None:
     with Scene(tmp_path, **LOOSE) as scene:
-        let_in = [
-            kind
-            for kind, (name, _) in SUBJECTS.items()
-            if scene.rights(scene.client(scene.authority.certificate(name)))[3]
-        ]
-        assert {
-            "a unit with a comma",
-            "capitals",
-            "a blank behind",
-            "two names in one part",
-        } <= set(let_in)
+        let_in = {kind for kind, (name, _) in SUBJECTS.items() if scene.rights_of(name)[3]}
+    assert {"a unit with a comma", "capitals", "a blank behind", "two names in one part"} <= let_in
 
 
 def resumed(scene: Scene, version: ssl.TLSVersion) -> int:
@@ -272,7 +236,7 @@ def outdate(staff: Path) -> None:
     authority = of_easyrsa(staff)
     made = x509.CertificateRevocationListBuilder(authority.name, now - 3 * DAY, now - DAY)
     text = made.sign(authority.key, hashes.SHA256())
-    (staff / "crl.pem").write_bytes(text.public_bytes(serialization.Encoding.PEM))
+    (staff / "crl.pem").write_bytes(text.public_bytes(PEM))
 
 
 def test_a_list_of_revoked_certificates_past_its_date_keeps_everybody_out(scene: Scene) -> None:

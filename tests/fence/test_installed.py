@@ -1,7 +1,5 @@
 """What the package puts on a machine beside the fence: man pages, completion, the clients, and a unit that has started once it serves."""
 
-from __future__ import annotations
-
 import os
 import pty
 import re
@@ -10,12 +8,13 @@ import shutil
 import subprocess
 import time
 from pathlib import Path
-from typing import Iterator
+from typing import Any, Iterator
 
 import pytest
 
-from tests.conftest import TOP
+from tests.conftest import until
 from tests.fence.conftest import Machine, blocks
+from tests.shared.counter_calls import make_version_one
 
 pytestmark = [pytest.mark.root, pytest.mark.machine, pytest.mark.slow]
 
@@ -42,20 +41,11 @@ TYPED = (
     ("ee_cli import rates /usr/share/ladwenpik/ra", "/usr/share/ladwenpik/rates.csv"),
     ("ee_cli value 7", "ee_cli value 75 "),
 )
-SHELLS = {
-    "bash": (
-        ["bash", "--norc", "--noprofile", "-i"],
-        "PS1='ready> '; bind 'set bell-style none'; . /usr/share/bash-completion/bash_completion\n",
-    ),
-    "zsh": (
-        ["zsh", "-f", "-i"],
-        "PS1='ready> '; unsetopt beep; zstyle ':completion:*' menu no; autoload -Uz compinit && compinit -u -D\n",
-    ),
-}
-FILES = {
-    "bash": "/usr/share/bash-completion/completions/ee_cli",
-    "zsh": "/usr/share/zsh/vendor-completions/_ee_cli",
-}
+#: How each shell is begun, and its file of completions.
+BASH = "bind 'set bell-style none'; . /usr/share/bash-completion/bash_completion"
+ZSH = "unsetopt beep; zstyle ':completion:*' menu no; autoload -Uz compinit && compinit -u -D"
+SHELLS = {"bash": ("bash --norc --noprofile -i", BASH), "zsh": ("zsh -f -i", ZSH)}
+FILES = {"bash": "bash-completion/completions/ee_cli", "zsh": "zsh/vendor-completions/_ee_cli"}
 CONTROL = re.compile(r"\x1b\[[0-9;?]*[a-zA-Z]|\x1b\][^\x07]*\x07|\x1b[=>]|[\x00-\x09\x0b-\x1f]")
 
 
@@ -74,22 +64,16 @@ def test_control_a_wrong_macro_is_a_warning(machine: Machine) -> None:
 
 
 class Shell:
-    """A shell on the machine at a terminal."""
-
     def __init__(self, machine: Machine, name: str) -> None:
         words, begun = SHELLS[name]
         self.terminal, other = pty.openpty()
         env = {"PATH": "/usr/sbin:/usr/bin", "TERM": "xterm", "HOME": "/root", "COLUMNS": "120"}
-        self.process = subprocess.Popen(
-            machine.words(*words),
-            stdin=other,
-            stdout=other,
-            stderr=other,
-            env={**env, "LC_ALL": "C.UTF-8", "LINES": "40"},
-            start_new_session=True,
-        )
+        env |= {"LC_ALL": "C.UTF-8", "LINES": "40"}
+        ends: dict[str, Any] = {"stdin": other, "stdout": other, "stderr": other}
+        line = machine.words(*words.split())
+        self.process = subprocess.Popen(line, env=env, start_new_session=True, **ends)
         os.close(other)
-        self.send(f"{begun}echo begun-$((40 + 2))\n")
+        self.send(f"PS1='ready> '; {begun}\necho begun-$((40 + 2))\n")
         self.wait("begun-42")
 
     def send(self, text: str) -> None:
@@ -97,18 +81,17 @@ class Shell:
 
     def read(self, seconds: float) -> str:
         """What came until the terminal was quiet for half a second, or for so long."""
-        text, until = b"", time.time() + seconds
-        while time.time() < until:
+        text, end = b"", time.time() + seconds
+        while time.time() < end:
             if not select.select([self.terminal], [], [], 0.5 if text else seconds)[0]:
                 break
             text += os.read(self.terminal, 65536)
         return CONTROL.sub("", text.decode(errors="replace"))
 
     def wait(self, wanted: str) -> str:
-        """What came up to and with this text."""
-        text, until = "", time.time() + 60
+        text, end = "", time.time() + 60
         while wanted not in text:
-            assert time.time() < until, text
+            assert time.time() < end, text
             text += self.read(1)
         return text
 
@@ -143,14 +126,14 @@ def test_a_shell_completes(shell: Shell) -> None:
 
 @pytest.mark.parametrize("name", sorted(SHELLS))
 def test_control_without_its_file_a_shell_completes_nothing(machine: Machine, name: str) -> None:
-    machine.shell(f"mv {FILES[name]} /root/kept")
+    machine.shell(f"mv /usr/share/{FILES[name]} /root/kept")
     shell = Shell(machine, name)
     try:
         typed, wanted = TYPED[0]
         assert wanted not in shell.completed(typed)
     finally:
         shell.end()
-        machine.shell(f"mv /root/kept {FILES[name]}")
+        machine.shell(f"mv /root/kept /usr/share/{FILES[name]}")
 
 
 def test_the_clients_are_answered_through_nginx(machine: Machine) -> None:
@@ -162,19 +145,26 @@ def test_the_clients_are_answered_through_nginx(machine: Machine) -> None:
 
 
 def test_the_auditors_report_finds_nothing_wrong(machine: Machine) -> None:
-    machine.shell(
-        f"systemctl stop counter.service; cp {STORE} copy.db; cp {STORE}-wal copy.db-wal;"
-        " systemctl start counter.service"
-    )
+    machine.shell(f"systemctl stop counter.service; cp {STORE} copy.db; cp {STORE}-wal copy.db-wal")
+    machine.shell("systemctl start counter.service")
     machine.shell("/usr/share/ladwenpik/audit/report copy.db --to audit")
     machine.shell("sqlite3 copy.db < /usr/share/ladwenpik/day_totals.sql")
 
 
+def test_cron_copies_the_store(machine: Machine) -> None:
+    """By the page's line, as cron runs it; the store is on a file system that it takes."""
+    disk = (
+        "mkdir /srv/copies; mount -t tmpfs tmpfs /srv/copies; cp /var/lib/counter/* /srv/copies\n"
+    )
+    machine.shell(disk + blocks("INSTALL", "Where things are")[1])
+    line = Path(machine.path("/etc/cron.d/counter-copy")).read_text().replace("\\%", "%")
+    said = machine.shell(line.split(None, 6)[6].replace("/var/lib/counter", "/srv/copies"))
+    assert ": copied and opened, with " in said
+
+
 def large_store(machine: Machine, program: Path, folder: Path, bonds: int) -> None:
-    """Puts a store of `bonds` bonds in place of the machine's."""
     file = folder / "large.db"
-    maker = TOP / "benchmarks/make_version_one.py"
-    subprocess.run([maker, file, str(bonds), str(bonds // 10)], check=True)
+    make_version_one(file, bonds, bonds // 10)
     subprocess.run([program, "export", "999999999", "--db", file], check=True)
     machine.shell("systemctl stop counter.service; mkdir kept; mv /var/lib/counter/day.db* kept/")
     shutil.copy(file, machine.path(STORE))
@@ -211,10 +201,8 @@ def test_the_first_day_by_the_page(machine: Machine) -> None:
     bonds = '{"number":2,"bonds":[{"serial":"R6EE","denom":200,"issued":"2011-12","owner":9}]}'
     redeem = '{"number":4,"day":"2026-11-30","payee":9,"serials":["R6EE"]}'
     # A 200-dollar bond of December 2011 at 0.60 % has eight units of 13.69 dollars in November 2026.
-    ticket = (
-        '{"day":"2026-11-30","lines":[{"paid":"109.52","serial":"R6EE"}],"payee":9,'
-        '"ticket":1,"total":"109.52"}'
-    )
+    lines = '"lines":[{"paid":"109.52","serial":"R6EE"}]'
+    ticket = f'{{"day":"2026-11-30",{lines},"payee":9,"ticket":1,"total":"109.52"}}'
     assert machine.ask("cleo", "/bonds", bonds) == '{"new":1,"same":0}'
     day = '{"number":3,"day":"2026-11-30"}'
     assert machine.ask("bert", "/day/open", day) == '{"opened":"2026-11-30"}'
@@ -225,32 +213,23 @@ def test_the_first_day_by_the_page(machine: Machine) -> None:
     assert "<!doctype html>" in machine.ask("anna", "/teller/").lower()
 
 
-def is_cut_off(machine: Machine, name: str) -> bool:
-    """Whether a person's certificate is refused within the ten seconds that the page says, and some for a slow machine."""
-    until = time.monotonic() + 15
-    while '"forbidden":"certificate"' not in machine.ask(name, "/user"):
-        if time.monotonic() > until:
-            return False
-        time.sleep(0.5)
-    return True
+def is_cut_off(machine: Machine, name: str) -> None:
+    """A person's certificate is refused within the ten seconds that the page says, and some for a slow machine."""
+    until(lambda: '"forbidden":"certificate"' in machine.ask(name, "/user"), name, 15)
 
 
 def test_dismissed_and_replaced_by_the_page(machine: Machine) -> None:
     """The commands of docs/WHO_MAY_DO_WHAT.md, in its order."""
     (function,) = blocks("WHO_MAY_DO_WHAT", "An authority on the counter's machine")
     machine.shell(function + blocks("WHO_MAY_DO_WHAT", "Replace")[0])
-    assert is_cut_off(machine, "anna")
+    is_cut_off(machine, "anna")
     kept = "cat /etc/counter/staff/issued/anna.crt /etc/counter/staff/private/anna.key > anna.pem"
     machine.shell(kept)
     assert machine.ask("anna", "/user") == '{"user":"anna","groups":"teller"}'
-    machine.shell(
-        function
-        + "rm -f anna.passphrase\n"
-        + blocks("WHO_MAY_DO_WHAT", "Make and hand over")[0].split("\n", 1)[1]
-    )
-    machine.shell(
-        "openssl pkcs12 -in /etc/counter/staff/private/anna.p12 -passin file:anna.passphrase -nokeys | grep -q CERT"
-    )
+    hand_over = blocks("WHO_MAY_DO_WHAT", "Make and hand over")[0].split("\n", 1)[1]
+    machine.shell(f"{function}rm -f anna.passphrase\n{hand_over}")
+    read = "openssl pkcs12 -in /etc/counter/staff/private/anna.p12 -passin file:anna.passphrase"
+    machine.shell(f"{read} -nokeys | grep -q CERT")
     machine.shell(function + blocks("WHO_MAY_DO_WHAT", "Dismiss")[0])
-    assert is_cut_off(machine, "anna")
+    is_cut_off(machine, "anna")
     assert "R\t" in machine.shell(blocks("WHO_MAY_DO_WHAT", "List")[0])

@@ -1,12 +1,7 @@
 """nginx's log has the body of each request that the counter may have acted on, once it is answered. Nobody fills its disk."""
 
-from __future__ import annotations
-
 import json
-import os
 import random
-import signal
-import subprocess
 import time
 from concurrent.futures import ThreadPoolExecutor
 from pathlib import Path
@@ -17,8 +12,9 @@ import pytest
 from tests.conftest import TOP
 from tests.fence.conftest import Counter, MakeSite
 from tests.fence.recorder import ANSWER, UNLIMITED, RecordedSite
-from tests.fence.site import Site, workers
+from tests.fence.site import Site
 from tests.fence.wire import HEADERS, answer_in, connected, message, sent
+from tests.shared.counter_calls import run
 
 GROUPS = {"anna": "teller", "bert": "supervisor", "cleo": "registrar"}
 MOST = 131_072
@@ -36,8 +32,7 @@ def entry_of(site: Site, text: bytes, seconds: float = 5) -> dict[str, Any] | No
     name = answer_in(text).headers["X-Request-Id"].encode()
     deadline = time.monotonic() + seconds
     while True:
-        lines = (site.folder / "log/counter.log").read_bytes().splitlines()
-        for line in lines:
+        for line in (site.folder / "log/counter.log").read_bytes().splitlines():
             if b'"entry":"%s"' % name in line[:100]:
                 found: dict[str, Any] = json.loads(line.decode("utf-8", "surrogateescape"))
                 return found
@@ -74,25 +69,13 @@ def test_bodies_of_each_length_and_in_pieces_are_logged(recorded: RecordedSite) 
         body = dice.randbytes(length)
         whole = message(BONDS, body)
         for pieces in ways(whole, len(whole) - length):
-            assert is_logged(recorded, body, pieces, 0.02 * (len(pieces) == 2)), (
-                length,
-                len(pieces),
-            )
+            assert is_logged(recorded, body, pieces, 0.02 * (len(pieces) == 2)), length
 
 
 #: Bodies with bytes that a log may escape.
-ODD = [
-    b"",
-    b'a"b\\c',
-    bytes(range(32)),
-    bytes(range(32, 256)),
-    b"a\xff\xc3(\xe2\x28\xa1b",
-    b"a\xed\xa0\x80b",
-    b"\xef\xbb\xbf\xc0\xaf",
-    "aä€\U0001f600\u2028".encode() + b"\x7f",
-    b'","status":"200","body":"',
-    b'"}\n{"time":"',
-]
+ODD = [b"", b'a"b\\c', bytes(range(32)), bytes(range(32, 256)), b"a\xff\xc3(\xe2\x28\xa1b"]
+ODD += [b"a\xed\xa0\x80b", b"\xef\xbb\xbf\xc0\xaf", "aä€\U0001f600\u2028".encode() + b"\x7f"]
+ODD += [b'","status":"200","body":"', b'"}\n{"time":"']
 
 
 @pytest.mark.parametrize("body", ODD)
@@ -126,15 +109,12 @@ def test_a_body_in_chunks_never_reaches_the_counter(recorded: RecordedSite) -> N
 
 
 def test_control_a_body_in_chunks_could_be_missing_in_the_log(tmp_path: Path) -> None:
-    with RecordedSite(
-        tmp_path, GROUPS, {"if ($http_transfer_encoding) { return 411; }": ""}
-    ) as site:
+    changed = {"if ($http_transfer_encoding) { return 411; }": ""}
+    with RecordedSite(tmp_path, GROUPS, changed) as site:
         entry = entry_of(site, long_chunks(site))
         (got,) = site.recorder.take()
         assert entry and (got.body, entry["body"]) == (b"c" * 69, "")
 
-
-# ---- payments, and who asked for them
 
 #: Ways to write the body of a redemption, with its fields at %s. If the counter reads one, who_asked must read it too.
 SPELLINGS = [
@@ -159,11 +139,9 @@ DAY = "2012-02-06"
 
 def who_asked(store: Path, *logs: Path) -> tuple[list[str], list[str]]:
     """The lines of tickets that the script prints, and those of requests that nobody asked for."""
-    words = [TOP / "samples/audit/who_asked", store, *logs]
-    told = subprocess.run(words, capture_output=True, text=True).stdout.splitlines()
-    return [line for line in told if "ticket " in line], [
-        line for line in told if "nobody" in line and "ticket " in line
-    ]
+    found = run(TOP / "samples/audit/who_asked", store, *logs).stdout.splitlines()
+    tickets = [line for line in found if "ticket " in line]
+    return tickets, [line for line in tickets if "nobody" in line]
 
 
 def test_each_body_that_the_counter_takes_has_its_teller(site: MakeSite, counter: Counter) -> None:
@@ -172,11 +150,8 @@ def test_each_body_that_the_counter_takes_has_its_teller(site: MakeSite, counter
     context, paid = made.context("anna"), 0
     for nth, spelling in enumerate(SPELLINGS, 1):
         body = spelling % f'"desk":3,"number":{nth},"day":"{DAY}","payee":7,"serials":["B{nth}EE"]'
-        text = sent(
-            made,
-            context,
-            [message(b"POST /redeem HTTP/1.1", body.encode("utf-8", "surrogateescape"))],
-        )
+        whole = message(b"POST /redeem HTTP/1.1", body.encode("utf-8", "surrogateescape"))
+        text = sent(made, context, [whole])
         assert entry_of(made, text) is not None
         paid += answer_in(text).status == 200
     counter.end()
@@ -184,12 +159,8 @@ def test_each_body_that_the_counter_takes_has_its_teller(site: MakeSite, counter
     assert paid >= 3 and len(tickets) == paid and lost == []
     assert all(line.split()[1] == "anna" for line in tickets)
     (made.folder / "empty.log").touch()
-    assert (
-        len(who_asked(counter.store, made.folder / "empty.log")[1]) == paid
-    ), "control: without the log nobody is named"
-
-
-# ---- the disk
+    lost = who_asked(counter.store, made.folder / "empty.log")[1]
+    assert len(lost) == paid, "control: without the log nobody is named"
 
 
 def logged_by(
@@ -220,23 +191,15 @@ def test_refused_requests_do_not_fill_the_disk(tmp_path: Path) -> None:
             each, second = logged_by(site, "anna", line, body)
             print(f"{each:.0f} bytes for each request, {second / 1000:.0f} kB in a second")
             assert 0 < each < 2000 and second < 1_000_000
-        assert logged_by(site, None, b"POST /redeem HTTP/1.1", REFUSED) == (
-            0,
-            0,
-        ), "nothing of a stranger"
+        of_stranger = logged_by(site, None, b"POST /redeem HTTP/1.1", REFUSED)
+        assert of_stranger == (0, 0), "nothing of a stranger"
 
 
 def test_control_if_bodies_were_logged_whole_the_disk_would_fill(tmp_path: Path) -> None:
-    with RecordedSite(
-        tmp_path, GROUPS, {**UNLIMITED, "default $body_begin;": "default $request_body;"}
-    ) as site:
+    changed = {**UNLIMITED, "default $body_begin;": "default $request_body;"}
+    with RecordedSite(tmp_path, GROUPS, changed) as site:
         site.recorder.status = 400
-        each, second = logged_by(site, "anna", b"POST /redeem HTTP/1.1", REFUSED)
-        print(f"{each:.0f} bytes for each request, {second / 1000:.0f} kB in a second")
-        assert each > 50_000
-
-
-# ---- the moment of the entry
+        assert logged_by(site, "anna", b"POST /redeem HTTP/1.1", REFUSED)[0] > 50_000
 
 
 def killed_behind_a_client(site: RecordedSite) -> bool:
@@ -252,8 +215,7 @@ def killed_behind_a_client(site: RecordedSite) -> bool:
                 time.sleep(0.1)
         except OSError:
             time.sleep(1)
-        for process in (site.process.pid, *map(int, workers(site.process.pid))):
-            os.kill(process, signal.SIGKILL)
+        site.kill()
     return entry_of(site, text, 1) is not None
 
 
@@ -262,7 +224,6 @@ def test_the_entry_is_written_when_the_answer_is_given(
     tmp_path: Path, lingering: str, is_written: bool
 ) -> None:
     """With the other two values, which are the controls, nginx writes it when the client has gone."""
-    with RecordedSite(
-        tmp_path, GROUPS, {"lingering_close off": f"lingering_close {lingering}"}
-    ) as site:
+    changed = {"lingering_close off": f"lingering_close {lingering}"}
+    with RecordedSite(tmp_path, GROUPS, changed) as site:
         assert killed_behind_a_client(site) == is_written

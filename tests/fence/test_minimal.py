@@ -1,7 +1,5 @@
 """docs/INSTALL.md to the letter on a Debian that has nothing but systemd: each command that a page uses comes from its own lines."""
 
-from __future__ import annotations
-
 import glob
 import os
 import shutil
@@ -30,7 +28,6 @@ def minimal() -> Iterator[Machine]:
 
 
 def online(machine: Machine, text: str) -> str:
-    """What a shell prints on the machine with this machine's network, which leads to Debian's mirror."""
     words = [word for word in machine.words("bash", "-euo", "pipefail", "-c") if word != "--net"]
     ran = subprocess.run(
         [*words, f"cd /root/release\n{text}"],

@@ -1,24 +1,20 @@
 """1,000 payments while nginx and the counter are restarted and killed 50 times: each is paid once, and has an entry in nginx's log."""
 
-from __future__ import annotations
-
 import contextlib
 import http.client
 import json
-import os
-import signal
-import sqlite3
 import threading
 import time
 from concurrent.futures import ThreadPoolExecutor
 from pathlib import Path
-from typing import Any, Iterator
+from typing import Iterator
 
 import pytest
 
 from tests.fence.conftest import Counter, MakeSite
 from tests.fence.recorder import UNLIMITED
-from tests.fence.site import Site, workers
+from tests.fence.site import Site
+from tests.shared.counter_calls import rows
 
 pytestmark = pytest.mark.slow
 
@@ -39,9 +35,7 @@ def counter(program: Path, folder: Path) -> Iterator[Counter]:
 
 
 def killed(site: Site) -> None:
-    for process in (site.process.pid, *map(int, workers(site.process.pid))):
-        os.kill(process, signal.SIGKILL)
-    site.process.wait()
+    site.kill()
     site.process = site.start()
 
 
@@ -89,13 +83,7 @@ def paid(site: Site, counter: Counter, restarts: int, is_again: bool = True) -> 
 
 
 def logged(site: Site) -> set[int]:
-    """The numbers of the payments that the log has."""
     return {json.loads(entry["body"])["number"] for entry in site.log() if entry["counter"]}
-
-
-def rows(store: Path, statement: str) -> list[tuple[Any, ...]]:
-    with contextlib.closing(sqlite3.connect(store)) as books:
-        return books.execute(statement).fetchall()
 
 
 def test_each_payment_is_paid_once_and_logged(site: MakeSite, counter: Counter) -> None:
@@ -109,9 +97,8 @@ def test_each_payment_is_paid_once_and_logged(site: MakeSite, counter: Counter) 
     assert sorted(kept) == sorted(told.items())
     tickets = sorted(json.loads(reply)["ticket"] for reply in told.values())
     assert tickets == list(range(1, 1001))
-    assert rows(counter.store, "SELECT count(*), count(DISTINCT number) FROM paid") == [
-        (1000, 1000)
-    ]
+    counts = "SELECT count(*), count(DISTINCT number) FROM paid"
+    assert rows(counter.store, counts) == [(1000, 1000)]
 
 
 def test_control_who_sends_once_loses_replies(site: MakeSite, counter: Counter) -> None:

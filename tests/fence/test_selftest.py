@@ -1,7 +1,5 @@
 """counter-selftest on a fresh Debian: right by docs/INSTALL.md, and each weakening is a line that names it."""
 
-from __future__ import annotations
-
 import contextlib
 import os
 import re
@@ -16,6 +14,7 @@ from typing import Any, Iterator, NamedTuple
 import pytest
 
 from tests.fence.conftest import Machine, blocks
+from tests.fence.fresh import done
 
 pytestmark = [pytest.mark.root, pytest.mark.machine, pytest.mark.slow]
 
@@ -68,10 +67,6 @@ class Found:
         assert len(lines) == self.text.count("\n"), self.text
 
 
-def done(*words: str) -> str:
-    return subprocess.run(words, check=True, stdout=subprocess.PIPE, text=True).stdout
-
-
 def bring_btrfs(machine: Machine) -> None:
     """Debian's btrfs-progs, from this machine: the fresh one reaches no mirror."""
     for file in ("/usr/bin/btrfs", *re.findall(r"=> (/\S+)", done("ldd", "/usr/bin/btrfs"))):
@@ -81,7 +76,6 @@ def bring_btrfs(machine: Machine) -> None:
 
 @pytest.fixture(scope="module")
 def whole(machine: Machine, tmp_path_factory: pytest.TempPathFactory) -> Iterator[Machine]:
-    """The machine with all that a bank sets up."""
     folder, devices = tmp_path_factory.mktemp("disks"), []
     bring_btrfs(machine)
     try:
@@ -123,6 +117,11 @@ def test_without_people_the_lines_that_need_them_are_not_tested(machine: Machine
 
 
 WRONG = ("--teller", "--teller none.pem", "--other x", "more")
+#: A teller asks 40 times. The statuses and seconds are printed.
+ASKS = r"""cd /root; for n in {1..40}; do
+curl -s -o /dev/null -w '%{http_code} %{time_total}\n' --cacert /etc/counter/certificate.pem \
+  --cert anna.pem -H 'X-Counter-Client: curl' https://counter.bank.example/value/50/2010-11/2026-11
+sleep 0.1; done"""
 AS_NOBODY = "setpriv --reuid nobody --clear-groups counter-selftest"
 
 
@@ -139,12 +138,7 @@ def test_a_certificate_that_the_machine_does_not_trust_is_wrong(machine: Machine
 
 def test_with_all_set_up_each_line_is_right_and_nothing_changes(whole: Machine) -> None:
     """Meanwhile a teller is answered, each time within two seconds."""
-    ask = (
-        "curl -s -o /dev/null -w '%{http_code} %{time_total}\\n' --connect-to ::127.0.0.1:443"
-        " --cacert /etc/counter/certificate.pem --cert anna.pem -H 'X-Counter-Client: curl'"
-        " https://counter.bank.example/value/50/2010-11/2026-11"
-    )
-    words = whole.words("bash", "-c", f"cd /root; for n in {{1..40}}; do {ask}; sleep 0.1; done")
+    words = whole.words("bash", "-c", ASKS)
     before = whole.shell(STATE)
     with subprocess.Popen(words, stdout=subprocess.PIPE, text=True) as teller:
         found = Found(whole)
@@ -164,8 +158,6 @@ def test_an_authority_of_the_bank_has_neither_a_key_nor_an_index_here(whole: Mac
     whole.shell("mv away/* /etc/counter/staff; rmdir away")
     assert (found.status, found.names["WRONG"]) == (0, set()), found.text
 
-
-# ---- The weakenings
 
 #: What stands for these words in weakenings.toml. A reload of a wrong configuration is refused.
 SHORT: dict[str, str] = {
@@ -229,14 +221,11 @@ def more_rights(mode: str, path: str) -> Weakening:
     return Weakening(f"{path} with mode {mode}", f"{do}; RELOAD", f"{undo}; RELOAD", named)
 
 
-with open(Path(__file__).parent / "weakenings.toml", "rb") as opened:
-    KINDS_OF = tomllib.load(opened)
+KINDS_OF = tomllib.loads((Path(__file__).parent / "weakenings.toml").read_text())
 RIGHTS = KINDS_OF.pop("rights").items()
-WEAKENINGS = [more_rights(mode, path) for mode, paths in RIGHTS for path in paths] + [
-    weakening(kind, what, entry)
-    for kind, entries in KINDS_OF.items()
-    for what, entry in entries.items()
-]
+WEAKENINGS = [more_rights(mode, path) for mode, paths in RIGHTS for path in paths]
+for kind, entries in KINDS_OF.items():
+    WEAKENINGS += [weakening(kind, what, entry) for what, entry in entries.items()]
 
 
 @pytest.mark.parametrize("one", WEAKENINGS, ids=[one.what for one in WEAKENINGS])
@@ -247,9 +236,6 @@ def test_a_weakening_is_named(whole: Machine, one: Weakening) -> None:
     assert found.names["WRONG"] == one.wrong, found.text
     assert found.status == 1, found.text
     assert found.text.count(". Do: ") == len(one.wrong), found.text
-
-
-# ---- What the bank means
 
 
 @contextlib.contextmanager

@@ -1,7 +1,5 @@
 """500 tellers at once, while the counter stands still for three seconds: none is answered 502, and none later than twice as long as by a plain server in C."""
 
-from __future__ import annotations
-
 import re
 import socket
 import statistics
@@ -9,17 +7,19 @@ import subprocess
 import threading
 import time
 from collections import Counter as Count
+from concurrent.futures import ThreadPoolExecutor
 from pathlib import Path
-from typing import Iterator, NamedTuple
+from typing import Iterator
 
 import pytest
 
-from tests.conftest import TOP
+from tests.conftest import TOP, is_listening, until
 from tests.fence.conftest import Counter, MakeSite
 from tests.fence.recorder import UNLIMITED
-from tests.fence.site import Site, free_port
+from tests.fence.site import Site
 from tests.fence.test_load import GROUPS, DAY, redemption
 from tests.fence.wire import answer_in, sent
+from tests.shared.counter_calls import free_port, piped
 
 pytestmark = [pytest.mark.root, pytest.mark.slow]
 
@@ -38,22 +38,15 @@ class Network:
     def __init__(self, settings: str | None = None) -> None:
         words = ["unshare", "--net", "sh", "-c", "ip link set lo up; echo; exec sleep 600"]
         self.process = subprocess.Popen(words, stdout=subprocess.PIPE)
-        assert self.process.stdout is not None
-        self.process.stdout.readline()
+        piped(self.process.stdout).readline()
         self.words = ["nsenter", "-t", str(self.process.pid), "--net"]
         unit = (UNITS / "counter-network.service").read_text()
         (found,) = re.findall(r"-c '(cd /proc/sys/net.*)'$", unit, re.M)
-        subprocess.run(
-            [*self.words, "sh", "-c", found if settings is None else settings], check=True
-        )
+        words = [*self.words, "sh", "-c", found if settings is None else settings]
+        subprocess.run(words, check=True)
 
     def wait_for(self, port: int) -> None:
-        """Until somebody listens there. A connection would be a request."""
-        while (
-            f" 0100007F:{port:04X} 00000000:0000 0A "
-            not in Path(f"/proc/{self.process.pid}/net/tcp").read_text()
-        ):
-            time.sleep(0.1)
+        until(lambda: is_listening(port, self.process.pid), "nobody listens")
 
     def end(self) -> None:
         self.process.kill()
@@ -68,17 +61,14 @@ def network() -> Iterator[Network]:
 
 
 class Program(Counter):
-    """The program in that network."""
-
     def __init__(self, network: Network, program: Path, folder: Path) -> None:
         self.network = network
         super().__init__(program, folder, bonds=REQUESTS)
 
     def start(self) -> None:
         words = [*self.network.words, str(self.program), "serve", "--db", str(self.store)]
-        self.process = subprocess.Popen(
-            [*words, "--port", str(self.port)], stdout=subprocess.DEVNULL
-        )
+        words += ["--port", str(self.port)]
+        self.process = subprocess.Popen(words, stdout=subprocess.DEVNULL)
         self.network.wait_for(self.port)
 
 
@@ -109,9 +99,8 @@ class Passing:
         self.ear.listen(4096)
         # The socket is the first that a service of systemd is handed: its file 3.
         line = f"exec 3<&{self.ear.fileno()}; LISTEN_FDS=1 LISTEN_PID=$$ exec {' '.join(network.words)} {start} 127.0.0.1:{port}"
-        self.process = subprocess.Popen(
-            ["sh", "-c", line], pass_fds=[self.ear.fileno()], stderr=subprocess.DEVNULL
-        )
+        files, null = [self.ear.fileno()], subprocess.DEVNULL
+        self.process = subprocess.Popen(["sh", "-c", line], pass_fds=files, stderr=null)
 
     def end(self) -> None:
         self.process.kill()
@@ -119,45 +108,34 @@ class Passing:
         self.ear.close()
 
 
-class Told(NamedTuple):
-    statuses: Count[int]
-    longest: float
+def stalled(site: Site, process: int) -> tuple[Count[int], float]:
+    """Lets all tellers ask while the server stands still. The statuses, and the longest time."""
+    context, begun = site.context("anna"), threading.Barrier(TELLERS + 1)
 
-
-def stalled(site: Site, process: int) -> Told:
-    """Lets all tellers ask while the server stands still."""
-    context, numbers = site.context("anna"), iter(range(1, REQUESTS + 1))
-    lock, told = threading.Lock(), list[tuple[int, float]]()
-
-    def teller() -> None:
-        while True:
-            with lock:
-                number = next(numbers, None)
-            if number is None:
-                return
-            begun = time.monotonic()
+    def teller(nth: int) -> list[tuple[int, float]]:
+        begun.wait()
+        found = []
+        for number in range(1 + nth, REQUESTS + 1, TELLERS):
+            start = time.monotonic()
             answer = answer_in(sent(site, context, [redemption(number, number)], patience=300))
-            told.append((answer.status, time.monotonic() - begun))
+            found.append((answer.status, time.monotonic() - start))
+        return found
 
     subprocess.run(["kill", "-STOP", str(process)], check=True)
-    tellers = [threading.Thread(target=teller) for _ in range(TELLERS)]
-    for one in tellers:
-        one.start()
-    time.sleep(STALL)
-    subprocess.run(["kill", "-CONT", str(process)], check=True)
-    for one in tellers:
-        one.join()
-    took = sorted(seconds for _, seconds in told)
-    found = Told(Count(status for status, _ in told), took[-1])
-    print(
-        f"{dict(found.statuses)}, median {statistics.median(took):.1f} s, p99 {took[len(took) * 99 // 100]:.1f} s, at most {took[-1]:.1f} s"
-    )
-    return found
+    with ThreadPoolExecutor(TELLERS) as pool:
+        tellers = [pool.submit(teller, nth) for nth in range(TELLERS)]
+        begun.wait()
+        time.sleep(STALL)
+        subprocess.run(["kill", "-CONT", str(process)], check=True)
+        answers = [answer for one in tellers for answer in one.result()]
+    statuses, took = Count(status for status, _ in answers), sorted(one for _, one in answers)
+    print(f"{dict(statuses)}, median {statistics.median(took):.1f} s, at most {took[-1]:.1f} s")
+    return statuses, took[-1]
 
 
 def through(
     site: MakeSite, folder: Path, network: Network, server: Program | InC, service: str = SERVICE
-) -> Told:
+) -> tuple[Count[int], float]:
     passing = Passing(network, folder, server.port, service)
     try:
         made = site(GROUPS, counter=f"http://unix:{passing.at}", changed=PATIENT)
@@ -175,10 +153,9 @@ ALL_SERVED = Count({200: REQUESTS})
 def test_no_answer_is_lost_or_late(
     site: MakeSite, folder: Path, program: Path, network: Network
 ) -> None:
-    wanted = through(site, folder, network, InC(network, folder))
-    found = through(site, folder, network, Program(network, program, folder / "store"))
-    assert (found.statuses, wanted.statuses) == (ALL_SERVED, ALL_SERVED)
-    assert found.longest < 2 * wanted.longest
+    wanted, of_plain = through(site, folder, network, InC(network, folder))
+    found, longest = through(site, folder, network, Program(network, program, folder / "store"))
+    assert found == wanted == ALL_SERVED and longest < 2 * of_plain
 
 
 #: Microseconds of a slow server, at which the kernel's queues run over.
@@ -186,13 +163,13 @@ SLOW = 20_000
 
 
 def test_nor_by_a_slow_server(site: MakeSite, folder: Path, network: Network) -> None:
-    assert through(site, folder, network, InC(network, folder, SLOW)).statuses == ALL_SERVED
+    assert through(site, folder, network, InC(network, folder, SLOW))[0] == ALL_SERVED
 
 
 def test_control_by_the_kernels_defaults_answers_are_lost(site: MakeSite, folder: Path) -> None:
     network = Network("true")
     try:
-        assert through(site, folder, network, InC(network, folder, SLOW)).statuses[502] > 0
+        assert through(site, folder, network, InC(network, folder, SLOW))[0][502] > 0
     finally:
         network.end()
 
@@ -201,4 +178,4 @@ def test_control_by_a_proxy_of_fewer_connections_too(
     site: MakeSite, folder: Path, network: Network
 ) -> None:
     few = SERVICE.replace("=1024", "=128")
-    assert through(site, folder, network, InC(network, folder), few).statuses[502] > 0
+    assert through(site, folder, network, InC(network, folder), few)[0][502] > 0

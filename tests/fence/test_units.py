@@ -1,7 +1,5 @@
 """The units on a machine: a local user never takes the counter's place, and requests find the counter however the units are started and restarted."""
 
-from __future__ import annotations
-
 import itertools
 import json
 import shutil
@@ -55,9 +53,8 @@ class Impostor:
         shutil.copy(Path(__file__).parent / "impostor.py", machine.path("/tmp/impostor.py"))
         nobody = ("setpriv", "--reuid", "65534", "--regid", "65534", "--clear-groups")
         words = machine.words(*nobody, "python3", "/tmp/impostor.py")
-        self.process = subprocess.Popen(
-            words, stdin=subprocess.PIPE, stdout=subprocess.PIPE, text=True
-        )
+        pipe = subprocess.PIPE
+        self.process = subprocess.Popen(words, stdin=pipe, stdout=pipe, text=True)
 
     def end(self) -> dict[str, Any]:
         told: dict[str, Any] = json.loads(self.process.communicate("\n", timeout=60)[0])
@@ -97,15 +94,13 @@ def test_control_root_may_go_those_ways(machine: Machine) -> None:
 def test_control_over_a_port_of_the_machine_he_answers(
     machine: Machine, impostor: Impostor
 ) -> None:
-    conf = "/usr/share/ladwenpik/nginx/nginx.conf"
-    machine.shell(
-        f"cp {conf} kept.conf; sed -i 's|http://unix:/run/counter-http.sock|http://127.0.0.1:8377|' {conf}\n"
-        "systemctl reload counter-nginx.service; sleep 1"
-    )
+    conf, reload = "/usr/share/ladwenpik/nginx/nginx.conf", "systemctl reload counter-nginx.service"
+    port = "s|http://unix:/run/counter-http.sock|http://127.0.0.1:8377|"
+    machine.shell(f"cp {conf} kept.conf; sed -i '{port}' {conf}; {reload}; sleep 1")
     try:
         assert FORGED in asked(machine)
     finally:
-        machine.shell(f"mv kept.conf {conf}; systemctl reload counter-nginx.service; sleep 1")
+        machine.shell(f"mv kept.conf {conf}; {reload}; sleep 1")
 
 
 def test_a_list_past_its_date_is_renewed_by_its_unit(machine: Machine) -> None:
@@ -118,9 +113,8 @@ def test_a_list_past_its_date_is_renewed_by_its_unit(machine: Machine) -> None:
 
 @pytest.mark.parametrize("order", [*itertools.permutations(UNITS), UNITS[:1]])
 def test_units_may_start_in_any_order(machine: Machine, order: tuple[str, ...]) -> None:
-    machine.shell(
-        f"systemctl stop {ALL}\n" + "".join(f"systemctl start {unit}\n" for unit in order)
-    )
+    starts = "".join(f"systemctl start {unit}\n" for unit in order)
+    machine.shell(f"systemctl stop {ALL}\n{starts}")
     assert asked(machine) == OWN
 
 

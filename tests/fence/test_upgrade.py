@@ -1,7 +1,5 @@
 """An upgrade from each release with passwords, by docs/UPGRADE.md to the letter: it asks nothing, and nobody can answer in the counter's place."""
 
-from __future__ import annotations
-
 import tempfile
 from pathlib import Path
 from typing import Iterator
@@ -34,7 +32,6 @@ def before(request: pytest.FixtureRequest, program: Path) -> Iterator[Before]:
 
 @pytest.fixture
 def old(machines: MakeMachine, before: Before) -> Iterator[Machine]:
-    """A machine that serves by the release from before."""
     machine = machines()
     before.install(machine)
     yield machine
@@ -54,6 +51,7 @@ def upgrade(machine: Machine, release: Release) -> None:
 
 
 def test_an_upgrade_asks_nothing_and_serves_by_certificates(old: Machine, release: Release) -> None:
+    """And no local user can answer. The lock of e30226db on its port is gone with the next start of the machine."""
     tickets = old.shell("grep -c redeem /var/log/nginx/counter.log").strip()
     make_certificates(old)
     upgrade(old, release)
@@ -68,12 +66,6 @@ def test_an_upgrade_asks_nothing_and_serves_by_certificates(old: Machine, releas
     old.shell(blocks("UPGRADE", "5. Resume")[1])
     ran = old.on("sh", "-c", "cd /root; " + blocks("UPGRADE", "5. Resume")[2])
     assert ran.returncode == 3, ran.stdout
-
-
-def test_a_local_user_cannot_answer_after_an_upgrade(old: Machine, release: Release) -> None:
-    """The lock of e30226db on its port is gone with the next start of the machine."""
-    make_certificates(old)
-    upgrade(old, release)
     old.write("/tmp/impostor.py", IMPOSTOR)
     old.shell("systemctl stop counter.service")
     old.shell("systemd-run -q --uid=nobody --unit=impostor python3 /tmp/impostor.py; sleep 1")
@@ -86,10 +78,7 @@ def test_without_certificates_nobody_signs_in(old: Machine, release: Release) ->
     upgrade(old, release)
     states = [old.shown(unit, "ActiveState") for unit in ("nginx.service", "counter-nginx.service")]
     assert states == ["inactive", "inactive"]
-    refused = old.on(
-        "curl", "-s", "--connect-to", "::127.0.0.1:443", "https://counter.bank.example/"
-    )
-    assert refused.returncode == 7
+    assert old.on("curl", "-s", "https://127.0.0.1/").returncode == 7
 
 
 def test_back_to_the_release_before(old: Machine, before: Before, release: Release) -> None:
@@ -101,9 +90,8 @@ def test_back_to_the_release_before(old: Machine, before: Before, release: Relea
     old.shell("cp -r before release/before")
     old.shell("cd release\n" + blocks("UPGRADE", "If it goes wrong")[1])
     assert old.shell("dpkg-query -W -f '${Version}' ladwenpik") == COMMITS[before.commit]
-    assert '"fault":"NotFound"' in old.shell(
-        asked.replace(": ask", ":").replace("ask anna /redeem", ":")
-    )
+    asked = asked.replace(": ask", ":").replace("ask anna /redeem", ":")
+    assert '"fault":"NotFound"' in old.shell(asked)
 
 
 def test_removed_reinstalled_and_purged(machines: MakeMachine, release: Release) -> None:

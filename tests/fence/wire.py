@@ -1,7 +1,5 @@
 """Sends bytes to nginx as they are, over TLS, and reads what comes back: for requests that no library of HTTP sends."""
 
-from __future__ import annotations
-
 import contextlib
 import http.client
 import io
@@ -16,11 +14,9 @@ from tests.fence.site import CLIENT, Answer, Site
 HEADERS = [b"Host: 127.0.0.1", *(f"{name}: {value}".encode() for name, value in CLIENT.items())]
 
 
-def message(
-    line: bytes, body: bytes = b"", *more: bytes, headers: Iterable[bytes] = HEADERS
-) -> bytes:
+def message(line: bytes, body: bytes = b"", *more: bytes) -> bytes:
     """A request as a client of the bank sends it, with the length of its body."""
-    lines = [line, *headers, b"Content-Length: %d" % len(body), *more]
+    lines = [line, *HEADERS, b"Content-Length: %d" % len(body), *more]
     return b"\r\n".join(lines) + b"\r\n\r\n" + body
 
 
@@ -58,7 +54,6 @@ def sent(
 
 
 def statuses(text: bytes) -> list[int]:
-    """The statuses of all responses in a text."""
     return [int(status) for status in re.findall(rb"HTTP/1\.1 (\d\d\d) ", text)]
 
 

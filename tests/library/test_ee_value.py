@@ -8,16 +8,15 @@ import csv
 import importlib.util
 import os
 import pty
-import random
 import subprocess
 import sys
 from pathlib import Path
 
 import pytest
 
+from tests.conftest import TOP
 from tests.shared import exact
 
-TOP = Path(__file__).resolve().parents[2]
 VALUE = TOP / "clients/value"
 DATA = TOP / "crates/published_values/data"
 LIBRARY = Path(os.environ.get("EE_VALUE_LIBRARY", VALUE / "out/libee_value.so.1"))
@@ -77,36 +76,30 @@ def test_terminal_gets_the_table(folder: Path) -> None:
 def test_a_row_for_each_bond(folder: Path) -> None:
     """A bond before its issue, below 12 months, in extended maturity at another rate, and matured."""
     rates = written(folder / "rates.csv", "from,rate,extension\n2010-05,3.40%,4.00\n2010-11,3.5,\n")
-    done = ran("-", "2030-11", "--rates", rates, given=f"{HEADER}A1EE,50,2010-05,7,\n")
-    assert done.stdout.splitlines()[1] == (
-        "A1EE,50,2010-05,3.40%,4.00%,25.00,26.00,51.00,51.00,,2030-12,2040-05,"
-    )
+    given = f"{HEADER}A1EE,50,2010-05,7,\n"
     for month, expected in {
-        "2010-04": "A1EE,50,2010-05,3.40%,4.00%,0.00,0.00,0.00,0.00,NI,,,",
-        "2011-04": "A1EE,50,2010-05,3.40%,4.00%,25.00,0.00,25.00,0.00,NE,2011-05,2040-05,",
+        "2030-11": "25.00,26.00,51.00,51.00,,2030-12,2040-05,",
+        "2010-04": "0.00,0.00,0.00,0.00,NI,,,",
+        "2011-04": "25.00,0.00,25.00,0.00,NE,2011-05,2040-05,",
     }.items():
-        done = ran("-", month, "--rates", rates, given=f"{HEADER}A1EE,50,2010-05,7,\n")
-        assert done.stdout.splitlines()[1:] == [expected]
+        done = ran("-", month, "--rates", rates, given=given)
+        assert done.stdout.splitlines()[1:] == [f"A1EE,50,2010-05,3.40%,4.00%,{expected}"]
         assert (done.stderr, done.returncode) == ("", 0)
-    matured = ran("-", "2045-01", "--rates", rates, given=f"{HEADER}A1EE,50,2010-05,7,\n")
-    assert rows(matured)[0]["note"] == "MA"
+    assert rows(ran("-", "2045-01", "--rates", rates, given=given))[0]["note"] == "MA"
 
 
 def published(month: str, rates: Path) -> None:
     """Compares the values that the Treasury published for a month with the rows of a list."""
     with open(DATA / "published-values.csv", newline="") as file:
         listed = [row for row in csv.DictReader(file) if row["redeemed"] == month]
-    denominations = [exact.DOLLARS[place % 8] for place in range(len(listed))]
-    bonds = [
-        f"A{place}EE,{dollars},{row['issued']},7,\n"
-        for place, (dollars, row) in enumerate(zip(denominations, listed), 1)
-    ]
-    done = ran("-", month, "--rates", rates, given=HEADER + "".join(bonds))
-    units = [int(row["unit_cents"]) for row in listed]
-    assert len(units) > 90
-    assert [int(row["payable"].replace(".", "")) for row in rows(done)] == [
-        dollars // 25 * cents for dollars, cents in zip(denominations, units)
-    ]
+    bonds, wanted = "", []
+    for place, row in enumerate(listed):
+        dollars = exact.DOLLARS[place % 8]
+        bonds += f"A{place + 1}EE,{dollars},{row['issued']},7,\n"
+        wanted.append(dollars // 25 * int(row["unit_cents"]))
+    done = ran("-", month, "--rates", rates, given=HEADER + bonds)
+    assert len(wanted) > 90
+    assert [int(row["payable"].replace(".", "")) for row in rows(done)] == wanted
 
 
 @pytest.mark.parametrize("month", ["2014-04", "2016-12"])
@@ -118,33 +111,6 @@ def test_published_values_find_a_wrong_rate(folder: Path) -> None:
     text = (DATA / "rates.csv").read_text().replace("2008-05,1.40", "2008-05,1.50")
     with pytest.raises(AssertionError):
         published("2016-12", written(folder / "rates.csv", text))
-
-
-def test_values_are_those_of_whole_numbers(folder: Path, dice: random.Random) -> None:
-    """Many bonds of any period, at any rates, in months from before their issue to after maturity."""
-    periods = [year * 100 + month for year in range(2005, 2035) for month in (5, 11)]
-    terms = {period: (dice.randrange(2001), dice.randrange(2001)) for period in periods}
-    bonds = [
-        (dice.choice(exact.DOLLARS), dice.randrange(2005 * 12 + 4, 2035 * 12 + 4))
-        for _ in range(3000)
-    ]
-    asked = exact.number_of(dice.randrange(2006 * 12, 2068 * 12))
-    rates = "".join(
-        f"{period // 100}-{period % 100:02},{rate / 100:.2f}%,{extension / 100:.2f}\n"
-        for period, (rate, extension) in terms.items()
-    )
-    lines, expected = [], []
-    for place, (dollars, count) in enumerate(bonds, 1):
-        issued = exact.number_of(count)
-        lines.append(f"B{place}EE,{dollars},{issued // 100}-{issued % 100:02},7,\n")
-        period = max(it for it in periods if it <= issued)
-        payable, price, interest, value, *_ = exact.row(dollars, issued, asked, *terms[period])
-        expected.append([price, interest, value, payable])
-    path = written(folder / "rates.csv", "from,rate,extension\n" + rates)
-    text = f"{asked // 100}-{asked % 100:02}"
-    done = ran("-", text, "--rates", path, given=HEADER + "".join(lines))
-    names = ("price", "interest", "value", "payable")
-    assert [[int(row[name].replace(".", "")) for name in names] for row in rows(done)] == expected
 
 
 #: A faulty row, and what is said of it.
@@ -209,10 +175,8 @@ def test_faulty_rates(folder: Path, text: str) -> None:
 def test_faulty_lists(folder: Path) -> None:
     missing = folder / "missing.csv"
     done = ran(missing, "2026-11", "--rates", RATES)
-    assert (done.returncode, done.stderr) == (
-        3,
-        f"ee-value: {missing}: No such file or directory\n",
-    )
+    said = f"ee-value: {missing}: No such file or directory\n"
+    assert (done.returncode, done.stderr) == (3, said)
     done = ran("-", "2026-11", "--rates", RATES, given="serial,denom\nL1EE,50\n")
     assert (done.returncode, done.stderr) == (3, "ee-value: -: row 1: there is no column issued\n")
     (folder / "bytes.csv").write_bytes(HEADER.encode() + b"\xff1EE,50,2010-05,7,\n")

@@ -37,9 +37,6 @@ def ran(*words: object, **more: Any) -> subprocess.CompletedProcess[str]:
     return subprocess.run(line, capture_output=True, text=True, timeout=900, **more)
 
 
-# ---- C and C++
-
-
 def compiled(folder: Path, *words: str) -> Path:
     done = ran(*words, *WARNINGS, f"-I{TOP / 'include'}", "-o", folder / "program")
     assert done.returncode == 0, done.stderr
@@ -66,11 +63,11 @@ WAYS: dict[str, list[str]] = {
 }
 
 
+COMPILERS = [pytest.param(name, marks=pytest.mark.needs(name)) for name in ("gcc", "clang")]
+
+
 @pytest.mark.parametrize("way", WAYS)
-@pytest.mark.parametrize(
-    "compiler",
-    [pytest.param(name, marks=pytest.mark.needs(name)) for name in ("gcc", "clang")],
-)
+@pytest.mark.parametrize("compiler", COMPILERS)
 def test_compiler(tmp_path: Path, compiler: str, way: str) -> None:
     if way == "C++":
         compiler = {"gcc": "g++", "clang": "clang++"}[compiler]
@@ -98,22 +95,17 @@ def test_compared_with_wrong_values(tmp_path: Path) -> None:
     program = compiled(tmp_path, "cc", *WAYS["optimized"])
     text, rates = PUBLISHED.read_text(), RATES.read_text()
     last, cents = text.rstrip().rsplit(",", 1)
-    for wrong, of_rates in (
-        (f"{last},{int(cents) + 1}\n", rates),
-        (text, rates.replace("3.20", "3.30")),
-    ):
+    more, other = f"{last},{int(cents) + 1}\n", rates.replace("3.20", "3.30")
+    for wrong, of_rates in ((more, rates), (text, other)):
         (tmp_path / "values.csv").write_text(wrong)
         (tmp_path / "rates.csv").write_text(of_rates)
         with pytest.raises(AssertionError, match="[1-9][0-9]* wrong"):
             compared(program, tmp_path / "values.csv", tmp_path / "rates.csv")
 
 
-# ---- short programs
-
-
 def test_example_in_C(tmp_path: Path) -> None:
     program = compiled(tmp_path, "cc", str(VALUE / "examples/bond.c"), STATIC)
-    assert ran(program).stdout == "51.00\n"
+    assert ran(program).stdout == "52.02\n"
 
 
 @pytest.mark.needs("cobc")
@@ -121,9 +113,9 @@ def test_example_in_COBOL(tmp_path: Path) -> None:
     program = tmp_path / "bondcob"
     done = ran("cobc", "-x", "-o", program, VALUE / "examples/bond.cob", STATIC)
     assert done.returncode == 0, done.stderr
-    assert ran(program, input="203011\n201104\n201313\n").stdout.splitlines() == [
-        "203011 pays         51.00 note 0 until 204005",
-        "201104 pays          0.00 note 2 until 204005",
+    assert ran(program, input="202611\n200610\n201313\n").stdout.splitlines() == [
+        "202611 pays         52.02 note 0 until 203511",
+        "200610 pays          0.00 note 2 until 203511",
         "201313 refused: the month is no month from 200505 to 219912",
     ]
 
@@ -131,10 +123,8 @@ def test_example_in_COBOL(tmp_path: Path) -> None:
 def inventory(dice: random.Random, count: int) -> tuple[str, list[int]]:
     """An inventory of random bonds; and what their prices, interest, values and payable values in July 2026 add up to."""
     with open(RATES, newline="") as file:
-        terms = [
-            (int(it["from"].replace("-", "")), int(it["rate"].replace(".", "")))
-            for it in csv.DictReader(file)
-        ]
+        listed = [(it["from"].replace("-", ""), it["rate"]) for it in csv.DictReader(file)]
+    terms = [(int(start), int(rate.replace(".", ""))) for start, rate in listed]
     text, sums = "serial,denom,issued,owner,coowner\n", [0] * 4
     for k in range(count):
         dollars = dice.choice(exact.DOLLARS)
@@ -143,10 +133,8 @@ def inventory(dice: random.Random, count: int) -> tuple[str, list[int]]:
         written = f"{year}-{month:02}" if k % 3 else f"{month:02}/{year}"
         text += f"A{k + 1}EE,{dollars},{written},{k % 9 + 1},\n"
         rate = [rate for start, rate in terms if start <= issued][-1]
-        sums = [
-            total + cents
-            for total, cents in zip(sums, exact.row(dollars, issued, 202607, rate, rate))
-        ]
+        row = exact.row(dollars, issued, 202607, rate, rate)
+        sums = [total + cents for total, cents in zip(sums, row)]
     payable, price, interest, value = sums
     return text, [price, interest, value, payable]
 
@@ -160,9 +148,6 @@ def test_example_of_an_inventory(tmp_path: Path, dice: random.Random) -> None:
     names = ("price", "interest", "value", "payable")
     wanted = [f"{name} {cents // 100}.{cents % 100:02}" for name, cents in zip(names, sums)]
     assert done.stdout.splitlines() == ["20000 bonds in 2026-07, 0 refused", *wanted], done.stderr
-
-
-# ---- the module
 
 
 @pytest.fixture(scope="module")
@@ -205,34 +190,29 @@ def test_published_values(module: Any) -> None:
         published_is(module, 1)
 
 
-def fields(module: Any, row: Any) -> tuple[int, ...]:
-    return tuple(getattr(row, name) for name, _ in module.ROW_FIELDS)
-
-
 def agrees(module: Any, questions: Sequence[Question]) -> None:
     """The library's four calls and the module's answer each question as the tests' own arithmetic does."""
     library, into = module._library, module._Row()
+    fields: Callable[[Any], Any] = lambda row: tuple(
+        getattr(row, name) for name, _ in module.ROW_FIELDS
+    )
     listed = (module._Row * len(questions))()
     asked = (module._Question * len(questions))(*(module._Question(*it) for it in questions))
     assert module.rows_into(asked, listed) == len(questions)
     for question, row in zip(questions, listed):
         wanted, cents = exact.row(*question), exact.cents(*question)
-        assert fields(module, library.ee_value_row(*question)) == wanted, question
+        assert fields(library.ee_value_row(*question)) == wanted, question
         assert library.ee_value_row_into(*question, ctypes.byref(into)) == wanted[4], question
-        assert fields(module, into) == fields(module, row) == wanted, question
-        assert (
-            library.ee_value_cents(*question) == cents == answer(module.cents, *question)
-        ), question
+        assert fields(into) == fields(row) == wanted, question
+        both = (library.ee_value_cents(*question), answer(module.cents, *question))
+        assert both == (cents, cents), question
 
 
 def asked(dice: random.Random, count: int) -> list[Question]:
-    """Random questions, of which a part is senseless."""
     return [exact.random_question(dice) for _ in range(count)]  # type: ignore[misc]
 
 
-def test_random_questions(
-    module: Any, dice: random.Random, monkeypatch: pytest.MonkeyPatch
-) -> None:
+def test_random_questions(module: Any, dice: random.Random, monkeypatch: Any) -> None:
     questions = asked(dice, 30_000)
     assert 1_000 < sum(exact.refusal(*it) != exact.DONE for it in questions) < 20_000
     agrees(module, questions)
@@ -286,9 +266,8 @@ def test_spellings(module: Any, month: Any, rate: Any) -> None:
 
 
 NO_RATES = [*("", "3.555", "3,5", "1_0", "-1", "\u0663", " 3.5", -1, 2001)]
-NO_RATES += map(
-    decimal.Decimal, ("NaN", "Infinity", "3.505", "20.01", "1e-40", "3." + 60 * "0" + "1")
-)
+MORE = ("NaN", "Infinity", "3.505", "20.01", "1e-40", "3." + 60 * "0" + "1")
+NO_RATES += map(decimal.Decimal, MORE)
 REFUSED: list[tuple[int, tuple[Any, ...]]] = [
     (exact.BAD_DENOMINATION, (-50, "2010-05", "2015-05", 350)),
     (exact.BAD_DENOMINATION, (2**32 + 50, "2010-05", "2015-05", 350)),
@@ -344,8 +323,6 @@ def test_arrays(module: Any) -> None:
         assert module.ROW.unpack_from(written, at) == wanted
 
 
-# ---- beside the program
-
 WORDS = ("denom", "issued", "month", "rate", "extension")
 
 
@@ -365,10 +342,8 @@ def is_same(module: Any, program: Path, question: Question) -> bool:
         fault = f"bad argument: {WORDS[-row - 1]}"
         return (done.returncode, done.stdout) == (2, "") and fault in done.stderr
     note = f" {row.note}" if row.note else ""
-    return (done.returncode, done.stdout) == (
-        0,
-        f"{module.dollars_and_cents(row.value_cents)}{note}\n",
-    )
+    wanted = f"{module.dollars_and_cents(row.value_cents)}{note}\n"
+    return (done.returncode, done.stdout) == (0, wanted)
 
 
 @pytest.mark.parametrize("count", [400, pytest.param(100_000, marks=pytest.mark.slow)])

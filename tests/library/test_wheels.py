@@ -127,9 +127,7 @@ def python(tmp_path_factory: pytest.TempPathFactory, wheel: Path) -> Path:
     return found
 
 
-ASKED = (
-    "import ee_value; print(ee_value.cents(50, '2010-05', '2015-05', '3.50'), ee_value.__file__)"
-)
+ASKED = "import ee_value as it; print(it.cents(50, '2010-05', '2015-05', '3.50'), it.__file__)"
 
 
 @BUILDING
@@ -155,15 +153,20 @@ paid: int = ee_value.cents(50, "2010-05", "2015-05", "3.50")
 """
 
 
+USES = [("", ""), ("paid: int", "paid: str"), ('"3.50"', "3.5")]
+
+
 @BUILDING
 @pytest.mark.needs("mypy", "module:venv")
-@pytest.mark.parametrize("old, new", [("", ""), ("paid: int", "paid: str"), ('"3.50"', "3.5")])
-def test_types(python: Path, tmp_path: Path, old: str, new: str) -> None:
-    """A program that uses the wheel is right by mypy --strict, and each wrong use of it is told."""
-    (tmp_path / "user.py").write_text(USER.replace(old, new) if old else USER)
+def test_types(python: Path, tmp_path: Path) -> None:
+    """A program that uses the wheel is right by mypy --strict, and each wrong use of it is named."""
+    names = [f"user{place}.py" for place in range(len(USES))]
+    for name, (old, new) in zip(names, USES):
+        (tmp_path / name).write_text(USER.replace(old, new) if old else USER)
     words = ("mypy", "--strict", "--config-file=", "--cache-dir", tmp_path / "cache")
-    found = ran(*words, "--python-executable", python, "user.py", cwd=tmp_path)
-    assert found.returncode == (1 if old else 0), found.stdout
+    found = ran(*words, "--python-executable", python, *names, cwd=tmp_path)
+    wrong = {line.partition(":")[0] for line in found.stdout.splitlines() if ": error:" in line}
+    assert wrong == set(names[1:]), found.stdout
 
 
 LIBRARIES = ["missing", "text", "libm", "aarch64"]
@@ -174,10 +177,9 @@ LIBRARIES = ["missing", "text", "libm", "aarch64"]
 @pytest.mark.parametrize("what", LIBRARIES)
 def test_no_library(python: Path, tmp_path: Path, what: str) -> None:
     """A library that isn't there, is none, is another one or another processor's is told in one sentence."""
-    path = {
-        "libm": Path("/lib/x86_64-linux-gnu/libm.so.6"),
-        "aarch64": VALUE / "out/aarch64/libee_value.so.1",
-    }.get(what, tmp_path / what)
+    paths = {"libm": Path("/lib/x86_64-linux-gnu/libm.so.6")}
+    paths["aarch64"] = VALUE / "out/aarch64/libee_value.so.1"
+    path = paths.get(what, tmp_path / what)
     (tmp_path / "text").write_text("no library\n")
     if what == "aarch64" and not path.exists():
         pytest.skip(f"needs {path.relative_to(TOP)} (clients/value/build aarch64 makes it)")

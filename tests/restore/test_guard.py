@@ -157,7 +157,7 @@ def test_full_disk(day: Day, small: Callable[[int], Path]) -> None:
     """Without that room the reason names the disk, and it is final."""
     small(40)
     ran = day.serve_guarded(day.archive)
-    assert ran.returncode == FINAL and "has no room for a copy" in ran.stderr, ran.stderr
+    assert ran.returncode == FINAL and "No space left on device" in ran.stderr, ran.stderr
 
 
 def test_no_log_beside(day: Day, served: Served) -> None:

@@ -84,6 +84,9 @@ class Machine:
         archiver = started(RESTORE / "archive", *words, stderr=subprocess.DEVNULL)
         self.processes = [serve(self.program, self.store, self.port), archiver]
         wait_for(self.port)
+        while not (self.archive / "requests.jsonl").exists():
+            assert archiver.poll() is None
+            time.sleep(0.1)
 
     def ask(self, message: bytes) -> Answer | None:
         """One answer, and its line in the log before the client has it."""

@@ -14,6 +14,7 @@ from typing import Callable, Iterator
 import archives
 import machine_files
 import pytest
+from tests.conftest import TOP
 from tests.restore.counter_day import RESTORE, Day, copied, entry_of, redemption, run, started
 from tests.shared.counter_calls import apply
 
@@ -308,9 +309,10 @@ def test_old_answer(day: Day) -> None:
         day.guard(day.archive, WITNESS=folder, WITNESS_WAIT="1").returncode == 3
         and time.time() - begun < 6
     )
-    toucher = subprocess.Popen(["sh", "-c", f"sleep 1; touch {folder}/end.json"])
-    assert day.guard(day.archive, WITNESS=folder, WITNESS_WAIT="15").returncode == 0
-    toucher.wait()
+    touch = f"while sleep 0.5; do touch {folder}/end.json; done"
+    with subprocess.Popen(["sh", "-c", touch]) as toucher:
+        assert day.guard(day.archive, WITNESS=folder, WITNESS_WAIT="15").returncode == 0
+        toucher.kill()
 
 
 def test_other_history(day: Day) -> None:
@@ -427,6 +429,26 @@ def test_machine_files_of_others(tmp_path: Path) -> None:
     with pytest.raises(OSError, match="no file of the counter"):
         machine_files.restore(str(tmp_path / "machine.tar"), str(tmp_path / "new"))
     assert not (tmp_path / "new").exists()
+
+
+@pytest.mark.needs("ssh-keygen")
+def test_new_host_key(tmp_path: Path) -> None:
+    """The page's step puts the machine's new key in place of the old one, and keeps all others."""
+    names = ("old", "new", "other")
+    for name in names:
+        run("ssh-keygen", "-q", "-t", "ed25519", "-N", "", "-C", name, "-f", tmp_path / name)
+    keys = {name: " ".join((tmp_path / f"{name}.pub").read_text().split()[:2]) for name in names}
+    known, scan = tmp_path / "known_hosts", tmp_path / "ssh-keyscan"
+    known.write_text(f"counter.bank.example {keys['old']}\nsecond.bank.example {keys['other']}\n")
+    scan.write_text(f"#!/bin/sh\necho \"$3 {keys['new']}\"\n")
+    scan.chmod(0o755)
+    block = (TOP / "samples/restore/README.md").read_text().split("```\n")[13]
+    block = block.replace("/etc/counter/known_hosts", str(known))
+    lines = "\n".join(block.splitlines()[1:])
+    ran = run("sh", "-ec", f"PATH={tmp_path}:$PATH; cd {tmp_path}; {lines}")
+    assert ran.returncode == 0 and "SHA256:" in ran.stdout, ran.stderr
+    left = known.read_text().splitlines()
+    assert left == [f"second.bank.example {keys['other']}", f"counter.bank.example {keys['new']}"]
 
 
 def test_archiver_keeps_the_machine(day: Day) -> None:

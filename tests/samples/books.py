@@ -1,12 +1,17 @@
 """A known store, and what the tests of samples/ do to stores."""
 
-from __future__ import annotations
-
+import os
+import re
 import shutil
+import signal
 import sqlite3
+import subprocess
+import time
 from pathlib import Path
-from typing import Any
+from typing import Any, Callable
 
+from tests.conftest import until
+from tests.restore.counter_day import Ran, run
 from tests.shared.counter_calls import BONDS, RATES, TABLES, post, redeem, rows
 
 #: A day that is closed, one that is open, three desks, a refused request, and a bond that is left.
@@ -26,12 +31,10 @@ LAST = redeem(3, 1, "2012-02-07", 9, "N5EE")
 
 
 def held(store: Path) -> dict[str, list[tuple[Any, ...]]]:
-    """All rows, in order of key."""
     return {table: rows(store, f"SELECT * FROM {table} ORDER BY 1, 2") for table in TABLES}
 
 
 def files_of(store: Path) -> dict[str, bytes]:
-    """A store's file, log and journal."""
     paths = [Path(f"{store}{end}") for end in ("", "-wal", "-journal")]
     return {path.name: path.read_bytes() for path in paths if path.exists()}
 
@@ -51,8 +54,29 @@ def changed(store: Path, copy: Path, *statements: str) -> Path:
     return copy
 
 
+def refused(
+    folder: Path, status: int, why: str, *command: object, left: tuple[str, ...] = ()
+) -> Ran:
+    """A command ends so, says why on its standard error, and leaves nothing but these in a folder."""
+    before = {path.name for path in folder.iterdir()}
+    ran = run(*command)
+    assert (ran.returncode, ran.stdout) == (status, ""), ran
+    assert re.search(why, ran.stderr) and "Traceback" not in ran.stderr, ran.stderr
+    assert {path.name for path in folder.iterdir()} == before | set(left)
+    return ran
+
+
+def stopped(command: list[object], is_at_work: Callable[[], bool], by: signal.Signals) -> int:
+    """The status of a command that gets a signal, with its children, while it is at work."""
+    process = subprocess.Popen(list(map(str, command)), stderr=-3, start_new_session=True)
+    until(is_at_work, "it doesn't come so far")
+    time.sleep(0.3)
+    assert process.poll() is None and is_at_work()
+    os.killpg(process.pid, by)
+    return process.wait()
+
+
 def script(path: Path, text: str) -> Path:
-    """A program, written here."""
     path.write_text(text)
     path.chmod(0o755)
     return path

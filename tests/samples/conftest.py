@@ -1,12 +1,10 @@
 """What the tests of samples/ share: a folder for a module, and file systems of their own."""
 
-from __future__ import annotations
-
 import os
 import subprocess
 import tempfile
 from pathlib import Path
-from typing import Iterator, Protocol
+from typing import Callable, Iterator
 
 import pytest
 
@@ -19,15 +17,13 @@ __all__ = ["machines", "mount", "place", "root"]
 
 @pytest.fixture(scope="module")
 def place() -> Iterator[Path]:
-    """A folder in memory for all tests of a module."""
     with tempfile.TemporaryDirectory(prefix="samples.", dir=MEMORY) as made:
         os.chmod(made, 0o755)
         yield Path(made)
 
 
-class Mount(Protocol):
-    def __call__(self, kind: str, name: str, *options: str, size: int = ...) -> Path:
-        ...
+#: Mounts a file system of a kind under a name, with options and `size=`.
+Mount = Callable[..., Path]
 
 
 @pytest.fixture(scope="module")

@@ -1,27 +1,13 @@
 """A store that is served, clients that redeem its bonds, and what a copy of it has to have."""
 
-from __future__ import annotations
-
 import json
 import shutil
 import time
 from pathlib import Path
 
 from tests.restore.counter_day import run
-from tests.shared.counter_calls import (
-    Answer,
-    Load,
-    Name,
-    apply,
-    ask,
-    beginning,
-    fault_of,
-    fault_of_books,
-    free_port,
-    rows,
-    serve,
-    wait_for,
-)
+from tests.shared.counter_calls import Answer, Load, Name, apply, ask, beginning, fault_of
+from tests.shared.counter_calls import fault_of_books, free_port, rows, serve, wait_for
 
 
 class Busy:

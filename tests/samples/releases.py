@@ -1,11 +1,8 @@
 """Releases that packaging/build makes of copies of the repository, with logs of the gate that are made up here: the toolchain isn't run."""
 
-from __future__ import annotations
-
 import hashlib
 import os
 import shutil
-import subprocess
 import sys
 from contextlib import contextmanager
 from pathlib import Path
@@ -13,6 +10,8 @@ from typing import Iterator, Mapping
 
 from tests.conftest import TOP
 from tests.restore.counter_day import Ran, run
+from tests.shared.counter_calls import matched
+from tests.shared.counter_calls import run as merged
 
 #: The toolchain's last line on a crate that was proved from nothing, and on one that was checked over kept work.
 VERDICT = "logic=proved functions=9 axioms=63 target=x86_64-unknown-linux-gnu cpu=x86-64-v2 sum=dac8208d650f15bf native=nat,char,string logic-built=trusted libraries-built=trusted statements=trusted"
@@ -57,10 +56,25 @@ def change(path: Path, old: str, new: str) -> None:
 
 
 def with_line(log: str, crate: str, line: str) -> str:
-    """The log with another last line on a crate."""
     head = f"crate {crate}: modules loaded=0 checked=230\n"
     assert head + VERDICT in log
     return log.replace(head + VERDICT, head + line)
+
+
+def make_key(home: Path, name: str, *more: object) -> None:
+    """A throwaway key in a keyring of its own."""
+    home.mkdir(mode=0o700, exist_ok=True)
+    made = ("--quick-generate-key", f"{name}@bank.example", "ed25519", "sign", "1d")
+    done("gpg", "--batch", "--quiet", *more, "--homedir", home, "--passphrase", "", *made)
+
+
+def fingerprint(home: Path) -> str:
+    listed = done("gpg", "--homedir", home, "--with-colons", "--list-keys")
+    return matched("(?m)^fpr:+([0-9A-F]{40}):", listed)[1]
+
+
+def end_keys(home: Path) -> None:
+    run("gpgconf", "--homedir", home, "--kill", "all")
 
 
 def library_in(folder: Path) -> Path:
@@ -92,7 +106,6 @@ class Tree:
         return done("git", "-C", self.path, *own, *words)
 
     def commit(self, message: str) -> str:
-        """The commit's name."""
         self.git("add", "--all")
         self.git("commit", "--quiet", "--message", message)
         return self.git("rev-parse", "HEAD").strip()
@@ -140,19 +153,16 @@ class Tree:
         lines += [f"{ok}; {ALL_ANEW}", f"{len(crates) + edits} passed, 0 failed", own]
         return "\n".join([*lines, f"packaging: program {sum_of(self.program)}\n"])
 
+    def printed_by_rt(self) -> str:
+        """What `rt ci --anew` prints, if all is proved."""
+        return "".join(self.gate_log().splitlines(keepends=True)[2:-3])
+
     def build(
         self, to: Path, *words: object, umask: int = 0o022, env: Mapping[str, str] = QUICKLY
     ) -> Ran:
-        """How packaging/build ended."""
-        named = {
-            **os.environ,
-            "SOURCE_DATE_EPOCH": "1700000000",
-            "TMPDIR": str(to.parent),
-            **env,
-        }
-        command = [str(self.path / "packaging/build"), "--to", str(to), *map(str, words)]
-        ran = subprocess.run(command, capture_output=True, text=True, env=named, umask=umask)
-        return subprocess.CompletedProcess(command, ran.returncode, ran.stdout + ran.stderr, "")
+        named = {**os.environ, "SOURCE_DATE_EPOCH": "1700000000", "TMPDIR": str(to.parent), **env}
+        command = map(str, (self.path / "packaging/build", "--to", to, *words))
+        return merged(*command, env=named, umask=umask)
 
     def refuses(self, to: Path, said: str, *words: object) -> None:
         """It ends with status 1, says why, and makes nothing."""
@@ -161,8 +171,6 @@ class Tree:
 
 
 class Packages:
-    """A folder of packages."""
-
     def __init__(self, folder: Path, ran: Ran) -> None:
         assert ran.returncode == 0, ran.stdout
         self.folder, self.debs = folder, sorted(folder.glob("*.deb"))

@@ -1,7 +1,5 @@
 """Reports of samples/audit/report: made by its command, or in this process."""
 
-from __future__ import annotations
-
 import json
 import tempfile
 from contextlib import closing
@@ -30,7 +28,6 @@ def made(store: Path, to: Path, *words: object) -> tuple[Ran, making.Report]:
 
 
 def reported(store: Path, asked: making.Asked) -> making.Report:
-    """The report of a store, made in this process."""
     with tempfile.TemporaryDirectory(dir=store.parent) as private:
         opened = reading.open_copy(*reading.copy_of(str(store), private))
         with closing(opened.base):

@@ -1,15 +1,12 @@
 """The report for auditors over stores by chance: it finds nothing in them, and each value that was changed (parts/changes.toml), whose row it names."""
 
-from __future__ import annotations
-
 import random
 import re
 import sqlite3
-import subprocess
 import tomllib
 from contextlib import closing
 from pathlib import Path
-from typing import Any
+from typing import Any, Callable
 
 import pytest
 from reporting import making, page, store as reading, texts
@@ -73,16 +70,11 @@ def by_chance(dice: random.Random, count: int) -> tuple[list[bytes], desk.Books]
     return messages, books
 
 
-# ---- what the queries add up
-
-
 def query(store: Path, name: str) -> list[list[str]]:
     """The cells of each row, without the heading."""
-    with open(AUDIT / f"{name}.sql") as file:
-        ran = subprocess.run(
-            ["sqlite3", "-readonly", store], stdin=file, capture_output=True, check=True
-        )
-    return [line.split() for line in ran.stdout.decode().splitlines()[2:]]
+    ran = run("sqlite3", "-readonly", store, input=(AUDIT / f"{name}.sql").read_text())
+    assert ran.returncode == 0, ran
+    return [line.split() for line in ran.stdout.splitlines()[2:]]
 
 
 def cents(money: str) -> int:
@@ -97,22 +89,16 @@ def has_the_sums_of_the_queries(store: Path, found: making.Report) -> None:
     days = []
     for one in period["days"]:
         ends = [one["total"], "yes"] if one["is_closed"] else ["open"]
-        days.append(
-            [one["day"], str(one["tickets"]), str(one["bonds"]), *[one["total"]] * 2, *ends]
-        )
+        counts = [str(one["tickets"]), str(one["bonds"])]
+        days.append([one["day"], *counts, *[one["total"]] * 2, *ends])
     assert query(store, "batches_against_tickets") == days
     paid = sum(cents(line[-2]) for line in query(store, "payments_by_payee_and_day"))
     assert paid == cents(period["sums"]["total"])
     unpaid, outlook = query(store, "unpaid_by_owner"), period["outlook"]
     bonds, price = (outlook["bonds"], outlook["price"]) if outlook else (0, "0.00")
-    assert (sum(int(line[3]) for line in unpaid), sum(cents(line[4]) for line in unpaid)) == (
-        bonds,
-        cents(price),
-    )
+    assert sum(int(line[3]) for line in unpaid) == bonds
+    assert sum(cents(line[4]) for line in unpaid) == cents(price)
     assert query(store, "replies_against_tables") == []
-
-
-# ---- changes
 
 
 def rows_of(base: sqlite3.Connection, table: str) -> dict[str, tuple[Any, ...]]:
@@ -125,9 +111,8 @@ def change(
 ) -> set[tuple[str, str]]:
     """Changes one value. The rows that may be named for it; none if the store has no such value."""
     with closing(sqlite3.connect(store)) as base:
-        base.create_function(
-            "month", 1, lambda count: spelling.month_text(count + spelling.FIRST_MONTH)
-        )
+        month: Callable[[int], str] = lambda n: spelling.month_text(n + spelling.FIRST_MONTH)
+        base.create_function("month", 1, month)
         base.create_function("day", 1, spelling.day_text)
         found = [row for row, in base.execute(f"SELECT rowid FROM {table} WHERE {where}")]
         if not found:
@@ -139,9 +124,8 @@ def change(
         after = rows_of(base, table)
         names = {name for name in {*before, *after} if before.get(name) != after.get(name)}
         assert names, "nothing was changed"
-        named = {(table, name) for name in names} | (
-            {("sqlite_schema", "all")} if table == "desk" else set()
-        )
+        named = {(table, name) for name in names}
+        named |= {("sqlite_schema", "all")} if table == "desk" else set()
         for act in [after[name][3] for name in names if table == "answers" and "act = " in setting]:
             # The bonds and rates that the act would register.
             named |= {("bonds", serial) for serial in re.findall(r'"serial":"(\w+)"', act)}

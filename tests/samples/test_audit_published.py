@@ -1,7 +1,5 @@
 """`samples/audit/report --published` compares each payment with Treasury's table (parts/sb201112.asc, of Debian's gbonds-data, in the public domain), and takes no other file."""
 
-from __future__ import annotations
-
 import csv
 import hashlib
 import random
@@ -30,7 +28,6 @@ Units = dict[tuple[str, str], int]
 
 
 def listed() -> Units:
-    """Of the list that the repository has."""
     with open(TOP / "crates/published_values/data/published-values.csv") as file:
         return {(r["redeemed"], r["issued"]): int(r["unit_cents"]) for r in csv.DictReader(file)}
 
@@ -60,7 +57,6 @@ def test_all_tables() -> None:
 
 
 def day_of(month: str) -> str:
-    """A weekday of a month."""
     return {"2012-01": "2012-01-03", "2012-04": "2012-04-02"}.get(month, f"{month}-01")
 
 
@@ -115,7 +111,6 @@ def test_nothing_differs(paid: Paid, tmp_path: Path) -> None:
 
 
 def changed_table(path: Path, redeemed: str, issued: str, cents: int) -> Path:
-    """The table with another value."""
     data = TABLE.read_bytes()
     line = data.index(f"N{redeemed.replace('-', '')}{issued[:4]}".encode())
     at = line + 11 + 6 * (int(issued[5:]) - 1)
@@ -134,19 +129,16 @@ def test_changed_value(paid: Paid, tmp_path: Path, nth: int) -> None:
     table = changed_table(tmp_path / "changed.asc", month, issued, cents)
     status, _, test = compared(paid.path, tmp_path / "to", table)
     hit = [one for one in paid.bonds[month] if one["issued"] == issued]
-    wanted = [
-        (paid.rows[one["serial"]], *(texts.money(one["denom"] // 25 * of) for of in (was, cents)))
-        for one in hit
-    ]
+    sums = [[texts.money(one["denom"] // 25 * of) for of in (was, cents)] for one in hit]
+    wanted = [(paid.rows[one["serial"]], *both) for one, both in zip(hit, sums)]
     found = [(row["row"], row["found"], row["wanted"]) for row in test["differences"]]
     assert status == 1 and sorted(found) == sorted(wanted) != []
 
 
 def test_changed_payment(paid: Paid, tmp_path: Path) -> None:
     statement = "UPDATE paid SET cents = cents + 1 WHERE ticket = 3 AND place = 2"
-    status, said, test = compared(
-        changed(paid.path, tmp_path / "cent.db", statement), tmp_path / "to", TABLE
-    )
+    store = changed(paid.path, tmp_path / "cent.db", statement)
+    status, said, test = compared(store, tmp_path / "to", TABLE)
     assert status == 1 and [row["row"] for row in test["differences"]] == ["ticket 3 place 2"]
     assert "published: paid, ticket 3 place 2" in said
 
@@ -155,16 +147,12 @@ def by_hand(units: dict[tuple[int, int], int]) -> str:
     """The lines of Series EE for February 2012: those values, and 99.99 for others that can be cashed."""
 
     def cell(year: int, month: int) -> str:
-        age = 12 * (2012 - year) + 2 - month
-        return (
-            " " * 6 if age < 0 else "NO PAY" if age < 12 else f"{units.get((year, month), 9999):06}"
-        )
+        age, value = 12 * (2012 - year) + 2 - month, units.get((year, month), 9999)
+        return " " * 6 if age < 0 else "NO PAY" if age < 12 else f"{value:06}"
 
-    lines = [
-        (year, "".join(cell(year, month) for month in range(1, 13)))
-        for year in range(2012, 1979, -1)
-    ]
-    return "".join(f"N201202{year}{cells}\n" for year, cells in lines)
+    years = range(2012, 1979, -1)
+    lines = ["".join(cell(year, month) for month in range(1, 13)) for year in years]
+    return "".join(f"N201202{year}{cells}\n" for year, cells in zip(years, lines))
 
 
 def test_table_by_hand(program: Path, tmp_path: Path) -> None:
@@ -186,8 +174,6 @@ def test_table_by_hand(program: Path, tmp_path: Path) -> None:
     assert [(row["found"], row["wanted"]) for row in test["differences"]] == [("25.16", "25.18")]
 
 
-# ---- no tables
-
 DATA = TABLE.read_bytes()
 LINES = DATA.split(b"\r\n")
 AT = next(place for place, line in enumerate(LINES) if line.startswith(b"N2012022010"))
@@ -195,7 +181,6 @@ LINE = LINES[AT]
 
 
 def with_lines(*lines: bytes) -> bytes:
-    """The table with these in the place of one line."""
     return b"\r\n".join([*LINES[:AT], *lines, *LINES[AT + 1 :]])
 
 

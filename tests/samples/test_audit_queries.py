@@ -1,8 +1,5 @@
 """The queries of samples/audit over a known day that is closed and one that is open, and over copies that were changed."""
 
-from __future__ import annotations
-
-import subprocess
 import tomllib
 from pathlib import Path
 
@@ -48,9 +45,8 @@ def store(program: Path, place: Path) -> Path:
 
 def query(store: Path, name: str, day: int = 20120206) -> str:
     """What a query prints, without the spaces at the ends of its lines."""
-    words = ["sqlite3", "-readonly", "-cmd", f".parameter set :day {day}", str(store)]
-    with open(AUDIT / f"{name}.sql") as text:
-        ran = subprocess.run(words, stdin=text, capture_output=True, text=True)
+    words = ("sqlite3", "-readonly", "-cmd", f".parameter set :day {day}", store)
+    ran = run(*words, input=(AUDIT / f"{name}.sql").read_text())
     assert ran.returncode == 0 and ran.stderr == "", ran
     return "".join(f"{line.rstrip()}\n" for line in ran.stdout.splitlines())
 

@@ -1,12 +1,9 @@
 """The report of samples/audit/report over known stores: its figures are those worked by hand, and it tells of each store what it should."""
 
-from __future__ import annotations
-
 import hashlib
 import json
 import shutil
 import sqlite3
-import subprocess
 import time
 import tomllib
 from contextlib import closing
@@ -109,25 +106,21 @@ def test_refused_stores(program: Path, day: Path, tmp_path: Path) -> None:
     (tmp_path / "other.txt").write_text("no store")
     for name in ("other.txt", "missing"):
         assert report(tmp_path / name, to).returncode == 3
-    strange = changed(
-        day, tmp_path / "strange.db", "DROP TABLE desk; CREATE TABLE desk (id INTEGER)"
-    )
+    other = "DROP TABLE desk; CREATE TABLE desk (id INTEGER)"
+    strange = changed(day, tmp_path / "strange.db", other)
     ran, found = made(strange, to)
     assert ran.returncode == 1 and "tables" in differing(found)
 
 
 def test_log_of_a_killed_server(program: Path, tmp_path: Path) -> None:
-    """The report reads what is in it."""
     store = tmp_path / "killed.db"
     apply(program, store, DAY[:3])
     with served(program, store) as port:
         message = redeem(1, 4, "2012-02-06", 7, "L1EE", "M3EE")
         assert ask(port, message.replace(b"\r\n", b"\r\nConnection: close\r\n", 1))
     ran, found = made(store, tmp_path / "to")
-    assert ran.returncode == 0 and [one["name"] for one in found["files"]] == [
-        "killed.db",
-        "killed.db-wal",
-    ]
+    names = [one["name"] for one in found["files"]]
+    assert ran.returncode == 0 and names == ["killed.db", "killed.db-wal"]
     assert figures_of(found)["sums"]["bonds"] == 2 and Path(f"{store}-wal").stat().st_size > 0
 
 
@@ -137,12 +130,8 @@ def test_empty_stores(program: Path, tmp_path: Path) -> None:
     run(program, "export", "7", "--db", store).check_returncode()
     ran, found = made(store, tmp_path / "to")
     period = figures_of(found)
-    assert (ran.returncode, found["differing"], period["days"], period["outlook"]) == (
-        0,
-        0,
-        [],
-        None,
-    )
+    assert (ran.returncode, found["differing"]) == (0, 0)
+    assert (period["days"], period["outlook"]) == ([], None)
     apply(program, store, DAY[:2])
     ran, found = made(store, tmp_path / "to", "--month", "2030-01")
     outlook = figures_of(found)["outlook"]
@@ -156,22 +145,14 @@ def test_limits(program: Path, tmp_path: Path) -> None:
     serials = [*(f"A{nth}EE" for nth in range(1, 1200)), "Z9999999999EE"]
     kind: dict[str, Any] = {"denom": 50, "issued": "2010-11", "owner": payee}
     bonds = [{"serial": serial, **kind} for serial in serials]
+    parts = {1: bonds[:501], 2: bonds[:500], 502: bonds[500:1000], 1002: bonds[1000:]}
     messages = [post("/rates", {"number": 2**63 - 1, "rates": RATES}, b"")]
-    messages += [post("/bonds", {"number": 1, "bonds": bonds[:501]}, b"")]
-    messages += [
-        post("/bonds", {"number": 2 + at, "bonds": bonds[at : at + 500]}, b"")
-        for at in (0, 500, 1000)
-    ]
+    messages += [post("/bonds", {"number": n, "bonds": part}, b"") for n, part in parts.items()]
     messages += [post("/day/open", {"desk": 999, "number": 1, "day": last}, b"")]
     messages += [redeem(1, nth, last, payee, serials[nth - 1]) for nth in range(1, 1000)]
-    messages += [
-        redeem(2, 1, last, payee, *serials[-101:]),
-        redeem(2, 2, last, payee, *serials[-100:]),
-    ]
-    messages += [
-        redeem(2, 3, last, payee, "A1000EE"),
-        post("/day/close", {"number": 9999, "day": last}, b""),
-    ]
+    ends = (serials[-101:], serials[-100:], ["A1000EE"])
+    messages += [redeem(2, nth, last, payee, *those) for nth, those in enumerate(ends, 1)]
+    messages += [post("/day/close", {"number": 9999, "day": last}, b"")]
     apply(program, store, messages)
     ran, found = made(store, tmp_path / "to")
     period = figures_of(found)
@@ -179,25 +160,15 @@ def test_limits(program: Path, tmp_path: Path) -> None:
     assert {one["code"]: one["requests"] for one in period["refusals"]} == {12: 2, 44: 1}
 
 
-# ---- announced rates
-
 ENTERED = [
     {"from": "2005-05", "rate": "3.50", "extension": "4.00"},
     {"from": "2010-05", "rate": "1.40"},
     {"from": "2010-11", "rate": "0.61"},
     {"from": "2099-05", "rate": "1.00"},
 ]
-NO_LISTS = [
-    "rate\n1.00",
-    "from,rate\n2010-5,1.00",
-    "from,rate\n2010-05,1.000",
-    "from,rate\n2010-05",
-]
-NO_LISTS += [
-    "from,rate,extension\n2010-05,1.00,x",
-    "from,rate\n2010-05,1.00\n05/2010,1.10",
-    "from,rate\n2010-05,20.01",
-]
+NO_LISTS = ["rate\n1.00", "from,rate,extension\n2010-05,1.00,x"]
+NO_LISTS += [f"from,rate\n{row}" for row in ("2010-5,1.00", "2010-05,1.000", "2010-05")]
+NO_LISTS += [f"from,rate\n{row}" for row in ("2010-05,1.00\n05/2010,1.10", "2010-05,20.01")]
 
 
 def test_announced_rates(program: Path, tmp_path: Path) -> None:
@@ -206,9 +177,8 @@ def test_announced_rates(program: Path, tmp_path: Path) -> None:
     apply(program, store, [post("/rates", {"number": 1, "rates": ENTERED}, b"")])
     ran, found = made(store, to, "--announced", AUDIT / "announced-rates.csv")
     periods = [("extensions", "2005-05"), ("rates", "2010-11"), ("rates", "2099-05")]
-    assert ran.returncode == 1 and differing(found) == {
-        "announced": [(*one, "rate") for one in periods]
-    }
+    assert ran.returncode == 1
+    assert differing(found) == {"announced": [(*one, "rate") for one in periods]}
     for case in DATA["lists"]:
         text, wanted = case["text"], case["differing"]
         listed.write_bytes(text.encode())
@@ -222,8 +192,6 @@ def test_announced_rates(program: Path, tmp_path: Path) -> None:
         ran = report(store, to, "--announced", listed)
         assert ran.returncode == 3 and "Traceback" not in ran.stderr, text
 
-
-# ---- a year's interest
 
 NEXT_YEAR = [
     post("/day/close", {"number": 6, "day": "2012-03-07"}, b""),
@@ -249,26 +217,20 @@ def test_interest(years: Path, tmp_path: Path, year: str) -> None:
         assert hashlib.sha256(table.encode()).hexdigest() in (tmp_path / name).read_text()
 
 
-@pytest.mark.parametrize(
-    "statement, is_of_interest",
-    [
-        ("UPDATE paid SET cents = cents + 1 WHERE ticket = 2", True),
-        ("UPDATE batches SET total = total - 1 WHERE total > 0", True),
-        # The sums of a year still agree then; other tests name the row.
-        ("UPDATE tickets SET payee = 9 WHERE ticket = 2", False),
-        ("UPDATE bonds SET denom = 100 WHERE ticket = 2", False),
-    ],
-)
-def test_changed_interest(
-    years: Path, tmp_path: Path, statement: str, is_of_interest: bool
-) -> None:
-    found = differing(
-        made(changed(years, tmp_path / "year.db", statement), tmp_path, "--year", "2012")[1]
-    )
-    assert ("interest" in found) == is_of_interest and len(found) > 1
+CHANGED = {
+    "UPDATE paid SET cents = cents + 1 WHERE ticket = 2": True,
+    "UPDATE batches SET total = total - 1 WHERE total > 0": True,
+    # The sums of a year still agree then; other tests name the row.
+    "UPDATE tickets SET payee = 9 WHERE ticket = 2": False,
+    "UPDATE bonds SET denom = 100 WHERE ticket = 2": False,
+}
 
 
-# ---- remarks, and the page
+@pytest.mark.parametrize("statement", CHANGED)
+def test_changed_interest(years: Path, tmp_path: Path, statement: str) -> None:
+    store = changed(years, tmp_path / "year.db", statement)
+    found = differing(made(store, tmp_path, "--year", "2012")[1])
+    assert ("interest" in found) == CHANGED[statement] and len(found) > 1
 
 
 @pytest.fixture(scope="module")
@@ -277,16 +239,11 @@ def remarkable(program: Path, place: Path) -> Path:
     store, letters = place / "remarks.db", "LKCRDMVX"
     rates = [{"from": "2010-11", "rate": "0.60"}, {"from": "2011-11", "rate": "0.60"}]
     denoms = zip((50, 75, 100, 200, 500, 1000, 5000, 10000), letters, strict=True)
-    bonds = [
-        {"serial": f"{letter}{denom}EE", "denom": denom, "issued": "2011-12", "owner": 7}
-        for denom, letter in denoms
-    ]
-    bonds += [{"serial": "M3EE", "denom": 10000, "issued": "2011-02", "owner": 7}]
-    bonds += [{"serial": "L9EE", "denom": 50, "issued": "2012-01", "owner": 7}]
-    messages = [
-        post("/rates", {"number": 1, "rates": rates}, b""),
-        post("/bonds", {"number": 2, "bonds": bonds}, b""),
-    ]
+    kinds = [(f"{letter}{denom}EE", denom, "2011-12") for denom, letter in denoms]
+    kinds += [("M3EE", 10000, "2011-02"), ("L9EE", 50, "2012-01")]
+    bonds = [{"serial": s, "denom": denom, "issued": of, "owner": 7} for s, denom, of in kinds]
+    messages = [post("/rates", {"number": 1, "rates": rates}, b"")]
+    messages += [post("/bonds", {"number": 2, "bonds": bonds}, b"")]
     for number, of_day in enumerate(("2025-11-27", "2026-11-28", "2026-11-30", "2031-06-01"), 10):
         messages.append(post("/day/open", {"desk": 1, "number": number, "day": of_day}, b""))
         messages.append(post("/day/close", {"desk": 2, "number": number, "day": of_day}, b""))
@@ -298,10 +255,10 @@ def test_remarks(remarkable: Path, tmp_path: Path) -> None:
     """None of them is a difference."""
     ran, found = made(remarkable, tmp_path, "--as-of", "2026-11-29")
     assert ran.returncode == 0 and found["as_of"] == "2026-11-29"
-    assert {
-        kind["name"]: [(one["row"], one["what"]) for one in kind["rows"]]
-        for kind in found["remarks"]
-    } == {
+    said = {
+        one["name"]: [(row["row"], row["what"]) for row in one["rows"]] for one in found["remarks"]
+    }
+    assert said == {
         "future": [("2026-11-30", "1 days later"), ("2031-06-01", "1645 days later")],
         "weekend": [("2026-11-28", "a Saturday"), ("2031-06-01", "a Sunday")],
         "jump": [("2031-06-01", "1644 days after 2026-11-30")],
@@ -359,13 +316,10 @@ def test_page_fits_the_window(day: Path, tmp_path: Path, width: int, style: str)
         driver.quit()
 
 
-# ---- a store's text on a terminal
-
 ESCAPES = "\x1b[2J\x1b[H19 tests of 804 rows: 0 differing\r\n\x07\x9b1A\u202e\x00"
 
 
 def is_plain(text: str) -> bool:
-    """Whether a text has only what is printed, and line ends."""
     return all(one.isprintable() or one == "\n" for one in text)
 
 
@@ -379,23 +333,18 @@ def test_hostile_texts(day: Path, tmp_path: Path, kind: str) -> None:
             base.execute(statement.replace("{}", ESCAPES[:-1]), given)
         base.commit()
     ran, _ = made(store, tmp_path / "to", "--year", "2012")
-    files = "".join(
-        (tmp_path / "to" / name).read_text()
-        for name in ("report.html", "report.json", "SHA256SUMS")
-    )
+    names = ("report.html", "report.json", "SHA256SUMS")
+    files = "".join((tmp_path / "to" / name).read_text() for name in names)
     assert ran.returncode == 1 and is_plain(ran.stdout + ran.stderr) and is_plain(files)
     assert kind == "a rate" or "x1b" in files or "u001b" in files, "they are shown as escapes"
-    with open(AUDIT / "replies_of_a_day.sql") as file:
-        words = ["sqlite3", "-readonly", "-cmd", ".parameter set :day 20120307", str(store)]
-        asked = subprocess.run(words, stdin=file, capture_output=True, text=True).stdout
+    query = (AUDIT / "replies_of_a_day.sql").read_text()
+    words = ("sqlite3", "-readonly", "-cmd", ".parameter set :day 20120307", store)
+    asked = run(*words, input=query).stdout
     assert is_plain(asked + run(AUDIT / "who_asked", store, "/dev/null").stdout)
     if kind == "a kept reply":
         unchanged: Callable[[str], str] = lambda value: value
         with mock.patch.object(making, "visible", unchanged):
             assert not is_plain(page.page(here(store), {})), "control: a page without escapes"
-
-
-# ---- forgeries
 
 
 @pytest.mark.parametrize("kind", DATA["forgeries"])

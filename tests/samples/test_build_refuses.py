@@ -1,7 +1,5 @@
 """packaging/build refuses a forged program and library, and each log of the gate that is no verdict on the program."""
 
-from __future__ import annotations
-
 import os
 import re
 import tomllib
@@ -11,16 +9,8 @@ from typing import Iterator
 import pytest
 
 from tests.samples.books import script
-from tests.samples.releases import (
-    KEPT,
-    PROGRAM,
-    PROOF,
-    VERDICT,
-    Packages,
-    Tree,
-    library_in,
-    without,
-)
+from tests.samples.releases import KEPT, PROGRAM, PROOF, VERDICT, Packages, Tree
+from tests.samples.releases import library_in, without
 
 pytestmark = pytest.mark.needs("dh", "fakeroot", "git", "cc")
 MAIN, OTHER = "crates/ee_cli/src/main.rt", "crates/ee_units/src/lib.rt"
@@ -49,9 +39,6 @@ def none(folder: Path) -> Path:
 
 def by_library(tree: Tree) -> tuple[object, ...]:
     return "--library", tree.library
-
-
-# ---- programs and libraries
 
 
 def test_no_program(tree: Tree, none: Path) -> None:
@@ -92,9 +79,6 @@ def test_forged_library(tree: Tree, folder: Path, none: Path) -> None:
         with open(out / "libee_value.a", "ab") as file:
             file.write(b"\n")
         tree.refuses(none, "the library of values isn't proved and built")
-
-
-# ---- logs
 
 
 LOGS = tomllib.loads((Path(__file__).parent / "parts/logs.toml").read_text())
@@ -160,7 +144,7 @@ def test_proved_by_a_stub(
     tree.build_library()
     (tree.path / PROGRAM).unlink()
     wanted = tree.gate_log()
-    (folder / "printed").write_text("".join(wanted.splitlines(keepends=True)[2:-3]))
+    (folder / "printed").write_text(tree.printed_by_rt())
     (folder / "stub").mkdir()
     fails = "" if is_right else 'echo "0 passed, 1 failed"; exit 1\n'
     says = f'[ "$*" = "ci --anew" ] || exit 2\n{fails}mkdir -p crates/ee_cli/out\n'

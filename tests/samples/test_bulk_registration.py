@@ -1,7 +1,5 @@
 """Registration in bulk by the client's command, as docs/BULK.md has it: each bond is entered once, and nothing else is taken for done."""
 
-from __future__ import annotations
-
 import csv
 import http.server
 import json
@@ -17,7 +15,8 @@ import pytest
 from ee_counter_client.testing import Gate
 
 from tests.conftest import TOP
-from tests.shared.counter_calls import RATES, apply, free_port, post, rows, serve, served, wait_for
+from tests.shared.counter_calls import RATES, apply, free_port, post, rows, run, serve, served
+from tests.shared.counter_calls import wait_for
 
 FIRST, LAST = 20260206001, 2**63 - 1
 HEADER = "serial,denom,issued,owner,coowner"
@@ -37,15 +36,12 @@ def make_file(path: Path, lines: list[str]) -> Path:
     return path
 
 
-def make_store(program: Path, path: Path) -> Path:
-    """A store with rates alone."""
-    assert apply(program, path, [post("/rates", {"number": 1, "rates": RATES}, b"")])[0][0] == 200
-    return path
-
-
 @pytest.fixture
 def store(program: Path, folder: Path) -> Path:
-    return make_store(program, folder / "day.db")
+    """A store with rates alone."""
+    path, rates = folder / "day.db", post("/rates", {"number": 1, "rates": RATES}, b"")
+    assert apply(program, path, [rates])[0][0] == 200
+    return path
 
 
 @pytest.fixture
@@ -54,10 +50,8 @@ def journal(folder: Path) -> Path:
 
 
 def make_journal(path: Path, number: int) -> Path:
-    """A journal of desk 3, whose next number is this one."""
-    path.write_text(
-        json.dumps({"desk": 3, "next": number, "open": None, "last": None, "bookmark": None})
-    )
+    nothing = {"open": None, "last": None, "bookmark": None}
+    path.write_text(json.dumps({"desk": 3, "next": number, **nothing}))
     return path
 
 
@@ -81,13 +75,7 @@ def started(journal: Path, port: int, file: Path) -> Iterator[subprocess.Popen[s
 
 def register(journal: Path, port: int, file: Path, *more: str) -> tuple[int, str]:
     """The status, and all that was printed."""
-    ran = subprocess.run(
-        words_for(journal, port, file, *more),
-        stdout=subprocess.PIPE,
-        stderr=subprocess.STDOUT,
-        text=True,
-        timeout=1800,
-    )
+    ran = run(*words_for(journal, port, file, *more), timeout=1800)
     return ran.returncode, ran.stdout
 
 
@@ -113,8 +101,6 @@ def fault_of(store: Path, file: Path, first: int = FIRST) -> str | None:
     return None if rows(store, "PRAGMA integrity_check") == [("ok",)] else "not whole"
 
 
-# ---- the file, in peace and under kills
-
 MANY = pytest.param(100_000, marks=pytest.mark.slow)
 
 
@@ -137,7 +123,6 @@ def test_in_peace(program: Path, store: Path, journal: Path, folder: Path, bonds
 
 
 def number_in(journal: Path) -> int:
-    """The next number of a journal: how far the client is."""
     return int(json.loads(journal.read_text())["next"])
 
 
@@ -155,10 +140,8 @@ def has_risen(journal: Path, count: int, ends: Callable[[], bool]) -> bool:
 @pytest.mark.parametrize("bonds", [20_000, MANY])
 def test_under_kills(program: Path, store: Path, journal: Path, folder: Path, bonds: int) -> None:
     """The server and the client are killed at different places of the file, each while requests are sent."""
-    file, port = (
-        make_file(folder / "bonds.csv", [line(n) for n in range(1, bonds + 1)]),
-        free_port(),
-    )
+    file = make_file(folder / "bonds.csv", [line(n) for n in range(1, bonds + 1)])
+    port = free_port()
     requests, kills, stops, is_over = bonds // 500, 0, 0, False
     server = serve(program, store, port)
     wait_for(port)
@@ -189,18 +172,13 @@ def test_under_kills(program: Path, store: Path, journal: Path, folder: Path, bo
 
 def test_control_one_number_for_all(program: Path, store: Path) -> None:
     """Of four requests under one number, as awk may print it for each above 2,147,483,647, one is entered."""
-    bonds = [
-        {"serial": f"A{n}EE", "denom": 50, "issued": "2010-11", "owner": 7} for n in range(1, 2001)
-    ]
+    named: dict[str, object] = {"desk": 3, "number": 2**31 - 1}
+    kind: dict[str, object] = {"denom": 50, "issued": "2010-11", "owner": 7}
+    bonds = [kind | {"serial": f"A{n}EE"} for n in range(1, 2001)]
     parts = [bonds[at : at + 500] for at in range(0, 2000, 500)]
-    sent = [
-        post("/bonds", {"desk": 3, "number": 2**31 - 1, "bonds": part}, b"") for part in parts
-    ]
+    sent = [post("/bonds", named | {"bonds": part}, b"") for part in parts]
     assert [status for status, _ in apply(program, store, sent)] == [200, 409, 409, 409]
     assert len(rows(store, ALL)) == 500
-
-
-# ---- what mustn't be taken for done
 
 
 def test_last_numbers(program: Path, store: Path, folder: Path) -> None:
@@ -253,19 +231,17 @@ def test_refused_row(program: Path, store: Path, journal: Path, folder: Path) ->
         assert status == 1 and '"refused":"SerialConflict"' in said and "line 4 of" in said, said
 
 
-@pytest.mark.parametrize(
-    "text, said",
-    [
-        ("serial,denom\n", f"row 1: the header isn't {HEADER}"),
-        (f"{HEADER}\nA1EE,50,2010-05,7\n", "row 2: it has 4 fields, and not 5"),
-        (f"{HEADER}\nA1EE,50,2010-05,7,\nA2EE,60,2010-05,7,\n", "row 3: '60' is no denomination"),
-        (f"{HEADER}\nA1EE,50,2010-13,7,\n", "row 2: '2010-13' is no month"),
-        (
-            f"{HEADER}\nA1EE,50,2010-05,7,\nA-1-EE,50,2010-05,7,\n",
-            "row 3: A1EE stands in row 2 already",
-        ),
-    ],
-)
+ROW = f"{HEADER}\nA1EE,50,2010-05,7,\n"
+UNREADABLE = [
+    ("serial,denom\n", f"row 1: the header isn't {HEADER}"),
+    (ROW.replace("7,", "7"), "row 2: it has 4 fields, and not 5"),
+    (f"{ROW}A2EE,60,2010-05,7,\n", "row 3: '60' is no denomination"),
+    (ROW.replace("-05", "-13"), "row 2: '2010-13' is no month"),
+    (f"{ROW}A-1-EE,50,2010-05,7,\n", "row 3: A1EE stands in row 2 already"),
+]
+
+
+@pytest.mark.parametrize("text, said", UNREADABLE)
 def test_unreadable_row(journal: Path, tmp_path: Path, text: str, said: str) -> None:
     """It is named before anything is sent."""
     (tmp_path / "bad.csv").write_text(text)
@@ -300,7 +276,6 @@ def web_server(answer: Callable[[str, bytes], str]) -> Iterator[int]:
 
 @pytest.mark.parametrize("body", ["<html>OK</html>", "", '{"status":"ok"}'])
 def test_web_server(journal: Path, tmp_path: Path, body: str) -> None:
-    """One that answers everything with 200 is no counter."""
     file = make_file(tmp_path / "bonds.csv", [line(n) for n in range(1, 1001)])
     with web_server(lambda *_: body) as port:
         status, said = register(journal, port, file)

@@ -1,7 +1,5 @@
 """Copies of a store by each tool of the table in docs/COPIES.md, and samples/copy_store. That it copies while clients redeem is in test_snapshots.py."""
 
-from __future__ import annotations
-
 import os
 import random
 import re
@@ -10,26 +8,27 @@ import signal
 import subprocess
 import time
 from pathlib import Path
-from typing import Any, Iterator, NamedTuple
+from typing import Any, Iterator
 
 import pytest
 
 from tests.conftest import TOP
 from tests.restore.counter_day import Ran, run
-from tests.samples.books import LAST, REQUESTS, STATUSES, files_of, forget, held, script
+from tests.samples.books import LAST, REQUESTS, STATUSES, files_of, forget, held, refused
+from tests.samples.books import script, stopped
 from tests.samples.conftest import Mount
 from tests.samples.load import Busy, copied
 from tests.shared.counter_calls import (
     Answer,
+    Name,
     answered,
     apply,
     free_port,
     replaced,
     rows,
     serve,
-    sql,
-    wait_for,
 )
+from tests.shared.counter_calls import sql, wait_for
 
 COPY_STORE, TAKE_OVER = TOP / "samples/copy_store", TOP / "samples/take_over"
 HEADING = "| Copy by | When | A new store | A store without checksums |"
@@ -38,7 +37,6 @@ pytestmark = pytest.mark.needs("sqlite3")
 
 
 def make_store(program: Path, path: Path, kind: str = "new") -> Path:
-    path.parent.mkdir(exist_ok=True)
     if kind != "new":
         sql(path, "PRAGMA page_size = 4096; VACUUM")
     assert [status for status, _ in apply(program, path, REQUESTS)] == STATUSES
@@ -48,32 +46,24 @@ def make_store(program: Path, path: Path, kind: str = "new") -> Path:
 
 @pytest.fixture(scope="module")
 def store(program: Path, place: Path) -> Path:
-    """A new store, which is only read."""
-    return make_store(program, place / "known" / "day.db")
+    return make_store(program, place / "day.db")
 
 
-class Found(NamedTuple):
-    """How the program ends over a copy of a file, the rows that are there then, and the replies to all requests again."""
-
-    fault: str | None
-    held: dict[str, list[tuple[Any, ...]]] | None = None
-    order: tuple[tuple[Any, ...], ...] = ()
-    replies: tuple[Answer, ...] = ()
+#: The order of the kept requests, all rows, and the replies to all requests again.
+Found = tuple[list[tuple[Any, ...]], dict[str, list[tuple[Any, ...]]], list[Answer]]
 
 
-def found(program: Path, path: Path) -> Found:
+def found(program: Path, path: Path) -> Found | str:
+    """What the program finds in a copy of a file, or how it ends."""
     copy = copied(path, path.parent / "found")
     try:
         ran = run(program, "export", "7", "--db", copy)
         if ran.returncode != 0:
-            return Found(ran.stderr.strip().removeprefix("store: "))
-        order = tuple(rows(copy, "SELECT desk, number FROM answers ORDER BY rowid"))
-        return Found(None, held(copy), order, tuple(apply(program, copy, [*REQUESTS, LAST])))
+            return ran.stderr.strip().removeprefix("store: ")
+        order = rows(copy, "SELECT desk, number FROM answers ORDER BY rowid")
+        return order, held(copy), apply(program, copy, [*REQUESTS, LAST])
     finally:
         shutil.rmtree(copy.parent)
-
-
-# ---- the table
 
 
 def table() -> list[list[str]]:
@@ -139,7 +129,7 @@ class Row:
                 assert process.returncode == 0, "it doesn't end after the counter stopped"
                 return said, True
 
-    def outcome(self, command: str, whole: Found) -> tuple[str, Path]:
+    def outcome(self, command: str, whole: Found | str) -> tuple[str, Path]:
         """What came of a command, in the words of the table, and the copy."""
         said, has_waited = self.run(command)
         copy = self.folder / "copy.db"
@@ -151,11 +141,11 @@ class Row:
             locked = "fails: `database is locked`" if "database is locked" in said else said
             return locked or "an empty file, without a word", copy
         of_copy = found(self.program, copy)
-        if of_copy.fault:
-            return f"`{of_copy.fault}`", copy
+        if isinstance(of_copy, str):
+            return f"`{of_copy}`", copy
         if of_copy == whole:
             return "opens", copy
-        assert set(of_copy.order) < set(whole.order)
+        assert set(of_copy[0]) < set(whole[0])
         return "opens, without what the log has", copy
 
     def remove(self) -> None:
@@ -191,9 +181,6 @@ def test_cell(program: Path, disk: Path, way: str, when: str, kind: str, wanted:
         row.remove()
 
 
-# ---- copies that are torn
-
-
 @pytest.fixture
 def busy(program: Path, folder: Path) -> Iterator[Busy]:
     made = Busy(program, folder / "day.db")
@@ -204,24 +191,22 @@ def busy(program: Path, folder: Path) -> Iterator[Busy]:
 def test_torn(busy: Busy, folder: Path) -> None:
     """The file, and the log after it was started anew: refused while the counter serves on, and open without a word after another command ran."""
 
-    def beside_the_log(file: Path) -> int | None:
-        pair = folder / "pair"
-        shutil.copy(file, pair)
+    def beside_the_log(file: Path) -> list[Name] | None:
+        pair = Path(shutil.copy(file, folder / "pair"))
         shutil.copy(f"{busy.path}-wal", f"{pair}-wal")
-        missing = busy.missing(pair, acknowledged)
-        return missing if missing is None else len(missing)
+        return busy.missing(pair, acknowledged)
 
     busy.redeem(60)
     acknowledged, before = dict(busy.load.replies), busy.header()
     file = Path(shutil.copy(busy.path, folder / "file"))
-    assert beside_the_log(busy.path) == 0, "control: file and log of one moment"
+    assert beside_the_log(busy.path) == [], "control: file and log of one moment"
     while busy.header() == before:
         assert len(busy.load.replies) < 2000
         busy.redeem(5)
     assert beside_the_log(file) is None
     busy.stop()
     assert run(busy.program, "export", "999", "--db", busy.path).returncode == 0
-    assert beside_the_log(file) == len(acknowledged) >= 60
+    assert len(beside_the_log(file) or ()) == len(acknowledged) >= 60
 
 
 def test_copies_at_a_stop(program: Path, folder: Path) -> None:
@@ -239,8 +224,6 @@ def test_copies_at_a_stop(program: Path, folder: Path) -> None:
         busy.is_right(copy, acknowledged)
     busy.stop()
 
-
-# ---- samples/copy_store
 
 BETWEEN = (
     '    for end in ("", "-wal"):\n        if os.path.exists(store + end):\n            name ='
@@ -279,17 +262,12 @@ def with_pauses(
 
 
 def test_started_anew(busy: Busy, folder: Path) -> None:
-    """If the log is started anew between the file and the log, the script copies again."""
+    """If the log is started anew between the file and the log, the script copies again. Control: without its test of the header the pair is torn."""
     busy.redeem(100)
     acknowledged = dict(busy.load.replies)
     ran, pauses = with_pauses(busy, folder / "again", False)
     assert (ran.returncode, pauses) == (0, 1), ran
     assert busy.missing(folder / "again" / "day.db", acknowledged) == []
-
-
-def test_control_without_the_test_of_the_header(busy: Busy, folder: Path) -> None:
-    """The pair is torn."""
-    busy.redeem(100)
     acknowledged = dict(busy.load.replies)
     ran, pauses = with_pauses(busy, folder / "torn", False, *UNCHECKED)
     assert pauses == 1
@@ -303,13 +281,7 @@ def test_always_started_anew(busy: Busy, folder: Path) -> None:
 
 
 def refuses(status: int, why: str, *words: object, left: tuple[str, ...] = ()) -> None:
-    """It ends with a sentence, and leaves nothing but these names."""
-    folder = Path(str(words[1])).parent
-    before = {path.name for path in folder.iterdir()}
-    ran = run(COPY_STORE, *words)
-    assert (ran.returncode, ran.stdout) == (status, ""), ran
-    assert why in ran.stderr and "Traceback" not in ran.stderr, ran.stderr
-    assert {path.name for path in folder.iterdir()} == before | set(left)
+    refused(Path(str(words[1])).parent, status, why, COPY_STORE, *words, left=left)
 
 
 def test_refused_once(busy: Busy, store: Path, folder: Path) -> None:
@@ -362,21 +334,10 @@ def test_stopped(
     program: Path, store: Path, tmp_path: Path, by: signal.Signals, left: list[str]
 ) -> None:
     """Whatever ends the script while the program opens the copy, nothing is left that looks like a copy."""
-    waits, copy = (
-        script(tmp_path / "waits", "#!/bin/sh\nexec sleep 600\n"),
-        tmp_path / "to" / "copy",
-    )
+    waits = script(tmp_path / "waits", "#!/bin/sh\nexec sleep 600\n")
+    copy, opened = tmp_path / "to/copy", tmp_path / "to/copy.part/opened/day.db"
     copy.parent.mkdir()
-    words = [COPY_STORE, store, copy, waits]
-    process = subprocess.Popen(words, stderr=subprocess.DEVNULL, start_new_session=True)
-    for _ in range(600):
-        if (copy.parent / "copy.part/opened/day.db").exists():
-            break
-        time.sleep(0.05)
-    time.sleep(0.3)
-    assert process.poll() is None and (copy.parent / "copy.part/opened/day.db").exists()
-    os.killpg(process.pid, by)
-    status = process.wait()
+    status = stopped([COPY_STORE, store, copy, waits], opened.exists, by)
     assert os.listdir(copy.parent) == left and status == (-9 if left else 3)
     if left:
         refuses(2, "copy.part exists", store, copy, program)
@@ -397,9 +358,6 @@ def test_whole_copy(program: Path, store: Path, tmp_path: Path) -> None:
     assert subprocess.run(check, cwd=copy).returncode == 1, "control: a changed byte"
 
 
-# ---- what opening finds
-
-
 @pytest.mark.parametrize("kind", KINDS)
 def test_turned_bits(program: Path, folder: Path, dice: random.Random, kind: str) -> None:
     """Opening finds each turned bit of a store with checksums. Control: without them some change a row without a word."""
@@ -409,11 +367,8 @@ def test_turned_bits(program: Path, folder: Path, dice: random.Random, kind: str
     busy.redeem(1000)
     busy.stop()
     assert run(program, "export", "999", "--db", busy.path).returncode == 0
-    whole, data, counts = (
-        held(busy.path),
-        busy.path.read_bytes(),
-        {"found": 0, "same": 0, "changed": 0},
-    )
+    whole, data = held(busy.path), busy.path.read_bytes()
+    counts = {"found": 0, "same": 0, "changed": 0}
     for _ in range(200):
         bit, turned = dice.randrange(len(data) * 8), bytearray(data)
         turned[bit // 8] ^= 1 << bit % 8

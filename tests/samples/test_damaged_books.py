@@ -2,8 +2,6 @@
 
 parts/damage.toml has the store and 100 kinds of damage. Each is done to a copy, and the checksums of all pages are made right again, as whoever damages a store can."""
 
-from __future__ import annotations
-
 import hashlib
 import json
 import shutil
@@ -12,9 +10,10 @@ import struct
 import sys
 import tomllib
 from collections import Counter
-from contextlib import closing
+from contextlib import closing, contextmanager
 from pathlib import Path
-from typing import Any, Callable
+from typing import Any, Callable, Iterator
+from unittest import mock
 
 import pytest
 from reporting import archive, digests, making, replay, texts
@@ -54,8 +53,6 @@ def messages(requests: list[Request]) -> list[bytes]:
 
 
 def change(requests: list[Request], how: str, *given: Any) -> None:
-    """One change, as parts/damage.toml writes it."""
-
     def replace(old: str, new: str, at: range) -> None:
         assert any(old in requests[place][1] for place in at), old
         for place in at:
@@ -70,11 +67,11 @@ def change(requests: list[Request], how: str, *given: Any) -> None:
         rows_of_it = range(given[2] - 1, given[2]) if len(given) > 2 else range(len(requests))
         replace(given[0], given[1], rows_of_it)
     elif how == "pay":
-        paid = [place for place, (route, _) in enumerate(requests) if route == "/redeem"]
-        for old, new in ((given[0], "-"), (given[1], given[0]), ("-", given[1])):
-            for place in paid:
-                route, body = requests[place]
-                requests[place] = route, body.replace(f'"{old}"', f'"{new}"')
+        first, second = (f'"{serial}"' for serial in given)
+        for place, (route, body) in enumerate(requests):
+            if route == "/redeem":
+                parts = [part.replace(second, first) for part in body.split(first)]
+                requests[place] = route, second.join(parts)
     elif how == "desks":
         keys = [key_of(row) for row in given]
         for row, old, new in zip(given, keys, reversed(keys)):
@@ -119,7 +116,6 @@ def write_unused(path: Path) -> None:
 
 
 def rewrite(path: Path, changes: list[list[Any]], tables: tuple[str, ...]) -> None:
-    """The rows that other requests would have made, in these tables."""
     requests = history()
     for one in changes:
         change(requests, *one)
@@ -136,9 +132,8 @@ class Case:
 
     def __init__(self, program: Path, folder: Path) -> None:
         self.program, self.folder, self.store = program, folder, folder / "day.db"
-        self.archive, self.late, self.earlier = (
-            folder / name for name in ("archive", "late", "earlier")
-        )
+        self.archive, self.late = folder / "archive", folder / "late"
+        self.earlier = folder / "earlier"
         requests = messages(history())
         run(program, "export", "11", "--db", self.store).check_returncode()
         self.keep(self.archive)
@@ -182,9 +177,7 @@ class Case:
         with_checksums(path)
         names = set(differing(self.reported(path)))
         assert not names & {"file", "checksums"}
-        letters = {COMPARED.get(name, "r") for name in names} | (
-            {"o"} if self.refuses(path) else set()
-        )
+        letters = [COMPARED.get(name, "r") for name in names] + ["o"] * self.refuses(path)
         return "".join(letter for letter in "orae" if letter in letters)
 
     def refuses(self, path: Path) -> bool:
@@ -228,43 +221,28 @@ def test_control_wrong_checksums(case: Case, folder: Path) -> None:
     assert "checksums" in differing(case.reported(path)) and case.refuses(path)
 
 
-@pytest.mark.parametrize(
-    "module, function, name, left",
-    [
-        (archive, "compare_requests", "a serial number of a refused request", ""),
-        (digests, "earlier_digests_are_there", "the days since 2025 are undone", "a"),
-        (replay, "compare_bonds", "the owner of an unpaid bond", ""),
-    ],
-)
+COMPARISONS = [
+    (archive, "compare_requests", "a serial number of a refused request", ""),
+    (digests, "earlier_digests_are_there", "the days since 2025 are undone", "a"),
+    (replay, "compare_bonds", "the owner of an unpaid bond", ""),
+]
+
+
+@pytest.mark.parametrize("module, function, name, left", COMPARISONS)
 def test_control_without_a_comparison(
-    case: Case,
-    folder: Path,
-    monkeypatch: pytest.MonkeyPatch,
-    module: object,
-    function: str,
-    name: str,
-    left: str,
+    case: Case, folder: Path, module: object, function: str, name: str, left: str
 ) -> None:
-    """A comparison that compares nothing finds nothing."""
-    compare_nothing: Callable[..., None] = lambda *_: None
-    monkeypatch.setattr(module, function, compare_nothing)
-    assert case.found_by(KINDS[name], folder) == left != KINDS[name]["found_by"]
+    with mock.patch.object(module, function):
+        assert case.found_by(KINDS[name], folder) == left != KINDS[name]["found_by"]
 
 
 def test_later_row(case: Case, folder: Path) -> None:
-    """What the store has behind the end of the archive is a remark."""
     found = case.reported(case.damaged(KINDS["a refusal is put at the end"], folder))
     (archived,) = [test for test in found["tests"] if test["name"] == "archive"]
-    assert archived["remarks"][0].startswith(
-        "Row 53 of the store is behind the end of this archive"
-    )
-
-
-# ---- the command line
+    assert archived["remarks"][0].startswith("Row 53 of the store is behind the end of this arch")
 
 
 def audited(case: Case, to: Path, *more: object) -> Ran:
-    """What an auditor runs, with both archives."""
     archives = ("--archive", case.archive, "--archive", case.late)
     earlier = more or ("--earlier", case.earlier / "report.json")
     return run(REPORT, case.store, "--to", to, "--as-of", "2036-02-01", *archives, *earlier)
@@ -284,23 +262,12 @@ def test_whole_report(case: Case, tmp_path: Path) -> None:
     before, after = "0" * 64, 0
     for one in found["digests"]:
         part = [before, *(" ".join(map(str, line)) for line in lines[after : one["requests"]])]
-        before, after = (
-            hashlib.sha256("".join(f"{x}\n" for x in part).encode()).hexdigest(),
-            one["requests"],
-        )
+        before = hashlib.sha256("".join(f"{x}\n" for x in part).encode()).hexdigest()
+        after = one["requests"]
         assert one["sha256"] == before
-    days = [(one["day"], one["requests"]) for one in found["digests"]]
-    assert days == [
-        ("2011-03-07", 9),
-        ("2011-03-08", 15),
-        ("2012-11-05", 21),
-        ("2016-06-01", 23),
-        ("2016-06-02", 31),
-        ("2025-05-01", 35),
-        ("2026-11-27", 42),
-        ("2031-09-02", 47),
-        (None, 52),
-    ]
+    days = " ".join(f"{one['day']}:{one['requests']}" for one in found["digests"])
+    before_2020 = "2011-03-07:9 2011-03-08:15 2012-11-05:21 2016-06-01:23 2016-06-02:31"
+    assert days == f"{before_2020} 2025-05-01:35 2026-11-27:42 2031-09-02:47 None:52"
     ran = audited(case, tmp_path, "--earlier", case.store)
     assert ran.returncode == 3 and "Traceback" not in ran.stderr, "an earlier report that is none"
 
@@ -316,26 +283,29 @@ ARCHIVES: dict[str, tuple[Callable[[list[bytes]], list[bytes]], int, str]] = {
 }
 
 
+@contextmanager
+def changed_file(path: Path, data: bytes) -> Iterator[None]:
+    """A file with other bytes, or without any none."""
+    whole = path.read_bytes()
+    try:
+        path.write_bytes(data) if data else path.unlink()
+        yield
+    finally:
+        path.write_bytes(whole)
+
+
 @pytest.mark.parametrize("name", ARCHIVES)
 def test_changed_archive(case: Case, tmp_path: Path, name: str) -> None:
     alter, status, said = ARCHIVES[name]
     path = case.archive / "requests.jsonl"
-    whole = path.read_bytes()
-    lines = alter(whole.splitlines(keepends=True))
-    try:
-        path.write_bytes(b"".join(lines)) if lines else path.unlink()
+    lines = alter(path.read_bytes().splitlines(keepends=True))
+    with changed_file(path, b"".join(lines)):
         ran = audited(case, tmp_path)
-    finally:
-        path.write_bytes(whole)
     assert ran.returncode == status and said in ran.stdout + ran.stderr, ran
 
 
 def test_changed_first_copy(case: Case, tmp_path: Path) -> None:
     first = case.late / "first.db"
-    whole = first.read_bytes()
-    try:
-        first.write_bytes(whole[:-1] + b"?")
+    with changed_file(first, first.read_bytes()[:-1] + b"?"):
         ran = audited(case, tmp_path)
-    finally:
-        first.write_bytes(whole)
     assert ran.returncode == 1 and "first.db" in ran.stdout, ran

@@ -1,32 +1,19 @@
 """Four counters behind one nginx, which chooses a counter by the serial numbers of a request (parts/): each bond is in the books of one of them, and paid once over all. This nginx is no fence."""
 
-from __future__ import annotations
-
 import json
 import random
 import shutil
-import socket
 import subprocess
-import threading
-import time
 from collections import Counter
-from contextlib import contextmanager, suppress
+from contextlib import contextmanager
 from pathlib import Path
 from typing import Any, Iterator
 
 import pytest
 
-from tests.shared.counter_calls import (
-    KINDS,
-    RATES,
-    Answer,
-    answered,
-    free_port,
-    post,
-    rows,
-    serve,
-    wait_for,
-)
+from tests.conftest import at_once, is_listening, until
+from tests.shared.counter_calls import KINDS, RATES, Answer, answered, free_port, post, rows, serve
+from tests.shared.counter_calls import wait_for
 
 MODULE = "file:/usr/lib/nginx/modules/ngx_http_js_module.so"
 pytestmark = [pytest.mark.nginx, pytest.mark.needs(MODULE)]
@@ -65,10 +52,7 @@ class Bank:
         shutil.copy(HERE / "route.js", folder)
         words = ["nginx", "-c", f"{folder}/nginx.conf", "-e", f"{folder}/nginx.log"]
         self.processes.append(subprocess.Popen([*words, "-g", "daemon off;"]))
-        for _ in range(200):
-            with suppress(OSError), socket.create_connection(("127.0.0.1", self.port)):
-                break
-            time.sleep(0.05)
+        until(lambda: is_listening(self.port), "nginx doesn't listen")
         for part in range(PARTS):
             rates, opening = {"number": 1, "rates": RATES}, {"number": 2, "day": DAY}
             assert self.ask(f"/part/{part}/rates", rates)[0] == 200
@@ -78,7 +62,6 @@ class Bank:
         return answered(self.port, post(path, value, b"Host: bank\r\nConnection: close\r\n"))
 
     def end(self) -> None:
-        """Stops all. The stores are at rest then."""
         for process in self.processes:
             process.terminate()
             process.wait()
@@ -94,22 +77,15 @@ class Bank:
             answers[desk, n] = self.ask("/redeem", redemption(desk, n))
 
     def all_desks(self) -> Answers:
-        """All at once."""
         answers: Answers = {}
-        desks = range(1, DESKS + 1)
-        threads = [threading.Thread(target=self.day_of, args=(desk, answers)) for desk in desks]
-        for thread in threads:
-            thread.start()
-        for thread in threads:
-            thread.join()
+        at_once(lambda nth: self.day_of(nth + 1, answers), DESKS)
         assert len(answers) == DESKS * BONDS
         return answers
 
     def paid(self) -> tuple[Counter[int], int]:
         """How often each bond is paid over all stores, and the cents."""
-        paid = [
-            row for store in self.stores for row in rows(store, "SELECT number, cents FROM paid")
-        ]
+        asked = "SELECT number, cents FROM paid"
+        paid = [row for store in self.stores for row in rows(store, asked)]
         return Counter(n for n, _ in paid), sum(cents for _, cents in paid)
 
 

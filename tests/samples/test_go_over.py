@@ -1,8 +1,7 @@
 """samples/go_over carries terms and unpaid bonds into a new store, compares both, and leaves nothing if it can't."""
 
-from __future__ import annotations
-
 import random
+import re
 import shutil
 import signal
 import subprocess
@@ -14,9 +13,9 @@ from typing import Any, Iterator, NamedTuple
 
 import pytest
 
-from tests.conftest import TOP
-from tests.restore.counter_day import Ran, run
-from tests.samples.books import files_of, forget, script
+from tests.conftest import TOP, until
+from tests.restore.counter_day import Ran, run, started
+from tests.samples.books import files_of, forget, refused, script
 from tests.samples.conftest import Mount
 from tests.shared import exact
 from tests.shared.counter_calls import apply, get, post, redeem, replaced, rows, served
@@ -72,17 +71,13 @@ class Bond(NamedTuple):
 def many_bonds(count: int) -> list[Bond]:
     """1,700 bonds of customer 1, 501 of customer 2, 500 of customer 3, and a few of each other one."""
     dice, bonds = random.Random(66), []
-    months = [
-        m
-        for start in RATES
-        for m in (start, start + 1, start + 5 if start % 100 == 5 else start + 93)
-    ]
+    lasts = {start: start + 5 if start % 100 == 5 else start + 93 for start in RATES}
+    months = [month for start, last in lasts.items() for month in (start, start + 1, last)]
     for place in range(count):
         owner = 1 if place < 1700 else 2 if place < 2201 else 3 if place < 2701 else 4 + place // 5
         letter, coowner = dice.choice(list(FACES)), owner + 1_000_000 if place % 4 == 0 else None
-        bonds.append(
-            Bond(f"{letter}{place + 1}EE", FACES[letter], dice.choice(months), owner, coowner)
-        )
+        serial, month = f"{letter}{place + 1}EE", dice.choice(months)
+        bonds.append(Bond(serial, FACES[letter], month, owner, coowner))
     return bonds
 
 
@@ -123,30 +118,29 @@ class Old:
         assert {status for status, _ in apply(program, self.path, messages)} == {200}
         self.files = files_of(self.path)
 
-    def go(
+    def command(
         self, *words: object, old: object = None, program: object = None, by: Path = SCRIPT
-    ) -> Ran:
-        command = [sys.executable, by, old or self.path, self.new, program or self.program]
-        return run(*command, *words, "--month", MONTH)
+    ) -> list[object]:
+        files = (old or self.path, self.new, program or self.program)
+        return [sys.executable, by, *files, *words, "--month", MONTH]
+
+    def go(self, *words: object, **more: Any) -> Ran:
+        return run(*self.command(*words, **more))
 
     def names(self) -> set[str]:
         return {path.name for path in self.path.parent.iterdir()}
 
     def refuses(self, status: int, said: str, *words: object, **more: Any) -> None:
         """It ends so, and nothing is left."""
-        there = self.names()
-        ran = self.go(*words, **more)
-        assert (ran.returncode, ran.stdout) == (status, "") and said in ran.stderr, ran
-        assert self.names() == there and files_of(self.path) == self.files
+        command = self.command(*words, **more)
+        refused(self.path.parent, status, re.escape(said), *command)
+        assert files_of(self.path) == self.files
 
 
 @pytest.fixture(scope="module")
 def three(program: Path, place: Path) -> Old:
-    bonds = [
-        Bond("L1EE", 50, 201011, 7),
-        Bond("K2EE", 75, 200604, 7, 8),
-        Bond("X3EE", 10000, 200506, 7),
-    ]
+    bonds = [Bond("L1EE", 50, 201011, 7), Bond("K2EE", 75, 200604, 7, 8)]
+    bonds += [Bond("X3EE", 10000, 200506, 7)]
     return Old(program, place / "three", bonds, bonds[1:2])
 
 
@@ -173,9 +167,7 @@ def test_carried(old: Old, tmp_path: Path, extensions: dict[int, int]) -> None:
     ran = old.go(*words)
     others = ", ".join(map(text_of, extensions)) or "none"
     owners = list(dict.fromkeys(bond.owner for bond in unpaid))
-    dollars, periods = sum(bond.denom for bond in unpaid), {
-        period_of(bond.issued) for bond in unpaid
-    }
+    dollars, periods = sum(b.denom for b in unpaid), {period_of(b.issued) for b in unpaid}
     own: dict[int, int] = {}
     was, now = (money(sum(bond.value(by) for bond in unpaid)) for by in (own, extensions))
     count = len(old.paid)
@@ -191,9 +183,8 @@ def test_carried(old: Old, tmp_path: Path, extensions: dict[int, int]) -> None:
     counts = [rows(old.new, f"SELECT count(*) FROM {table}")[0][0] for table in tables]
     assert counts == [len(unpaid), 0, 0, len(RATES), len(extensions)]
     asked = owners[:: max(1, len(owners) // 200)]
-    sheets = apply(
-        old.program, old.new, [get(f"/inventory/{owner}/{MONTH}", b"") for owner in asked]
-    )
+    messages = [get(f"/inventory/{owner}/{MONTH}", b"") for owner in asked]
+    sheets = apply(old.program, old.new, messages)
     for owner, (status, sheet) in zip(asked, sheets, strict=True):
         cents = sum(bond.value(extensions) for bond in unpaid if bond.owner == owner)
         assert (status, sheet.splitlines()[-1].split()[-1]) == (200, money(cents)), owner
@@ -214,9 +205,8 @@ def test_carried(old: Old, tmp_path: Path, extensions: dict[int, int]) -> None:
 def test_refused_terms(
     old: Old, tmp_path: Path, rows_more: tuple[str, ...], without: str, said: str
 ) -> None:
-    old.refuses(
-        1, said, "--rates", rate_file(tmp_path / "terms.csv", {}, *rows_more, without=without)
-    )
+    file = rate_file(tmp_path / "terms.csv", {}, *rows_more, without=without)
+    old.refuses(1, said, "--rates", file)
 
 
 @pytest.mark.parametrize(
@@ -234,9 +224,8 @@ def test_refused_stores(old: Old, tmp_path: Path) -> None:
     damaged.write_bytes(damaged.read_bytes()[:3000] + b"\xff" + damaged.read_bytes()[3001:])
     old.refuses(1, "StoreFailed", old=damaged)
     opened = shutil.copy(old.path, tmp_path / "opened.db")
-    apply(
-        old.program, opened, [post("/day/open", {"desk": 9, "number": 1, "day": "2026-11-30"}, b"")]
-    )
+    opening = post("/day/open", {"desk": 9, "number": 1, "day": "2026-11-30"}, b"")
+    apply(old.program, opened, [opening])
     old.refuses(1, "2026-11-30 is open: close it first", old=opened)
     with served(old.program, shutil.copy(old.path, tmp_path / "served.db")):
         old.refuses(3, "is in use by another process", old=tmp_path / "served.db")
@@ -250,10 +239,8 @@ def test_exception_is_left_out(old: Old) -> None:
     assert ran.returncode == 0 and "left out: the bonds X3EE\n" in ran.stdout, ran
     assert rows(old.new, "SELECT letter FROM bonds") == [(12,)]
     bond = Bond("X3EE", 10000, 200506, 9).fields()
-    entered = apply(
-        old.program, old.new, [post("/bonds", {"desk": 5, "number": 1, "bonds": [bond]}, b"")]
-    )
-    assert entered == [(200, '{"new":1,"same":0}')]
+    asked = post("/bonds", {"desk": 5, "number": 1, "bonds": [bond]}, b"")
+    assert apply(old.program, old.new, [asked]) == [(200, '{"new":1,"same":0}')]
 
 
 @pytest.mark.parametrize("old", ["many"], indirect=True)
@@ -265,12 +252,7 @@ def test_killed(old: Old, dice: random.Random) -> None:
     forget(old.new)
     for nth in range(KILLS):
         how = signal.SIGKILL if nth % 2 else signal.SIGTERM
-        words: list[object] = [sys.executable, SCRIPT, old.path, old.new, old.program]
-        process = subprocess.Popen(
-            [*map(str, words), "--month", MONTH],
-            stdout=subprocess.DEVNULL,
-            stderr=subprocess.DEVNULL,
-        )
+        process = started(*old.command(), stdout=subprocess.DEVNULL, stderr=subprocess.DEVNULL)
         time.sleep(dice.random() * whole_run * 1.1)
         process.send_signal(how)
         process.wait()
@@ -279,9 +261,8 @@ def test_killed(old: Old, dice: random.Random) -> None:
         forget(old.new)
         left = old.names() - there
         ends["a hidden folder"] += bool(left)
-        assert all(name.startswith(".go_over-") for name in left) and (
-            how == signal.SIGKILL or not left
-        )
+        assert all(name.startswith(".go_over-") for name in left)
+        assert how == signal.SIGKILL or not left
         for name in left:
             remove_when_idle(old.path.parent / name)
         assert files_of(old.path) == old.files
@@ -291,10 +272,7 @@ def test_killed(old: Old, dice: random.Random) -> None:
 
 def remove_when_idle(folder: Path) -> None:
     """Removes what a killed script left, once the program that it had begun has ended too."""
-    for _ in range(600):
-        if run("pgrep", "-f", str(folder)).returncode != 0:
-            break
-        time.sleep(0.1)
+    until(lambda: run("pgrep", "-f", folder).returncode != 0, "it doesn't end")
     shutil.rmtree(folder)
 
 
@@ -365,8 +343,7 @@ def test_old_store_is_locked(old: Old, tmp_path: Path) -> None:
     """While the script works, no program opens the old store."""
     words = [str(old.program), "export", "7", "--db", str(old.path)]
     said = f"subprocess.run({words!r}, stderr=subprocess.PIPE, text=True).stderr"
-    program = fake(
-        old, tmp_path / "fake", f"open({str(tmp_path / 'tried')!r}, 'w').write({said})", "pass"
-    )
+    tried = f"open({str(tmp_path / 'tried')!r}, 'w').write({said})"
+    program = fake(old, tmp_path / "fake", tried, "pass")
     assert old.go(program=program).returncode == 0
     assert (tmp_path / "tried").read_text() == "store: StoreFailed\n"

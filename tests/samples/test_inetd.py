@@ -1,31 +1,18 @@
 """The lock of samples/inetd under inetd, with the sample's line and script."""
 
-from __future__ import annotations
-
 import os
 import pwd
 import subprocess
-import threading
 import time
 from pathlib import Path
 from typing import Iterator
 
 import pytest
 
-from tests.conftest import TOP
+from tests.conftest import TOP, at_once
 from tests.samples.books import script
-from tests.shared.counter_calls import (
-    Answer,
-    apply,
-    ask,
-    beginning,
-    bond,
-    day_text,
-    free_port,
-    get,
-    post,
-    replaced,
-)
+from tests.shared.counter_calls import Answer, apply, ask, beginning, bond, day_text, free_port, get
+from tests.shared.counter_calls import post, replaced
 
 pytestmark = pytest.mark.needs("inetd")
 SAMPLES = TOP / "samples/inetd"
@@ -45,30 +32,21 @@ class Inetd:
         assert guard in "".join(texts.values())
         mine = [("/var/lib/counter/", f"{folder}/"), ("/opt/counter/ee_cli", str(program))]
         script(folder / "apply", replaced(texts["apply"].replace(guard, ""), mine))
-        mine = [
-            ("8377", str(self.port)),
-            ("/opt/counter/", f"{folder}/"),
-            (" counter ", f" {user} "),
-        ]
+        mine = [("8377", str(self.port)), ("/opt/counter/", f"{folder}/")]
+        mine += [(" counter ", f" {user} ")]
         script(folder / "inetd.conf", replaced(texts["inetd.conf"].replace(guard, ""), mine))
         self.process = subprocess.Popen(["inetd", "-i", folder / "inetd.conf"])
         time.sleep(1)
 
     def together(self) -> list[Answer | None]:
         """What clients are answered that come together for one bond."""
-        answers: list[Answer | None] = []
         serials = [bond(0)["serial"]]
 
-        def client(nth: int) -> None:
+        def client(nth: int) -> Answer | None:
             value = {"desk": 1, "number": nth + 1, "day": day_text(0), "payee": 7}
-            answers.append(ask(self.port, post("/redeem", value | {"serials": serials})))
+            return ask(self.port, post("/redeem", value | {"serials": serials}))
 
-        threads = [threading.Thread(target=client, args=(nth,)) for nth in range(TOGETHER)]
-        for thread in threads:
-            thread.start()
-        for thread in threads:
-            thread.join()
-        return answers
+        return at_once(client, TOGETHER)
 
     def faults(self) -> str:
         return (self.folder / "faults").read_text()

@@ -1,7 +1,5 @@
 """The Debian packages as files: the same bytes twice, lintian, the lists of materials, the evidence, and a signed release. What a machine does with them is in tests/fence."""
 
-from __future__ import annotations
-
 import copy
 import json
 import os
@@ -17,17 +15,20 @@ from tests.conftest import TOP
 from tests.fence.conftest import blocks
 from tests.fence.fresh import bootstrap
 from tests.restore.counter_day import run
-from tests.samples.releases import Packages, Tree, change, library_in, sum_of
+from tests.samples.releases import Packages, Tree, change, end_keys, library_in, make_key, sum_of
+from tests.shared.counter_calls import matched
 
 pytestmark = pytest.mark.needs("dh", "fakeroot", "git", "cc")
 #: What the machine that builds may have otherwise, and the packages mustn't show.
 OTHERWISE = {"TZ": "Asia/Tokyo", "LC_ALL": "C", "HOME": "/nonexistent"}
 FIELDS = Path(__file__).parent / "parts/spdx_fields.json"
 Listed = dict[str, Any]
+Words = tuple[object, ...]
+Alter = Callable[[Listed], object]
 
 
 @pytest.fixture(scope="module")
-def words(program: Path, place: Path) -> tuple[object, ...]:
+def words(program: Path, place: Path) -> Words:
     return "--program", program, "--library", library_in(place / "library")
 
 
@@ -37,21 +38,18 @@ def tree(program: Path, place: Path) -> Tree:
 
 
 @pytest.fixture(scope="module")
-def packages(tree: Tree, place: Path, words: tuple[object, ...]) -> Packages:
+def packages(tree: Tree, place: Path, words: Words) -> Packages:
     """Compressed, as they are released."""
     return Packages(place / "packages", tree.build(place / "packages", *words, env={}))
 
 
 @pytest.mark.slow
-def test_same_bytes(
-    tree: Tree, packages: Packages, folder: Path, words: tuple[object, ...]
-) -> None:
+def test_same_bytes(tree: Tree, packages: Packages, folder: Path, words: Words) -> None:
     """Built twice: in a folder of another depth, with another umask, time zone, locale and home. Control: with a line more in a sample just the package that has it differs."""
     (folder / "a/deeper").mkdir(parents=True)
     other = Tree(tree.program, tree.library, folder / "a/deeper/folder")
-    again = Packages(
-        folder / "again", other.build(folder / "again", *words, umask=0o077, env=OTHERWISE)
-    )
+    ran = other.build(folder / "again", *words, umask=0o077, env=OTHERWISE)
+    again = Packages(folder / "again", ran)
     assert len(packages.debs) == 5 and packages.sums() == again.sums()
     for ending in (".spdx.json", ".cdx.json", "_evidence.txt"):
         assert packages.file(ending).read_bytes() == again.file(ending).read_bytes()
@@ -82,18 +80,10 @@ def test_overrides_have_reasons() -> None:
 
 def test_evidence(packages: Packages, program: Path) -> None:
     """It has the sum of the program and of each package, and names the toolchain and the axioms."""
-    said = packages.evidence()
-    for name, value in {**packages.sums(), "usr/bin/ee_cli": sum_of(program)}.items():
-        assert f"{value}  {name}" in said
-    for line in (
-        "rattle-kit-13f logic dac8208d650f15bf",
-        "50 of the 128 that `libc` declares",
-        "13 of the 22 that `os` declares",
-    ):
-        assert line in said
-
-
-# ---- the lists of materials
+    said, sums = packages.evidence(), {**packages.sums(), "usr/bin/ee_cli": sum_of(program)}
+    lines = ["rattle-kit-13f logic dac8208d650f15bf", "50 of the 128 that `libc` declares"]
+    lines += ["13 of the 22 that `os` declares", *(f"{sums[name]}  {name}" for name in sums)]
+    assert [line for line in lines if line not in said] == []
 
 
 @pytest.fixture(scope="module")
@@ -126,57 +116,51 @@ def test_spdx(spdx: Listed, packages: Packages) -> None:
     sums = {part["packageFileName"]: part["checksums"][0]["checksumValue"] for part in named}
     assert sums == packages.sums()
     names = [part["SPDXID"] for part in spdx["packages"]]
-    ends = {
-        end
-        for one in spdx["relationships"]
-        for end in (one["spdxElementId"], one["relatedSpdxElement"])
-    }
+    ends = {end for one in spdx["relationships"] for end in ends_of(one)}
     assert len(set(names)) == len(names) and ends == {*names, "SPDXRef-DOCUMENT"}
 
 
-def altered(listed: Listed, alter: Callable[[Listed], object]) -> Listed:
+def ends_of(relation: Listed) -> tuple[str, str]:
+    return relation["spdxElementId"], relation["relatedSpdxElement"]
+
+
+def altered(listed: Listed, alter: Alter) -> Listed:
     made = copy.deepcopy(listed)
     alter(made)
     return made
 
 
+WRONG_SPDX: list[Alter] = [
+    lambda made: made.pop("creationInfo"),
+    lambda made: made["relationships"][0].update(relationshipType="STANDS_ON"),
+    lambda made: made["packages"][0].update(checksums=[{"algorithm": "SHA256"}]),
+]
+
+
 @pytest.mark.needs("module:jsonschema")
-@pytest.mark.parametrize(
-    "alter",
-    [
-        lambda made: made.pop("creationInfo"),
-        lambda made: made["relationships"][0].update(relationshipType="STANDS_ON"),
-        lambda made: made["packages"][0].update(checksums=[{"algorithm": "SHA256"}]),
-    ],
-)
-def test_control_wrong_spdx(spdx: Listed, alter: Callable[[Listed], object]) -> None:
+@pytest.mark.parametrize("alter", WRONG_SPDX)
+def test_control_wrong_spdx(spdx: Listed, alter: Alter) -> None:
     assert faults_of(altered(spdx, alter), FIELDS)
 
 
-def sums_of(items: list[dict[str, str]] | None, name: str) -> list[str]:
-    return [item[name] for item in items or []]
+def parts_of(parts: list[Listed], version: str, sums: str, value: str) -> list[tuple[str, ...]]:
+    """The names, versions and sums of a list's parts."""
+    found = [(part, [one[value] for one in part.get(sums, ())]) for part in parts]
+    return sorted((part["name"], part[version], *those) for part, those in found)
 
 
 def test_cyclonedx_is_spdx(spdx: Listed, cyclonedx: Listed) -> None:
     """The same parts with their sums, and the same dependencies."""
     tools = [tool for tool in cyclonedx["metadata"]["tools"]["components"] if "version" in tool]
     parts = cyclonedx["components"] + tools
-    of_cyclonedx = [
-        (part["name"], part["version"], *sums_of(part.get("hashes"), "content")) for part in parts
-    ]
-    of_spdx = [
-        (part["name"], part["versionInfo"], *sums_of(part.get("checksums"), "checksumValue"))
-        for part in spdx["packages"]
-    ]
-    assert sorted(of_cyclonedx) == sorted(of_spdx) != []
-    needs = [
-        (one["ref"], needed) for one in cyclonedx["dependencies"] for needed in one["dependsOn"]
-    ]
+    of_cyclonedx = parts_of(parts, "version", "hashes", "content")
+    of_spdx = parts_of(spdx["packages"], "versionInfo", "checksums", "checksumValue")
+    assert of_cyclonedx == of_spdx != []
+    listed = cyclonedx["dependencies"]
+    needs = [(one["ref"], needed) for one in listed for needed in one["dependsOn"]]
     relations = [one for one in spdx["relationships"] if one["relationshipType"] != "BUILD_TOOL_OF"]
-    ends = [(one["spdxElementId"], one["relatedSpdxElement"]) for one in relations]
-    assert sorted(needs) == sorted(
-        (a.removeprefix("SPDXRef-"), b.removeprefix("SPDXRef-")) for a, b in ends
-    )
+    ends = [tuple(end.removeprefix("SPDXRef-") for end in ends_of(one)) for one in relations]
+    assert sorted(needs) == sorted(ends)
 
 
 #: Run on Debian 13: the strict schema of CycloneDX 1.6, each licence against SPDX's list, and each purl. What is wrong is printed.
@@ -235,7 +219,7 @@ def test_cyclonedx_validator(cyclonedx: Listed, validator: Path) -> None:
         return ran.stdout
 
     assert said(cyclonedx) == ""
-    wrong: list[Callable[[Listed], object]] = [
+    wrong: list[Alter] = [
         lambda made: made["components"][0].pop("name"),
         lambda made: made["components"][0].update(colour="red"),
         lambda made: made["components"][0]["hashes"][0].update(content="12"),
@@ -247,27 +231,12 @@ def test_cyclonedx_validator(cyclonedx: Listed, validator: Path) -> None:
         assert said(altered(cyclonedx, alter)) != "", nth
 
 
-# ---- a signed release
-
-
 @pytest.fixture
 def keyring(folder: Path) -> Iterator[dict[str, str]]:
     """An environment with a throwaway key."""
-    home = folder / "key"
-    home.mkdir(mode=0o700)
-    env = {**os.environ, "GNUPGHOME": str(home)}
-    make = (
-        "--passphrase",
-        "",
-        "--quick-generate-key",
-        "release@bank.example",
-        "ed25519",
-        "sign",
-        "1d",
-    )
-    run("gpg", "--batch", "--quiet", *make, env=env).check_returncode()
-    yield env
-    run("gpgconf", "--kill", "all", env=env)
+    make_key(folder / "key", "release")
+    yield {**os.environ, "GNUPGHOME": str(folder / "key")}
+    end_keys(folder / "key")
 
 
 @pytest.mark.needs("gpg")
@@ -275,17 +244,15 @@ def test_signed(packages: Packages, folder: Path, keyring: dict[str, str]) -> No
     """By the command of packaging/README.md, and checked by the commands of docs/INSTALL.md. Controls: a package with a byte more, and its sum put in."""
     release = folder / "release"
     shutil.copytree(packages.folder, release)
-    found = re.search(r"^(gpg --armor .*)$", (TOP / "packaging/README.md").read_text(), re.M)
-    assert found is not None
-    sign = found[1].replace("KEY", "release@bank.example")
+    page = (TOP / "packaging/README.md").read_text()
+    sign = matched("(?m)^gpg --armor .*$", page)[0].replace("KEY", "release@bank.example")
     assert run("sh", "-c", sign, cwd=release, env=keyring).returncode == 0
     named = blocks("INSTALL", "Check that it is the proved one")
     checks = next(block for block in named if "gpg --verify" in block).splitlines()
 
     def ends() -> list[bool]:
-        return [
-            run("sh", "-c", check, cwd=release, env=keyring).returncode == 0 for check in checks
-        ]
+        ran = [run("sh", "-c", check, cwd=release, env=keyring) for check in checks]
+        return [one.returncode == 0 for one in ran]
 
     assert ends() == [True, True]
     deb = release / packages.debs[0].name

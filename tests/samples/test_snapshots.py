@@ -1,7 +1,5 @@
 """Copies of a store while it is served: snapshots of btrfs, what samples/snapshots/snapshot_copy sends and keeps, and samples/copy_store on each file system."""
 
-from __future__ import annotations
-
 import os
 import random
 import shutil
@@ -9,13 +7,13 @@ import signal
 import subprocess
 import time
 from pathlib import Path
-from typing import Iterator
+from typing import Any, Iterator
 
 import pytest
 
 from tests.conftest import TOP
 from tests.restore.counter_day import Ran, run
-from tests.samples.books import forget, script
+from tests.samples.books import forget, script, stopped
 from tests.samples.conftest import Mount
 from tests.samples.load import Busy, copied
 from tests.shared.counter_calls import Name, replaced
@@ -30,31 +28,29 @@ class Disks:
     """A file system with the store's subvolume and the snapshots, and a second one for the copies."""
 
     def __init__(self, program: Path, mount: Mount) -> None:
-        self.program, books, self.copies = (
-            program,
-            mount("btrfs", "books"),
-            mount("btrfs", "copies"),
-        )
+        self.program, books = program, mount("btrfs", "books")
+        self.copies = mount("btrfs", "copies")
         self.store, self.snapshots = books / "store", books / "snapshots"
         subprocess.run(["btrfs", "-q", "subvolume", "create", self.store], check=True)
         self.snapshots.mkdir()
 
-    def copy(
-        self,
-        *before: object,
-        by: Path = SNAPSHOT_COPY,
-        to: Path | None = None,
-        program: object = None,
-    ) -> Ran:
+    def command(
+        self, by: Path = SNAPSHOT_COPY, to: Path | None = None, program: object = None
+    ) -> list[object]:
         """The sample, which keeps two copies."""
-        words = [self.store, self.snapshots, to or self.copies, "2", program or self.program]
-        return run(*before, by, *words)
+        return [by, self.store, self.snapshots, to or self.copies, "2", program or self.program]
+
+    def copy(self, *before: object, **more: Any) -> Ran:
+        return run(*before, *self.command(**more))
+
+    def opens(self) -> bool:
+        """Whether a copy is opened now."""
+        return any(name.startswith("opened-") for name in os.listdir(self.copies))
 
     def names(self) -> tuple[set[str], set[str]]:
         return set(os.listdir(self.snapshots)), set(os.listdir(self.copies))
 
     def kept(self) -> list[list[str]]:
-        """The snapshots and the copies, by their names."""
         return [sorted(name for name in names if name[0] == "2") for names in self.names()]
 
 
@@ -145,16 +141,7 @@ def test_killed_copies(busy: Busy, disks: Disks, folder: Path) -> None:
     """A stopped copy leaves nothing; a killed one nothing that has a copy's name, and the next one removes what it left."""
     waits, before = script(folder / "waits", "#!/bin/sh\nexec sleep 600\n"), disks.names()
     for by, wanted in ((signal.SIGTERM, []), (signal.SIGKILL, ["opened-", "part-", "part-"])):
-        words: list[str | Path] = [SNAPSHOT_COPY, disks.store, disks.snapshots, disks.copies]
-        process = subprocess.Popen([*words, "2", waits], start_new_session=True)
-        for _ in range(600):
-            if any(name.startswith("opened-") for name in os.listdir(disks.copies)):
-                break
-            time.sleep(0.05)
-        time.sleep(0.3)
-        assert process.poll() is None, "it opens the copy"
-        os.killpg(process.pid, by)
-        process.wait()
+        stopped(disks.command(program=waits), disks.opens, by)
         left = [now - then for now, then in zip(disks.names(), before)]
         assert sorted(name.split("2")[0] for names in left for name in names) == wanted
     assert disks.copy().returncode == 0

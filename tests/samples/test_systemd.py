@@ -1,31 +1,18 @@
 """The units of samples/systemd and samples/restore on a machine, set up by the commands of their pages, with the disks of samples/snapshots. That nobody takes the counter's place there is in tests/fence/test_units.py."""
 
-from __future__ import annotations
-
 import re
 import shutil
-import threading
 import time
 from pathlib import Path
 from typing import Iterator
 
 import pytest
 
-from tests.conftest import TOP
+from tests.conftest import TOP, at_once, until
 from tests.fence.conftest import Machine, MakeMachine
 from tests.samples.load import copied
-from tests.shared.counter_calls import (
-    Answer,
-    Load,
-    apply,
-    ask,
-    beginning,
-    bond,
-    day_text,
-    get,
-    post,
-    sql,
-)
+from tests.shared.counter_calls import Answer, Load, apply, ask, beginning, bond, day_text, get
+from tests.shared.counter_calls import post, sql
 
 pytestmark = [
     pytest.mark.root,
@@ -34,7 +21,7 @@ pytestmark = [
     pytest.mark.needs("mkfs.btrfs", "sqlite3", "file:/dev/loop-control"),
 ]
 STORE, BONDS = "/var/lib/counter/day.db", 6000
-UNITS = "/etc/systemd/system"
+UNITS, SOCKET = "/etc/systemd/system", "/run/counter-http.sock"
 
 
 def page(name: str, nth: int) -> str:
@@ -53,20 +40,13 @@ class Bank:
         machine.shell(page("systemd", 0))
         self.load = Load(self.ask, BONDS, 4)
 
-    def ask(
-        self, message: bytes, patience: float = 60, at: str = "/run/counter-http.sock"
-    ) -> Answer | None:
+    def ask(self, message: bytes, patience: float = 60, at: str = SOCKET) -> Answer | None:
         """The answer over the counter's socket, as root."""
         return ask(self.machine.path(at), message, patience)
 
     def wait_until_served(self) -> None:
-        for _ in range(600):
-            if self.ask(get("/ticket/1")) is not None:
-                return
-            time.sleep(0.1)
-        raise AssertionError(
-            self.machine.on("systemctl", "status", "--no-pager", "counter.service").stdout
-        )
+        status = ("systemctl", "status", "--no-pager", "counter.service")
+        until(lambda: self.ask(get("/ticket/1")), lambda: self.machine.on(*status).stdout)
 
     def is_active(self, unit: str = "counter.service", seconds: int = 60) -> bool:
         return self.machine.wait(unit, "ActiveState", "active", seconds)
@@ -82,13 +62,9 @@ class Bank:
     def ends_for_good(self, said: str) -> None:
         """The unit is started, fails with a final status, isn't started again, and somebody is called with the reason."""
         m = self.machine
-        m.shell(
-            "journalctl --rotate; journalctl --vacuum-time=1s; systemctl reset-failed counter.service"
-        )
+        m.shell("journalctl --rotate; journalctl --vacuum-time=1s; systemctl reset-failed")
         m.on("systemctl", "start", "--no-block", "counter.service")
-        assert m.wait("counter.service", "ActiveState", "failed", 60), self.journal(
-            "-u", "counter.service"
-        )
+        assert m.wait("counter.service", "ActiveState", "failed", 60)
         restarts = m.shown("counter.service", "NRestarts")
         time.sleep(4)
         names = ("ActiveState", "ExecMainStatus", "NRestarts")
@@ -141,9 +117,7 @@ def test_first_day(begun: Bank) -> None:
     enabled = m.on("systemctl", "is-enabled", "counter.service", "counter-copy.timer")
     assert enabled.stdout.split() == ["enabled", "enabled"]
     process = m.shown("counter.service", "MainPID")
-    state = m.on(
-        "grep", "-E", "^(NoNewPrivs|Seccomp|CapBnd|CapEff):", f"/proc/{process}/status"
-    ).stdout
+    state = m.shell(f"grep -E '^(NoNewPrivs|Seccomp|CapBnd|CapEff):' /proc/{process}/status")
     found = dict(line.split(":\t") for line in state.splitlines())
     assert found == {"CapEff": "0" * 16, "CapBnd": "0" * 16, "NoNewPrivs": "1", "Seccomp": "2"}
     assert m.shell("stat -c '%U %a' /var/lib/counter").strip() == "counter 700"
@@ -156,31 +130,24 @@ def test_without_a_store(begun: Bank) -> None:
     m.shell(f"systemctl stop counter.service; mkdir kept; mv {STORE}* kept/")
     begun.ends_for_good(f"{STORE} is missing")
     assert "day.db" not in m.shell("ls /var/lib/counter")
-    m.shell(
-        "mv kept/* /var/lib/counter/; rmdir kept; systemctl reset-failed; systemctl start counter.service"
-    )
+    m.shell("mv kept/* /var/lib/counter/; rmdir kept; systemctl reset-failed")
+    m.shell("systemctl start counter.service")
 
 
 def test_killed_and_copied(bank: Bank) -> None:
     """Killed while clients redeem, it answers again; the copy's unit copies; and each request has its reply."""
-    m, times = bank.machine, []
+    m = bank.machine
     bank.load.start()
     for turn in range(8):
         time.sleep(0.5)
         before = m.shown("counter.service", "MainPID")
         m.on("systemctl", "kill", f"--signal={'KILL' if turn % 2 else 'TERM'}", "counter.service")
-        begun = time.time()
-        while bank.ask(get("/ticket/1"), 1) is None or m.shown("counter.service", "MainPID") in (
-            before,
-            "0",
-        ):
-            assert time.time() < begun + 60
-            time.sleep(0.02)
-        times.append(time.time() - begun)
+        until(lambda: m.shown("counter.service", "MainPID") not in (before, "0"))
+        until(lambda: bank.ask(get("/ticket/1"), 1))
     for _ in range(2):
         m.shell("systemctl start counter-copy.service")
     bank.load.stop()
-    assert int(m.shell("ls -d /srv/copies/2* | wc -l")) == 2 and len(times) == 8
+    assert int(m.shell("ls -d /srv/copies/2* | wc -l")) == 2
     bank.gives_all_replies_again()
 
 
@@ -217,9 +184,8 @@ def other(bank: Bank) -> Iterator[Machine]:
     m.shell("systemctl stop counter.service counter-archive.service; mkdir good")
     m.shell(f"mv {STORE}* good/; mv {drop_ins}/archives.conf /root/; systemctl daemon-reload")
     yield m
-    m.shell(
-        f"systemctl stop counter.service; rm -f {STORE}*; mv good/day.db* /var/lib/counter/; rmdir good"
-    )
+    m.shell(f"systemctl stop counter.service; rm -f {STORE}*")
+    m.shell("mv good/day.db* /var/lib/counter/; rmdir good")
     m.shell(f"mv /root/archives.conf {drop_ins}/; systemctl daemon-reload; systemctl reset-failed")
     m.shell("systemctl start counter-archive.service counter.service")
     bank.gives_all_replies_again()
@@ -263,17 +229,14 @@ def test_control_without_the_guard(bank: Bank, other: Machine, program: Path, fo
 
 def test_store_in_use(bank: Bank, other: Machine) -> None:
     """It is tried again after growing pauses, and served without a hand once it can be."""
-    other.shell(
-        "cp -p good/day.db good/day.db-wal /var/lib/counter/; systemctl reset-failed counter.service"
-    )
-    other.shell(
-        f"systemd-run -q --unit other -p User=counter /opt/counter/ee_cli serve --db {STORE} --port 9999"
-    )
+    other.shell("cp -p good/day.db* /var/lib/counter/; systemctl reset-failed counter.service")
+    serves = f"/opt/counter/ee_cli serve --db {STORE} --port 9999"
+    other.shell(f"systemd-run -q --unit other -p User=counter {serves}")
     time.sleep(3)
     other.on("systemctl", "start", "--no-block", "counter.service")
     starts: list[float] = []
-    until = time.time() + 60
-    while time.time() < until and len(starts) < 5:
+    end = time.time() + 60
+    while time.time() < end and len(starts) < 5:
         at = int(other.shown("counter.service", "ExecMainStartTimestampMonotonic")) / 1e6
         if at and at not in starts:
             starts.append(at)
@@ -292,12 +255,11 @@ def test_store_in_use(bank: Bank, other: Machine) -> None:
 def test_witness(bank: Bank) -> None:
     """The second machine has more than this one: the counter is stopped, somebody is called, and a start comes to nothing. A witness that is killed stops nothing."""
     m, restore = bank.machine, "/root/samples/restore"
+    m.shell("install -d second; cp /srv/archive/counter/end.json second/")
+    m.shell("chmod -R a+rX second; chmod a+x /root; groupadd -f adm")
+    m.shell(f"install -m 755 {restore}/witness /opt/counter/restore/; cd {restore}")
     m.shell(
-        "install -d second; cp /srv/archive/counter/end.json second/; chmod -R a+rX second; chmod a+x /root"
-    )
-    m.shell(f"install -m 755 {restore}/witness /opt/counter/restore/; groupadd -f adm")
-    m.shell(
-        f"install -m 644 {restore}/counter-witness.service {restore}/counter-taken-back.service {UNITS}/"
+        f"cd {restore}; install -m 644 counter-witness.service counter-taken-back.service {UNITS}"
     )
     answer = '[Service]\nEnvironment="WITNESS=cat /root/second/end.json"\nProtectHome=no\n'
     m.write(f"{UNITS}/counter-witness.service.d/here.conf", answer)
@@ -309,55 +271,46 @@ def test_witness(bank: Bank) -> None:
     assert bank.is_active(seconds=1) and bank.is_active("counter-witness.service", 1), "control"
     m.shell("sed -i 's/\"row\":/&9/' second/end.json")
     assert m.wait("counter.service", "ActiveState", "inactive", 20)
-    m.wait(
-        "counter-failed@counter-witness.service.service",
-        "ExecMainExitTimestampMonotonic",
-        "[1-9][0-9]*",
-    )
+    calls = "counter-failed@counter-witness.service.service"
+    m.wait(calls, "ExecMainExitTimestampMonotonic", "[1-9][0-9]*")
     called = bank.journal("-t", "counter", "-p", "alert")
     assert "counter-witness.service: witness: this machine was taken back" in called
     m.on("systemctl", "start", "--no-block", "counter.service")
     assert not bank.is_active(seconds=20)
     m.shell(f"rm {UNITS}/counter.service.d/witness.conf; systemctl daemon-reload")
-    m.shell(
-        "systemctl stop counter-witness.service; systemctl reset-failed; systemctl start counter.service"
-    )
+    m.shell("systemctl stop counter-witness.service; systemctl reset-failed")
+    m.shell("systemctl start counter.service")
     bank.wait_until_served()
 
 
 def test_one_apply_for_each_connection(bank: Bank) -> None:
     """By the units of the page: clients that come together are let in one after another, or are told to come again by an end without an answer."""
-    m, sent_away, answers = bank.machine, 0, list[Answer]()
+    m, sent_away = bank.machine, 0
     socket = page("systemd", 2).replace("counter-http.sock", "each.sock")
     m.write(f"{UNITS}/each.socket", socket)
     m.write(f"{UNITS}/each@.service", page("systemd", 3))
     m.shell("systemctl stop counter.service; systemctl daemon-reload; systemctl start each.socket")
 
-    def client(turn: int) -> None:
+    def client(turn: int) -> Answer:
         nonlocal sent_away
         value = {"desk": 99, "number": turn + 1, "day": day_text(bank.load.turn - 1), "payee": 7}
         message = post("/redeem", value | {"serials": [bond(0)["serial"]]})
         while (answer := bank.ask(message, at="/run/each.sock")) is None:
             sent_away += 1
             time.sleep(0.2)
-        answers.append(answer)
+        return answer
 
-    threads = [threading.Thread(target=client, args=(turn,)) for turn in range(20)]
-    for thread in threads:
-        thread.start()
-    for thread in threads:
-        thread.join()
+    answers = at_once(client, 20)
     m.shell("systemctl stop each.socket; systemctl start counter.service")
-    assert len(answers) == 20 and sent_away > 0, sent_away
+    assert sent_away > 0
     assert all(status == 409 and '"AlreadyPaid"' in text for status, text in answers), answers
 
 
 def test_without_its_network(bank: Bank) -> None:
     """The counter isn't started. Control: with it, it serves again."""
     m = bank.machine
-    m.shell(
-        "systemctl stop counter.service counter-http.socket counter-http.service counter-network.service"
-    )
+    m.shell("systemctl stop counter.service counter-http.socket counter-http.service")
+    m.shell("systemctl stop counter-network.service")
     drop_in = f"{UNITS}/counter-network.service.d"
     m.write(f"{drop_in}/none.conf", "[Service]\nExecStart=\nExecStart=/usr/bin/false\n")
     m.shell("ip netns del counter 2> /dev/null || true; systemctl daemon-reload")

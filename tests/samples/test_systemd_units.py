@@ -1,7 +1,5 @@
 """The units of samples/ as `systemd-analyze` reads them. They need neither root nor a running systemd."""
 
-from __future__ import annotations
-
 import os
 import re
 from pathlib import Path
@@ -12,11 +10,8 @@ from tests.conftest import TOP
 from tests.restore.counter_day import Ran, run
 
 SAMPLES = TOP / "samples"
-UNITS = {
-    path.name: path
-    for kind in ("service", "socket", "timer")
-    for path in SAMPLES.glob(f"*/*.{kind}")
-}
+KINDS = (".service", ".socket", ".timer")
+UNITS = {path.name: path for path in SAMPLES.glob("*/*") if path.suffix in KINDS}
 #: Those whose folders and users the package makes, with nginx: tests/fence runs them on a machine.
 PACKAGED = ("counter-nginx.service", "counter-revoked.service", "counter-revoked.timer")
 FOLDERS = {
@@ -69,11 +64,8 @@ def exposure(unit: Path) -> float:
 
 
 def test_exposures(units: Path) -> None:
-    rated = {
-        name: exposure(units / name)
-        for name in ("counter.service", "counter-archive-check.service", "counter-http.service")
-    }
-    rated["counter-watch.service"] = exposure(units / "counter-watch.service")
+    names = ("counter", "counter-archive-check", "counter-http", "counter-watch")
+    rated = {name: exposure(units / f"{name}.service") for name in names}
     assert max(rated.values()) <= MOST, rated
     change(units / "counter.service", PROTECTIONS, "")
     assert exposure(units / "counter.service") > MOST, "control: without its protections"

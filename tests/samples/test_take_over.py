@@ -2,8 +2,6 @@
 
 Logs that are damaged or orphaned are in tests/restore/test_take_over.py."""
 
-from __future__ import annotations
-
 import json
 import os
 import re
@@ -16,18 +14,9 @@ from typing import Iterator, NamedTuple
 import pytest
 
 from tests.conftest import TOP
-from tests.restore.counter_day import Ran, run
-from tests.samples.books import LAST, REQUESTS, STATUSES, changed, files_of, held, script
-from tests.shared.counter_calls import (
-    Answer,
-    apply,
-    get,
-    make_version_one,
-    post,
-    rows,
-    served,
-    sql,
-)
+from tests.restore.counter_day import run
+from tests.samples.books import LAST, REQUESTS, STATUSES, changed, files_of, held, refused, script
+from tests.shared.counter_calls import Answer, apply, get, make_version_one, post, rows, served, sql
 
 TAKE_OVER = TOP / "samples/take_over"
 MORE = "CREATE TABLE notes (note TEXT); INSERT INTO notes VALUES ('of another program'); CREATE VIEW unpaid AS SELECT * FROM bonds WHERE ticket IS NULL"
@@ -65,13 +54,11 @@ class Known(NamedTuple):
         assert answers(self.program, new) == self.answers
         later = apply(self.program, new, LATER)
         assert [one[0] for one in later] == [200] * 3 and later[2][1] == later[1][1]
-        assert (
-            apply(self.program, new, LATER + REQUESTS) == later + self.answers[1][: len(REQUESTS)]
-        )
+        again = apply(self.program, new, LATER + REQUESTS)
+        assert again == later + self.answers[1][: len(REQUESTS)]
 
 
 def rise_from_one(new: Path) -> None:
-    """The hidden row numbers."""
     for table in ("bonds", "paid", "answers"):
         numbers = [number for number, in rows(new, f"SELECT rowid FROM {table} ORDER BY rowid")]
         assert numbers == list(range(1, len(numbers) + 1)), table
@@ -88,7 +75,6 @@ def known(program: Path, place: Path) -> Known:
 
 
 def is_refused(program: Path, store: Path, fault: str) -> None:
-    """The program refuses it twice, and leaves its bytes."""
     before = store.read_bytes()
     for _ in range(2):
         ran = run(program, "export", "7", "--db", store)
@@ -107,27 +93,26 @@ def taken(program: Path, store: Path) -> tuple[Path, str]:
     return new, ran.stdout
 
 
-def refuses(status: int, why: str, store: Path, program: Path) -> Ran:
-    """Nothing is left."""
-    there = set(os.listdir(store.parent))
-    ran = run(TAKE_OVER, store, store.parent / "new.db", program)
-    assert (ran.returncode, ran.stdout) == (status, ""), ran
-    assert re.search(why, ran.stderr) and "Traceback" not in ran.stderr, ran.stderr
-    assert set(os.listdir(store.parent)) == there
-    return ran
+def refuses(status: int, why: str, store: Path, program: Path) -> None:
+    to = store.parent
+    refused(to, status, why, TAKE_OVER, store, to / "new.db", program)
 
 
-@pytest.mark.parametrize(
-    "statements",
-    [
-        "VACUUM",
-        "ANALYZE",
-        MORE,
-        "DROP INDEX bonds_owner; DROP INDEX tickets_day; CREATE INDEX by_owner ON bonds (owner, letter, number); CREATE INDEX by_day ON tickets (day, ticket)",
-        "DROP INDEX bonds_owner; DROP INDEX tickets_day",
-        "PRAGMA journal_mode = DELETE; PRAGMA page_size = 512; VACUUM; ANALYZE",
-    ],
-)
+NO_INDEX = "DROP INDEX bonds_owner; DROP INDEX tickets_day"
+OTHERS = "CREATE INDEX a ON bonds (owner, letter, number); CREATE INDEX b ON tickets (day, ticket)"
+PAGES = "PRAGMA journal_mode = DELETE; PRAGMA page_size = 512; VACUUM; ANALYZE"
+CHANGES = ["VACUUM", "ANALYZE", MORE, f"{NO_INDEX}; {OTHERS}", NO_INDEX, PAGES]
+SAID = """rates       2
+extensions  1
+bonds       5, 10225.00 dollars
+tickets     3, 5222.10 dollars
+lines       4, 5222.10 dollars
+batches     1, 5196.22 dollars
+replies     9
+"""
+
+
+@pytest.mark.parametrize("statements", CHANGES)
 def test_changed_store(known: Known, tmp_path: Path, statements: str) -> None:
     store = changed(known.path, tmp_path / "changed.db", statements)
     is_refused(known.program, store, "Unusable")
@@ -135,15 +120,7 @@ def test_changed_store(known: Known, tmp_path: Path, statements: str) -> None:
     assert held(new) == held(known.path)
     known.goes_on(new)
     is_named = "not taken over: notes, unpaid" in said
-    assert is_named == (statements == MORE) and said.splitlines()[:7] == [
-        "rates       2",
-        "extensions  1",
-        "bonds       5, 10225.00 dollars",
-        "tickets     3, 5222.10 dollars",
-        "lines       4, 5222.10 dollars",
-        "batches     1, 5196.22 dollars",
-        "replies     9",
-    ]
+    assert is_named == (statements == MORE) and said.startswith(SAID)
 
 
 @pytest.mark.parametrize(
@@ -156,7 +133,6 @@ def test_changed_store(known: Known, tmp_path: Path, statements: str) -> None:
     ],
 )
 def test_dump(known: Known, tmp_path: Path, begin: str, fault: str) -> None:
-    """A store that is read back from its dump, in a file that sqlite3 makes."""
     store = tmp_path / "dumped.db"
     text = f"{begin}\n{sql(known.path, '.dump')}"
     subprocess.run(["sqlite3", store], input=text, stdout=subprocess.DEVNULL, text=True, check=True)
@@ -198,9 +174,9 @@ def test_stopped_writer(known: Known, tmp_path: Path, end: str) -> None:
         shutil.copy(f"{busy}{part}", f"{store}{part}")
     base.close()
     alone = Path(shutil.copy(store, tmp_path / "alone.db"))
-    assert rows(alone, "SELECT count(*) FROM bonds") == [
-        (4,)
-    ], "control: without it a bond is missing"
+    assert (
+        sql(alone, "SELECT count(*) FROM bonds") == "4\n"
+    ), "control: without it a bond is missing"
     new, _ = taken(known.program, store)
     known.goes_on(new)
 
@@ -242,7 +218,6 @@ def retries(source: Path) -> Iterator[tuple[bytes, Answer]]:
 
 @pytest.mark.parametrize("version, has_extensions", [(2, True), (1, True), (1, False)])
 def test_store_of_others(program: Path, tmp_path: Path, version: int, has_extensions: bool) -> None:
-    """A store that Python made of docs/FORMATS.md."""
     source, store = tmp_path / "source.db", tmp_path / "made.db"
     make_version_one(source, 2000, 300, *([] if has_extensions else ["--without-extensions"]))
     of_formats(store, version, has_extensions, source)
@@ -258,28 +233,27 @@ def test_store_of_others(program: Path, tmp_path: Path, version: int, has_extens
 
 
 CENTS = "UPDATE paid SET cents = cents + 1 WHERE ticket = 1 AND place = 1"
-SUMS = (
-    "; UPDATE tickets SET total = total + 1 WHERE ticket = 1; UPDATE batches SET total = total + 1"
-)
+SUM = "SET total = total + 1"
+SUMS = f"; UPDATE tickets {SUM} WHERE ticket = 1; UPDATE batches {SUM}"
+RATES = "DROP TABLE rates; CREATE TABLE rates (period, rate)"
+REFUSED = "refuses the new store: store: Unusable"
+WRONG_ROWS = [
+    (CENTS, REFUSED),
+    (CENTS + SUMS, REFUSED),
+    ("DELETE FROM paid WHERE ticket = 2", REFUSED),
+    ("UPDATE answers SET reply = '{}' WHERE number = 12", "new store: store: Unusable"),
+    ("UPDATE desk SET version = 7", "it is of version 7"),
+    ("DELETE FROM desk", "its table desk has other rows"),
+    ("DROP TABLE batches", "it has no table batches"),
+    ("ALTER TABLE bonds ADD COLUMN note TEXT", "its table bonds has other columns"),
+    (
+        f"{RATES}; INSERT INTO rates VALUES ('60', 200), (66, 350)",
+        f"differs in rates|{REFUSED[:21]}",
+    ),
+]
 
 
-@pytest.mark.parametrize(
-    "statements, why",
-    [
-        (CENTS, "refuses the new store: store: Unusable"),
-        (CENTS + SUMS, "refuses the new store: store: Unusable"),
-        ("DELETE FROM paid WHERE ticket = 2", "refuses the new store: store: Unusable"),
-        ("UPDATE answers SET reply = '{}' WHERE number = 12", "new store: store: Unusable"),
-        ("UPDATE desk SET version = 7", "it is of version 7"),
-        ("DELETE FROM desk", "its table desk has other rows"),
-        ("DROP TABLE batches", "it has no table batches"),
-        ("ALTER TABLE bonds ADD COLUMN note TEXT", "its table bonds has other columns"),
-        (
-            "DROP TABLE rates; CREATE TABLE rates (period, rate); INSERT INTO rates VALUES ('60', 200), (66, 350)",
-            "the new store differs in rates|refuses the new store",
-        ),
-    ],
-)
+@pytest.mark.parametrize("statements, why", WRONG_ROWS)
 def test_wrong_rows(known: Known, tmp_path: Path, statements: str, why: str) -> None:
     store = changed(known.path, tmp_path / "changed.db", f"{MORE}; {statements}")
     refuses(1, why, store, known.program)
@@ -291,15 +265,12 @@ def test_another_reply(known: Known, tmp_path: Path) -> None:
     taken(known.program, changed(known.path, tmp_path / "changed.db", f"{MORE}; {statement}"))
 
 
+LOSSES = ["DELETE FROM bonds WHERE number = 5", "UPDATE bonds SET owner = 11 WHERE number = 5"]
+LOSSES += ["DELETE FROM answers WHERE number = 12"]
+
+
 @pytest.mark.parametrize("turns", [1, 2, 4, 5, 6])
-@pytest.mark.parametrize(
-    "statement",
-    [
-        "DELETE FROM bonds WHERE number = 5",
-        "UPDATE bonds SET owner = 11 WHERE number = 5",
-        "DELETE FROM answers WHERE number = 12",
-    ],
-)
+@pytest.mark.parametrize("statement", LOSSES)
 def test_wrong_program(known: Known, tmp_path: Path, statement: str, turns: int) -> None:
     """A program that changes the store that it made, from its command of this turn on."""
     store = Path(shutil.copy(known.path, tmp_path / "known.db"))

@@ -2,8 +2,7 @@
 
 A host is a network namespace with namespaces of its own for mounts and processes: to kill its first process is to kill all of them at once, as a loss of power does, but for what the kernel holds of its disk. Its cable is its link on a bridge. LOSSES names how many, 6 if it isn't set."""
 
-from __future__ import annotations
-
+import contextlib
 import ctypes
 import os
 import random
@@ -13,23 +12,14 @@ import subprocess
 import threading
 import time
 from pathlib import Path
-from typing import Any, Callable, Iterator
+from typing import Any, Iterator
 
 import pytest
 
-from tests.conftest import TOP
+from tests.conftest import TOP, until
 from tests.restore.counter_day import Ran, run
-from tests.shared.counter_calls import (
-    Answer,
-    Load,
-    beginning,
-    bond,
-    day_text,
-    fault_of_books,
-    get,
-    post,
-    read_answer,
-)
+from tests.shared.counter_calls import Answer, Load, beginning, bond, day_text, fault_of_books, get
+from tests.shared.counter_calls import post, read_answer
 
 pytestmark = [pytest.mark.root, pytest.mark.slow, pytest.mark.needs("glusterd", "ip", "sqlite3")]
 SAMPLES = TOP / "samples/replicated"
@@ -51,13 +41,6 @@ ENDS = (
     "serve_replicated: the volume has no day.db",
     f"serve_replicated: the volume {VOLUME} isn't known here",
 )
-
-
-def until(holds: Callable[[], object], what: str, seconds: float = 120) -> None:
-    end = time.time() + seconds
-    while not holds():
-        assert time.time() < end, what
-        time.sleep(0.2)
 
 
 def done(*words: object) -> None:
@@ -106,7 +89,6 @@ class Host:
         return run("timeout", "120", *self.words(*words))
 
     def lose_power(self) -> None:
-        """All its processes are killed at once."""
         if self.first:
             os.kill(self.first, signal.SIGKILL)
             self.outer.wait()
@@ -142,18 +124,12 @@ class Host:
 
     def ask(self, message: bytes, patience: float = 15) -> Answer | None:
         """The answer of this host's counter, asked in its own network; None if none came."""
-        try:
-            client = self.connected()
-        except OSError:
-            return None
-        with client:
-            try:
-                client.settimeout(patience)
-                client.connect(("127.0.0.1", PORT))
-                client.sendall(message)
-                return read_answer(client)
-            except OSError:
-                return None
+        with contextlib.suppress(OSError), self.connected() as client:
+            client.settimeout(patience)
+            client.connect(("127.0.0.1", PORT))
+            client.sendall(message)
+            return read_answer(client)
+        return None
 
     def connected(self) -> socket.socket:
         """A socket of the counter's network, which this thread enters for a moment."""
@@ -185,12 +161,10 @@ class Hosts:
             host.boot()
         first, others = self.all[0], self.all[1:]
         for host in others:
-            until(
-                lambda: first.on("gluster", "peer", "probe", host.address).returncode == 0, "peers"
-            )
-        until(
-            lambda: first.on("gluster", "peer", "status").stdout.count("(Connected)") == 2, "peers"
-        )
+            probe = ("gluster", "peer", "probe", host.address)
+            until(lambda: first.on(*probe).returncode == 0, "peers", 120)
+        status = ("gluster", "peer", "status")
+        until(lambda: first.on(*status).stdout.count("(Connected)") == 2, "peers", 120)
         bricks = [f"{host.address}:{host.folder}/brick" for host in self.all]
         ran = first.on(SAMPLES / "make_volume", VOLUME, *bricks)
         assert ran.returncode == 0, ran
@@ -217,7 +191,7 @@ class Hosts:
 
     def whole(self) -> None:
         """All bricks are connected to the mount that is served from, and nothing is left to heal."""
-        until(lambda: self.is_healed() and self.is_mirrored(), "the volume is whole again")
+        until(lambda: self.is_healed() and self.is_mirrored(), "the volume is whole again", 120)
 
     def is_healed(self) -> bool:
         words = ("gluster", "volume", "heal", VOLUME, "info", "summary")
@@ -326,7 +300,7 @@ def test_two_lost_at_once(hosts: Hosts) -> None:
     for other in others:
         other.boot()
     hosts.serving = None
-    until(hosts.is_healed, "the volume is whole again")
+    until(hosts.is_healed, "the volume is whole again", 120)
     hosts.serve_on(host)
     hosts.load.stop()
     hosts.whole()
@@ -378,7 +352,7 @@ def test_one_serves_at_a_time(hosts: Hosts) -> None:
             time.sleep(0.2)
         if lost:
             lost.boot()
-            until(hosts.is_healed, "the volume is whole again")
+            until(hosts.is_healed, "the volume is whole again", 120)
         if nth < 2:
             lost = hosts.server()
             lost.lose_power()

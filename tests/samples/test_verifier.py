@@ -1,7 +1,5 @@
 """packaging/verify refuses forged releases, if the forger put all sums right and signed them too."""
 
-from __future__ import annotations
-
 import os
 import re
 import shutil
@@ -9,25 +7,15 @@ import sys
 import time
 import tomllib
 from pathlib import Path
-from typing import Iterator
+from typing import Any, Iterator
 
 import pytest
 
 from tests.conftest import TOP
 from tests.restore.counter_day import run
 from tests.samples.books import script
-from tests.samples.releases import (
-    KEPT,
-    VERDICT,
-    Packages,
-    Tree,
-    change,
-    done,
-    library_in,
-    sum_of,
-    with_line,
-    without,
-)
+from tests.samples.releases import KEPT, VERDICT, Packages, Tree, change, done, end_keys
+from tests.samples.releases import fingerprint, library_in, make_key, sum_of, with_line, without
 
 pytestmark = pytest.mark.needs("dh", "fakeroot", "git", "cc", "gpg")
 VERIFIER = TOP / "packaging/verify"
@@ -42,23 +30,22 @@ class Keys:
 
     def __init__(self, folder: Path) -> None:
         self.folder, self.known, self.none = folder, folder / "known", folder / "none"
-        for name in ("known", "none", "release", "forger", "expired"):
+        for name in ("known", "none"):
             (folder / name).mkdir(mode=0o700)
         for name in ("release", "forger", "expired"):
-            words = ("--quick-generate-key", f"{name}@bank.example", "ed25519", "sign", "1d")
-            self.gpg(name, "--passphrase", "", *words)
+            make_key(folder / name, name, *self.then(name))
             (folder / "exported").write_text(self.gpg(name, "--armor", "--export"))
             self.gpg("known", "--import", folder / "exported")
-        found = re.search(
-            "^fpr:+([0-9A-F]{40}):", self.gpg("release", "--with-colons", "--list-keys"), re.M
-        )
-        assert found is not None
-        self.fingerprint = found[1]
+        self.fingerprint = fingerprint(folder / "release")
+
+    def then(self, name: str) -> tuple[object, ...]:
+        """For the key that has expired it is a week ago."""
+        ago = int(time.time()) - 604_800
+        return ("--faked-system-time", ago) if name == "expired" else ()
 
     def gpg(self, name: str, *words: object) -> str:
-        """gpg with the keyring of a name. For the key that has expired it is a week ago."""
-        then = ("--faked-system-time", int(time.time()) - 604_800) if name == "expired" else ()
-        return done("gpg", "--batch", "--quiet", *then, "--homedir", self.folder / name, *words)
+        own = (*self.then(name), "--homedir", self.folder / name)
+        return done("gpg", "--batch", "--quiet", *own, *words)
 
     def sign(self, name: str, release: Path) -> None:
         sums = release / "SHA256SUMS"
@@ -67,7 +54,7 @@ class Keys:
 
     def end(self) -> None:
         for home in self.folder.iterdir():
-            run("gpgconf", "--homedir", home, "--kill", "all")
+            end_keys(home)
 
 
 class Bank:
@@ -82,10 +69,8 @@ class Bank:
         self.tree.prove()
         self.tree.build_library()
         (folder / "gate.log").write_text(self.tree.gate_log())
-        words = ("--ci-log", folder / "gate.log")
-        self.release = Packages(
-            folder / "release", self.tree.build(folder / "release", *words)
-        ).folder
+        self.release = folder / "release"
+        Packages(self.release, self.tree.build(self.release, "--ci-log", folder / "gate.log"))
         keys.sign("release", self.release)
 
     def verify(self, *words: object, home: Path | None = None) -> tuple[int, list[str], str]:
@@ -106,9 +91,6 @@ def bank(program: Path, place: Path) -> Iterator[Bank]:
     keys = Keys(place / "keys")
     yield Bank(program, place, keys)
     keys.end()
-
-
-# ---- what it finds right, and what it can't check
 
 
 def test_control_right_release(bank: Bank) -> None:
@@ -146,9 +128,6 @@ def test_wrong_words(bank: Bank, folder: Path) -> None:
         assert bank.verify(*words)[0] == 2, words
 
 
-# ---- what it refuses
-
-
 class Forged:
     """A copy of the release, of which something is changed."""
 
@@ -161,7 +140,6 @@ class Forged:
         return found
 
     def do(self, step: str, *given: str) -> None:
-        """One step of parts/forgeries.toml."""
         words = [one.replace("VERDICT", VERDICT).replace("KEPT", KEPT) for one in given]
         deb = self.file("ladwenpik_*.deb")
         if step == "byte":
@@ -173,9 +151,8 @@ class Forged:
         elif step == "script":
             self.with_script(deb)
         elif step == "quote":
-            was, now = sum_of(self.bank.program), sum_of(
-                self.folder.parent / "opened/usr/bin/ee_cli"
-            )
+            was = sum_of(self.bank.program)
+            now = sum_of(self.folder.parent / "opened/usr/bin/ee_cli")
             change(self.file("*_evidence.txt"), f"{was}  usr/bin/ee_cli", f"{now}  usr/bin/ee_cli")
         elif step == "touch":
             (self.folder / words[0]).touch()
@@ -210,13 +187,10 @@ class Forged:
             line = f"^  [0-9a-f]{{64}}  {re.escape(path.name)}$"
             text = re.sub(line, f"  {sum_of(path)}  {path.name}", text, flags=re.M)
         for log in self.folder.glob("*_gate.log"):
-            text = re.sub(
-                "sum        [0-9a-f]{64}, of the log", f"sum        {sum_of(log)}, of the log", text
-            )
+            text = re.sub("(sum        )[0-9a-f]{64}(?=, of the log)", rf"\g<1>{sum_of(log)}", text)
         evidence.write_text(text)
-        files = sorted(
-            path for path in self.folder.iterdir() if not path.name.startswith("SHA256SUMS")
-        )
+        (self.folder / "SHA256SUMS").unlink(missing_ok=True)
+        files = sorted(path for path in self.folder.iterdir() if path.suffix != ".asc")
         named = "".join(f"{sum_of(path)}  {path.name}\n" for path in files)
         (self.folder / "SHA256SUMS").write_text(named)
 
@@ -231,21 +205,23 @@ class Forged:
         assert status == 1 and said in found, found
 
 
-@pytest.mark.parametrize("kind", FORGERIES["unsigned"])
-def test_changed_release(bank: Bank, folder: Path, kind: str) -> None:
-    forgery, forged = FORGERIES["unsigned"][kind], Forged(bank, folder / "release")
+def is_refused(bank: Bank, folder: Path, forgery: dict[str, Any], is_signed: bool) -> None:
+    forged = Forged(bank, folder / "release")
     for step in forgery["do"]:
         forged.do(*step)
+    if is_signed:
+        forged.signed()
     forged.is_refused(forgery["wrong"], forgery["said"])
+
+
+@pytest.mark.parametrize("kind", FORGERIES["unsigned"])
+def test_changed_release(bank: Bank, folder: Path, kind: str) -> None:
+    is_refused(bank, folder, FORGERIES["unsigned"][kind], False)
 
 
 @pytest.mark.parametrize("kind", FORGERIES["signed"])
 def test_signed_forgery(bank: Bank, folder: Path, kind: str) -> None:
-    forgery, forged = FORGERIES["signed"][kind], Forged(bank, folder / "release")
-    for step in forgery["do"]:
-        forged.do(*step)
-    forged.signed()
-    forged.is_refused(forgery["wrong"], forgery["said"])
+    is_refused(bank, folder, FORGERIES["signed"][kind], True)
 
 
 @pytest.mark.parametrize("kind", FORGERIES["later"])

@@ -23,6 +23,7 @@ Name = tuple[str, int]
 TOP = os.path.dirname(os.path.dirname(os.path.dirname(os.path.abspath(__file__))))
 TABLES = ("desk", "rates", "extensions", "bonds", "tickets", "paid", "batches", "answers")
 DAY_TICKETS = 800
+PIPE = subprocess.PIPE
 FIRST_DAY = (2012, 2, 6)
 RATES = [{"from": "2010-05", "rate": "2.00"}, {"from": "2010-11", "rate": "3.50"}]
 # Denomination, issue month, and what such a bond pays in February 2012 at these rates.
@@ -39,9 +40,7 @@ BONDS = [
 
 def run(*words: str | Path, **more: Any) -> subprocess.CompletedProcess[str]:
     """How a command ended, with both of its outputs in one text."""
-    return subprocess.run(
-        words, stdout=subprocess.PIPE, stderr=subprocess.STDOUT, text=True, **more
-    )
+    return subprocess.run(words, stdout=PIPE, stderr=subprocess.STDOUT, text=True, **more)
 
 
 def matched(pattern: AnyStr, text: AnyStr) -> re.Match[AnyStr]:
@@ -67,28 +66,14 @@ def replaced(text: str, changes: Iterable[tuple[str, str]]) -> str:
 
 def sql(store: str | Path, text: str) -> str:
     """What the command `sqlite3` prints."""
-    return subprocess.run(
-        ["sqlite3", store, text],
-        stdout=subprocess.PIPE,
-        stderr=subprocess.PIPE,
-        text=True,
-        check=True,
-    ).stdout
+    words = ["sqlite3", store, text]
+    return subprocess.run(words, capture_output=True, text=True, check=True).stdout
 
 
 def make_version_one(store: str | Path, bonds: int, tickets: int, *words: str) -> None:
     """A store of version 1, as an earlier program would have made it."""
-    subprocess.run(
-        [
-            os.path.join(TOP, "benchmarks/make_version_one.py"),
-            store,
-            str(bonds),
-            str(tickets),
-            *words,
-        ],
-        stdout=subprocess.DEVNULL,
-        check=True,
-    )
+    line = [f"{TOP}/benchmarks/make_version_one.py", store, str(bonds), str(tickets), *words]
+    subprocess.run(line, stdout=subprocess.DEVNULL, check=True)
 
 
 def free_port() -> int:
@@ -100,20 +85,13 @@ def free_port() -> int:
 
 def post(path: str, value: object, headers: bytes = b"Connection: close\r\n") -> bytes:
     body = json.dumps(value, separators=(",", ":")).encode()
-    return b"POST %s HTTP/1.1\r\n%sContent-Length: %d\r\n\r\n%s" % (
-        path.encode(),
-        headers,
-        len(body),
-        body,
-    )
+    head = f"POST {path} HTTP/1.1\r\n".encode() + headers
+    return head + b"Content-Length: %d\r\n\r\n%s" % (len(body), body)
 
 
 def redeem(desk: int, number: int, day: str, payee: int, *serials: str) -> bytes:
-    return post(
-        "/redeem",
-        {"desk": desk, "number": number, "day": day, "payee": payee, "serials": serials},
-        b"",
-    )
+    value = {"desk": desk, "number": number, "day": day, "payee": payee, "serials": serials}
+    return post("/redeem", value, b"")
 
 
 def get(path: str, headers: bytes = b"Connection: close\r\n") -> bytes:
@@ -172,12 +150,8 @@ def answered(place: int | str, message: bytes, patience: float = 60) -> Answer:
 def serve(
     program: str | Path, store: str | Path, port: int, before: Sequence[str] = ()
 ) -> subprocess.Popen[str]:
-    return subprocess.Popen(
-        [*before, program, "serve", "--db", store, "--port", str(port)],
-        stdout=subprocess.DEVNULL,
-        stderr=subprocess.PIPE,
-        text=True,
-    )
+    words = [*before, program, "serve", "--db", store, "--port", str(port)]
+    return subprocess.Popen(words, stdout=subprocess.DEVNULL, stderr=PIPE, text=True)
 
 
 def wait_for(port: int, seconds: int = 60) -> None:
@@ -208,12 +182,8 @@ def apply(
     answers = []
     for first in range(0, len(messages), most):
         part = messages[first : first + most]
-        ran = subprocess.run(
-            [program, "apply", "--db", store],
-            input=b"".join(part),
-            stdout=subprocess.PIPE,
-            stderr=subprocess.PIPE,
-        )
+        words = [program, "apply", "--db", store]
+        ran = subprocess.run(words, input=b"".join(part), capture_output=True)
         found = split_answers(ran.stdout)
         if len(found) != len(part):
             said = ran.stderr.decode().strip()
@@ -254,18 +224,11 @@ def bond(turn: int) -> dict[str, Any]:
 
 def beginning(bonds: int) -> list[bytes]:
     """Messages that make a store with these rates and so many bonds of customer 7; desk 0."""
-    imports = [
-        post(
-            "/bonds",
-            {
-                "number": 2 + first // 500,
-                "bonds": [bond(turn) for turn in range(first, min(first + 500, bonds))],
-            },
-            b"",
-        )
-        for first in range(0, bonds, 500)
-    ]
-    return [post("/rates", {"number": 1, "rates": RATES}, b""), *imports]
+    messages = [post("/rates", {"number": 1, "rates": RATES}, b"")]
+    for first in range(0, bonds, 500):
+        part = [bond(turn) for turn in range(first, min(first + 500, bonds))]
+        messages.append(post("/bonds", {"number": 2 + first // 500, "bonds": part}, b""))
+    return messages
 
 
 class Load:
@@ -286,10 +249,8 @@ class Load:
 
     def start(self) -> None:
         self.is_over = False
-        self.threads = [
-            threading.Thread(target=self.run, args=(desk,), daemon=True)
-            for desk in range(1, self.clients + 1)
-        ]
+        desks = range(1, self.clients + 1)
+        self.threads = [threading.Thread(target=self.run, args=(d,), daemon=True) for d in desks]
         for thread in self.threads:
             thread.start()
 
@@ -307,17 +268,9 @@ class Load:
                 turn = self.take_turn()
                 if turn is None:
                     return
-                self.deliver(
-                    ("redeem", turn),
-                    "/redeem",
-                    {
-                        "desk": desk,
-                        "number": turn + 1,
-                        "day": day_text(turn),
-                        "payee": 7,
-                        "serials": [bond(turn)["serial"]],
-                    },
-                )
+                value = {"desk": desk, "number": turn + 1, "day": day_text(turn), "payee": 7}
+                value["serials"] = [bond(turn)["serial"]]
+                self.deliver(("redeem", turn), "/redeem", value)
                 with self.lock:
                     self.under_way -= 1
                     self.lock.notify_all()
@@ -345,14 +298,10 @@ class Load:
         try:
             self.lock.wait_for(lambda: self.under_way == 0 or self.wrong)
             if turn > 0:
-                self.deliver(
-                    ("close", turn),
-                    "/day/close",
-                    {"number": 2_000_000 + turn, "day": day_text(turn - 1)},
-                )
-            self.deliver(
-                ("open", turn), "/day/open", {"number": 1_000_000 + turn, "day": day_text(turn)}
-            )
+                value = {"number": 2_000_000 + turn, "day": day_text(turn - 1)}
+                self.deliver(("close", turn), "/day/close", value)
+            value = {"number": 1_000_000 + turn, "day": day_text(turn)}
+            self.deliver(("open", turn), "/day/open", value)
         finally:
             self.is_changing = False
             self.lock.notify_all()
@@ -389,16 +338,10 @@ def fault_of(name: Name, reply: str) -> str | None:
         wanted = batch_of(turn // DAY_TICKETS - 1, DAY_TICKETS)
     else:
         paid = KINDS[turn % 3][2]
-        wanted = (
-            '{"day":"%s","lines":[{"paid":"%s","serial":"%s"}],"payee":7,"ticket":%s,"total":"%s"}'
-            % (
-                day_text(turn),
-                paid,
-                bond(turn)["serial"],
-                (re.search(r'"ticket":(\d+)', reply) or ["", "0"])[1],
-                paid,
-            )
-        )
+        ticket = int((re.search(r'"ticket":(\d+)', reply) or ["", "0"])[1])
+        lines = [{"paid": paid, "serial": bond(turn)["serial"]}]
+        found = {"day": day_text(turn), "lines": lines, "payee": 7, "ticket": ticket}
+        wanted = json.dumps({**found, "total": paid}, separators=(",", ":"))
     return None if reply == wanted else f"{name} was answered {reply}, and not {wanted}"
 
 
@@ -406,22 +349,17 @@ def batch_of(day: int, turns: int) -> str:
     """The batch of a day of which so many turns were taken."""
     first = day * DAY_TICKETS
     cents = sum(int(KINDS[turn % 3][2].replace(".", "")) for turn in range(first, first + turns))
-    return '{"bonds":%d,"day":"%s","tickets":%d,"total":"%d.%02d"}' % (
-        turns,
-        day_text(first),
-        turns,
-        cents // 100,
-        cents % 100,
-    )
+    total = f"{cents // 100}.{cents % 100:02}"
+    found = {"bonds": turns, "day": day_text(first), "tickets": turns, "total": total}
+    return json.dumps(found, separators=(",", ":"))
 
 
 def fault_of_books(store: str | Path, replies: dict[Name, str]) -> str | None:
     """Whether the books that SQLite reads have just these tickets, one for each bond; None where
     they do."""
     paid = {name[1]: reply for name, reply in replies.items() if name[0] == "redeem"}
-    told = sorted(
-        (int(matched(r'"ticket":(\d+)', reply)[1]), turn + 1) for turn, reply in paid.items()
-    )
+    numbers = {turn: int(matched(r'"ticket":(\d+)', reply)[1]) for turn, reply in paid.items()}
+    told = sorted((number, turn + 1) for turn, number in numbers.items())
     if rows(store, "PRAGMA integrity_check") != [("ok",)]:
         return "SQLite doesn't find the file whole"
     held = rows(store, "SELECT ticket, number FROM paid ORDER BY ticket")

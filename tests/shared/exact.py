@@ -3,22 +3,15 @@ rounding by sixth powers, the chain of half-years, the calculator's notes. It sh
 the library."""
 from __future__ import annotations
 
-
 import functools
 import random
 
 DOLLARS = (50, 75, 100, 200, 500, 1000, 5000, 10000)
-(
-    DONE,
-    BAD_DENOMINATION,
-    BAD_ISSUE_MONTH,
-    BAD_MONTH,
-    BAD_RATE,
-    BAD_EXTENSION,
-    NOT_ISSUED,
-    NOT_ELIGIBLE,
-) = range(8)
+DONE, BAD_DENOMINATION, BAD_ISSUE_MONTH, BAD_MONTH, BAD_RATE, BAD_EXTENSION = range(6)
+NOT_ISSUED, NOT_ELIGIBLE = 6, 7
 PLAIN, NI, NE, P5, MA = range(5)
+SENSELESS = [0, 1, 49, 51, 2001, 2000, 200504, 201000, 201013, 209912, 210001, 219912, 220001]
+SENSELESS += [2**31, 2**32 - 1]
 #: What is payable, price, interest, value, status, note, next accrual and final maturity.
 Row = tuple[int, int, int, int, int, int, int, int]
 
@@ -111,32 +104,11 @@ def random_question(dice: random.Random) -> tuple[int, ...]:
     """Return the numbers of a question of which some are senseless, now and then."""
     begun = dice.randrange(12 * 2005 + 4, 12 * 2100)
     at = begun + (dice.randrange(0, 400) if dice.random() < 0.9 else dice.randrange(-30, 1300))
-    rate = (
-        dice.choice((0, 10, 402, 350, 340, 360, 2000))
-        if dice.random() < 0.2
-        else dice.randrange(2001)
-    )
+    some = (0, 10, 402, 350, 340, 360, 2000)
+    rate = dice.choice(some) if dice.random() < 0.2 else dice.randrange(2001)
     extension = rate if dice.random() < 0.2 else dice.randrange(2001)
     question = [dice.choice(DOLLARS), number_of(begun), number_of(at), rate, extension]
     while dice.random() < 0.2:
-        senseless = (
-            0,
-            1,
-            49,
-            51,
-            2001,
-            2000,
-            200504,
-            201000,
-            201013,
-            209912,
-            210001,
-            219912,
-            220001,
-            2**31,
-            2**32 - 1,
-            dice.randrange(2**32),
-            dice.randrange(300000),
-        )
-        question[dice.randrange(5)] = dice.choice(senseless)
+        by_chance = (dice.randrange(2**32), dice.randrange(300000))
+        question[dice.randrange(5)] = dice.choice((*SENSELESS, *by_chance))
     return tuple(question)

@@ -1,6 +1,4 @@
 """The machine of tests/watch: a fresh Debian with the disks of samples/snapshots, small ones for the archive, its second folder and the logs, and with samples/ and clients/."""
-from __future__ import annotations
-
 import ctypes
 import os
 import shutil
@@ -18,37 +16,28 @@ NEEDED = ("prometheus", "prometheus-node-exporter", "btrfs", "faketime")
 
 
 class Machine(fence.Machine):
-    """`follow` runs a line that has to succeed, in /root."""
-
     def __init__(self, base: Path, folder: Path, program: Path) -> None:
         lacking = [name for name in NEEDED if not (base / "usr/bin" / name).exists()]
         if lacking:
             pytest.skip(f"the root {base} lacks {', '.join(lacking)}")
         self.outside: int | None = None
         super().__init__(str(base), str(folder / "machine"))
-        self.root = self.path("")
         self.shell("systemctl disable -q --now nginx prometheus prometheus-node-exporter")
         self.shell("echo 127.0.0.1 localhost counter.bank.example > /etc/hosts")
         self.shell("mkdir -p /mnt/away /etc/counter; rm -rf /etc/prometheus")
         self.add_store_disks(folder)
         for path in SMALL:
             self.shell(f"mkdir -p {path}; mount -t tmpfs -o size=64m,mode=755 {path[1:]} {path}")
-        shutil.copy(program, f"{self.root}/root/ee_cli")
+        shutil.copy(program, self.path("/root/ee_cli"))
         for name in ("samples", "clients"):
             ignored = shutil.ignore_patterns("out", "__pycache__", "node_modules")
-            shutil.copytree(TOP / name, f"{self.root}/root/{name}", ignore=ignored)
-
-    def follow(self, line: str) -> str:
-        ran = self.on("sh", "-c", f"cd /root && {line}")
-        assert ran.returncode == 0, f"{line} ended with status {ran.returncode}\n{ran.stdout}"
-        return ran.stdout
+            shutil.copytree(TOP / name, self.path(f"/root/{name}"), ignore=ignored)
 
     def enter_network(self) -> None:
         """This thread goes into the machine's network, until the machine ends."""
         self.outside = os.open("/proc/self/ns/net", os.O_RDONLY)
-        handle = os.open(f"/proc/{self.process}/ns/net", os.O_RDONLY)
-        enter(handle)
-        os.close(handle)
+        with open(f"/proc/{self.process}/ns/net") as network:
+            enter(network.fileno())
 
     def end(self) -> None:
         if self.outside is not None:

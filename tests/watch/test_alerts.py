@@ -1,7 +1,5 @@
 """samples/watch/alerts.yml by Debian's promtool: the rules pass their tests, which find each broken rule."""
 
-from __future__ import annotations
-
 import re
 import shutil
 import subprocess

@@ -1,7 +1,5 @@
 """samples/watch/check_counter over a real counter, and over servers that are silent, drip, or aren't the counter."""
 
-from __future__ import annotations
-
 import contextlib
 import hashlib
 import socket
@@ -14,8 +12,9 @@ from typing import Callable, Iterator
 
 import pytest
 
-from tests.conftest import TOP
+from tests.conftest import TOP, is_listening, until
 from tests.fence.conftest import Counter
+from tests.shared.counter_calls import run
 
 CHECK = TOP / "samples/watch/check_counter"
 LIMIT = 2.0
@@ -25,12 +24,8 @@ Serving = Callable[[socket.socket], object]
 
 
 def checked(*words: str, check: Path = CHECK) -> tuple[int, str, float]:
-    """Status, line and seconds of a check."""
     begun = time.monotonic()
-    line = [sys.executable, str(check), *words]
-    ran = subprocess.run(
-        line, stdout=subprocess.PIPE, stderr=subprocess.STDOUT, text=True, timeout=90
-    )
+    ran = run(sys.executable, check, *words, timeout=90)
     return ran.returncode, ran.stdout.strip(), time.monotonic() - begun
 
 
@@ -42,10 +37,7 @@ def test_a_counter(counter: Counter, tmp_path: Path) -> None:
     words = ["serve", "--db", str(counter.store), "--port", str(counter.port), "--connections", "1"]
     with open(said, "w") as out:
         served = subprocess.Popen([counter.program, *words], stdout=out)
-    listening = f" 0100007F:{counter.port:04X} 00000000:0000 0A "
-    while listening not in Path("/proc/net/tcp").read_text():
-        assert served.poll() is None
-        time.sleep(0.05)
+    until(lambda: is_listening(counter.port), "the counter doesn't listen")
     status, line, _ = checked(counter.url)
     assert (status, line[:13]) == (0, "COUNTER OK - ") and " | time=0." in line
     assert served.wait(60) == 0
@@ -113,18 +105,8 @@ SERVERS: dict[str, tuple[Serving, list[str], int, str]] = {
     "speaks no HTTP": (said(b"SSH-2.0-x\r\n"), [], 2, "no HTTP"),
     "never ends": (endless, [], 2, "isn't the counter's"),
     "a web server's 404": (response(404, "<h1>Not Found</h1>"), [], 2, "isn't the counter's"),
-    "another service": (
-        response(404, '{"code":66,"fault":"NoRoute"}'),
-        [],
-        2,
-        "isn't the counter's",
-    ),
-    "a store that fails": (
-        response(503, '{"code":2,"unserved":"StoreFailed"}'),
-        [],
-        2,
-        "StoreFailed",
-    ),
+    "another service": (response(404, '{"code":66,"fault":"NoRoute"}'), [], 2, "isn't the counter"),
+    "a failing store": (response(503, '{"code":2,"unserved":"StoreFailed"}'), [], 2, "StoreFailed"),
     "no counter": (response(502, '{"unavailable":"counter"}'), [], 2, "and the counter doesn't"),
     "no certificate": (response(400, '{"forbidden":"certificate"}'), [], 2, "no one can sign in"),
     "too often": (response(429, '{"forbidden":"rate"}'), [], 3, "doesn't pass the check on (429)"),

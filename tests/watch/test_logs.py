@@ -1,7 +1,5 @@
 """The metrics of logs: figures by hand, each line counted once through rotations and kills, and no customer or serial number."""
 
-from __future__ import annotations
-
 import gzip
 import json
 import os
@@ -34,6 +32,7 @@ def paid(ticket: int, serial: str, total: str) -> str:
 
 FIRST = paid(1, "L7777EE", "25.16")
 AGAIN = '{"code":52,"refused":"AlreadyPaid","serial":"L7777EE","ticket":1}'
+REUSED = '{"code":10,"refused":"NumberReused"}'
 UNSERVED = '{"code":2,"unserved":"StoreFailed"}'
 ENTRIES: list[Row] = [
     ("/redeem", "200", redemption('"number":4', "L7777EE"), FIRST),
@@ -41,12 +40,7 @@ ENTRIES: list[Row] = [
     ("/redeem", "200", redemption('"desk":null,"number":4', "L7777EE"), FIRST),
     ("/redeem", "409", redemption('"desk":1,"number":4', "L7777EE"), AGAIN),
     ("/redeem", "200", redemption('"desk":1,"number":5', "K8888EE"), paid(2, "K8888EE", "100.00")),
-    (
-        "/redeem",
-        "409",
-        redemption('"desk":1,"number":5', "K8888EE", 987654321),
-        '{"code":10,"refused":"NumberReused"}',
-    ),
+    ("/redeem", "409", redemption('"desk":1,"number":5', "K8888EE", 987654321), REUSED),
     ("/redeem", "502", redemption('"desk":1,"number":6', "M9999EE"), ""),
     ("/redeem", "200", redemption('"desk":1,"number":6', "M9999EE"), paid(3, "M9999EE", "1.01")),
     ("/bonds", "400", '{"number":7,"bonds":[', '{"code":64,"fault":"BadJson"}'),
@@ -258,11 +252,8 @@ def test_rotations(tmp_path: Path, seed: int) -> None:
 
 def test_rotations_control(tmp_path: Path, broken: Path) -> None:
     """A follower that takes no notice of rotated files miscounts."""
-    change(
-        broken / "watching/proxy.py",
-        'begin = marks.index(place["mark"]) if place.get("mark") in marks else 0',
-        "begin = 0",
-    )
+    begin = 'begin = marks.index(place["mark"]) if place.get("mark") in marks else 0'
+    change(broken / "watching/proxy.py", begin, "begin = 0")
     one = Watched(tmp_path, broken)
     writer = Writer(one, random.Random(54))
     writer.write(5)

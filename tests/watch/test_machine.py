@@ -2,9 +2,7 @@
 
 Two seconds stand for a minute there; tests/watch/test_alerts.py runs the rules with their own times. About 12 minutes on a busy machine."""
 
-from __future__ import annotations
-
-import html.parser
+import itertools
 import json
 import os
 import re
@@ -12,12 +10,14 @@ import shutil
 import tempfile
 import threading
 import time
+from operator import itemgetter
 from pathlib import Path
-from typing import Callable, Iterator
+from typing import Iterator
+from xml.etree import ElementTree
 
 import pytest
 
-from tests.conftest import TOP
+from tests.conftest import TOP, until
 from tests.watch.machine import Machine
 from tests.watch.troubles import FIRST, LAST, TROUBLES
 from tests.watch.world import DEBIANS, QUICK, World
@@ -50,18 +50,6 @@ def quick_rules() -> str:
     return text
 
 
-def alert_of(trouble: str) -> str:
-    return trouble.partition(":")[0]
-
-
-def until(is_so: Callable[[], bool], seconds: int = PATIENCE) -> bool:
-    for _ in range(seconds * 2):
-        if is_so():
-            return True
-        time.sleep(0.5)
-    return False
-
-
 @pytest.fixture(scope="module")
 def world(program: Path, root: Path) -> Iterator[World]:
     with tempfile.TemporaryDirectory(dir=os.environ.get("TMPDIR", "/var/tmp")) as folder:
@@ -80,7 +68,6 @@ def world(program: Path, root: Path) -> Iterator[World]:
 
 @pytest.fixture
 def today(world: World) -> World:
-    """The world with today open."""
     world.reach_today()
     return world
 
@@ -92,24 +79,24 @@ lingering: set[str] = set()
 def make_trouble(world: World, name: str) -> None:
     """Makes a trouble, and sees its alert fire with its companions alone; then mends it."""
     make, companions = TROUBLES[name]
-    alert = alert_of(name)
-    assert until(lambda: alert not in world.firing()), f"control: {alert} doesn't fire before"
+    alert = name.partition(":")[0]
+    until(lambda: alert not in world.firing(), f"control: {alert} fires before", PATIENCE)
     lingering.intersection_update(world.firing())
     steps = make(world)
     try:
         next(steps)
-        has_fired = until(lambda: alert in world.firing())
-        firing = world.firing()
-        assert has_fired, f"{firing}\n{world.state()}"
-        assert firing <= {alert, *companions, *lingering}, world.state()
+        until(lambda: alert in world.firing(), world.state, PATIENCE)
+        assert world.firing() <= {alert, *companions, *lingering}, world.state()
     finally:
         lingering.update(companions, {alert})
         next(steps, None)
+        world.wait_for_counter()
+        world.wait_for_nginx()
 
 
 def test_each_alert_has_a_trouble() -> None:
     named = re.findall(r"alert: Ladwenpik(\w+)", (WATCH / "alerts.yml").read_text())
-    assert set(named) == {alert_of(name) for name in TROUBLES}
+    assert set(named) == {name.partition(":")[0] for name in TROUBLES}
 
 
 def test_first_trouble(world: World) -> None:
@@ -118,10 +105,10 @@ def test_first_trouble(world: World) -> None:
 
 def test_quiet(today: World) -> None:
     """Control: nothing fires while clients pay and look things up."""
-    assert until(lambda: not today.firing()), today.state()
+    until(lambda: not today.firing(), today.state, PATIENCE)
     end, firing = time.time() + 30, set[str]()
     while time.time() < end:
-        today.pay(1, today.today)
+        today.pay(1)
         today.ask("GET", "/inventory/7/2026-11")
         firing |= today.firing()
         time.sleep(1)
@@ -130,26 +117,22 @@ def test_quiet(today: World) -> None:
 
 def test_unlogged_within_a_minute(today: World) -> None:
     """By the times that ship, with Debian's of Prometheus: the metrics come every 20 seconds, and are read and judged every 15."""
-    assert until(lambda: "Unlogged" not in today.firing())
+    until(lambda: "Unlogged" not in today.firing(), today.state, PATIENCE)
+    reread = "systemctl kill --signal=HUP prometheus.service"
     today.write_rules((WATCH / "alerts.yml").read_text(), DEBIANS)
-    today.machine.follow("systemctl kill --signal=HUP prometheus.service")
+    today.shell(reread)
     today.watch_quickly("20s")
     steps, begun = TROUBLES["Unlogged"][0](today), time.monotonic()
     try:
         next(steps)
-        assert until(lambda: "Unlogged" in today.firing(), 60), today.state()
-        took = time.monotonic() - begun
-        print(f"the alert fired after {took:.0f} seconds")
-        assert took <= 60
+        until(lambda: "Unlogged" in today.firing(), today.state, 60)
+        print(f"the alert fired after {time.monotonic() - begun:.0f} seconds")
     finally:
         today.watch_quickly("2s")
         today.write_rules(quick_rules(), QUICK)
-        today.machine.follow("systemctl kill --signal=HUP prometheus.service")
+        today.shell(reread)
         lingering.update({"Unlogged", "DiskFull"})
         next(steps, None)
-
-
-# ---- the check
 
 
 def test_check_through_nginx(world: World) -> None:
@@ -174,21 +157,17 @@ def test_check_through_nginx(world: World) -> None:
 
 def test_check_at_the_socket(world: World) -> None:
     """The counter is asked past nginx by root alone."""
-    assert world.machine.follow(f"{CHECK} unix:/run/counter-http.sock").startswith("COUNTER OK")
+    assert world.shell(f"{CHECK} unix:/run/counter-http.sock").startswith("COUNTER OK")
     for user in ("nobody", "counter"):
         words = ["setpriv", "--reuid", user, "--regid", "nogroup", "--clear-groups"]
         ran = world.machine.on(*words, CHECK, "unix:/run/counter-http.sock")
         assert ran.returncode == 2 and "Permission denied" in ran.stdout
 
 
-# ---- logs and metrics
-
-
 def test_a_desk_of_null(today: World) -> None:
     """It is desk 0: the same request with desk 0 is a retry."""
-    request = {**today.redemption(today.bond, today.today), "desk": None}
+    request = {**today.next_redemption(), "desk": None}
     retries = 'ladwenpik_retries_total{route="/redeem"}'
-    today.bond += 1
     today.watched()
     before = today.metric(retries)
     replies = [today.ask("POST", "/redeem", {**request, "desk": desk}) for desk in (None, 0)]
@@ -201,19 +180,20 @@ def test_a_desk_of_null(today: World) -> None:
 
 
 def test_rotations(today: World) -> None:
-    """The package's logrotate works while clients ask: each request is counted once, only root and adm read the logs, the log for watching names no one, and nobody opens the store."""
+    """The package's logrotate and samples/restore's work while clients ask: each request is counted once, only root and adm read the logs, the log for watching names no one, and nobody opens the store."""
     m, log, done, turns = today.machine, "/var/log/counter/watch.log", threading.Event(), 0
-    shutil.copy(f"{TOP}/packaging/debian/ladwenpik.logrotate", f"{m.root}/tmp/rotating")
+    shutil.copy(f"{TOP}/packaging/debian/ladwenpik.logrotate", m.path("/tmp/rotating"))
+    page = (TOP / "samples/restore/README.md").read_text()
+    m.shell(re.findall(r"^install .* (?=/etc/logrotate)\S+$", page, re.M)[-1])
 
     def rotate() -> None:
         nonlocal turns
         while not done.wait(2):
-            m.on("logrotate", "-f", "-s", "/tmp/rotated", "/tmp/rotating")
+            files = ("/tmp/rotating", "/etc/logrotate.d/counter-requests")
+            m.on("logrotate", "-f", "-s", "/tmp/rotated", *files)
             turns += 1
 
-    status, body = today.ask("POST", "/redeem", today.redemption(today.bond, today.today))
-    assert status == 200, body
-    today.bond += 1
+    assert today.ask("POST", "/redeem", today.next_redemption())[0] == 200
     today.watched()
     read = 'ladwenpik_requests_total{route="/ticket",status="200",by="counter"}'
     before = today.metric(read)
@@ -227,8 +207,9 @@ def test_rotations(today: World) -> None:
     today.watched()
     today.watched()
     assert today.metric(read) - before == asked > 20
-    owners = set(m.follow("stat -c '%U:%G %a' /var/log/counter/* /srv/requests/*").splitlines())
-    assert owners == {"root:adm 640"} and int(m.follow(f"ls {log}* | wc -l")) > 3
+    owners = set(m.shell("stat -c '%U:%G %a' /var/log/counter/* /srv/requests/*").splitlines())
+    assert owners == {"root:adm 640"} and int(m.shell(f"ls {log}* | wc -l")) > 3
+    assert int(m.shell("ls /srv/requests/* | wc -l")) > 1
     names = "[A-Z][0-9]+EE|payee|anna|127[.]0|inventory/"
     said = f"zcat -f {log}* | grep -cE '{names}'; zcat -f /var/log/counter/counter.log* | grep -cE '[A-Z][0-9]+EE'"
     found = m.on("sh", "-c", said).stdout.split()
@@ -238,20 +219,14 @@ def test_rotations(today: World) -> None:
     assert not [path for path in opened if path.startswith("/var/lib/counter/")]
 
 
-# ---- the dashboard and the page
-
-
 def test_dashboard(today: World) -> None:
     """Its structure as Grafana's import wants it, and data for each query."""
     board = json.loads((WATCH / "dashboard.json").read_text())
     panels = [panel for panel in board["panels"] if panel["type"] != "row"]
     ids = [panel["id"] for panel in board["panels"]]
-    cells = [
-        (x, y)
-        for place in (panel["gridPos"] for panel in board["panels"])
-        for x in range(place["x"], place["x"] + place["w"])
-        for y in range(place["y"], place["y"] + place["h"])
-    ]
+    cells = list[tuple[int, int]]()
+    for x, y, w, h in (itemgetter(*"xywh")(panel["gridPos"]) for panel in board["panels"]):
+        cells += itertools.product(range(x, x + w), range(y, y + h))
     assert len(set(ids)) == len(ids) and len(set(cells)) == len(cells)
     assert max(x for x, _ in cells) < 24
     assert board["__inputs"][0]["name"] == "DS_PROMETHEUS"
@@ -267,49 +242,20 @@ def has_data(world: World, expression: str) -> bool:
     return any(item["value"][1] != "NaN" for item in world.query(expression))
 
 
-class Page(html.parser.HTMLParser):
-    """The elements of a page that are counted: open ones are named to see that each is closed."""
-
-    def __init__(self) -> None:
-        super().__init__()
-        self.open: list[str] = []
-        self.ids: list[str | None] = []
-        self.labels: list[str] = []
-        self.tables = 0
-
-    def handle_starttag(self, tag: str, attrs: list[tuple[str, str | None]]) -> None:
-        named = dict(attrs)
-        self.ids += [named["id"]] if "id" in named else []
-        self.tables += tag == "table"
-        if tag == "svg":
-            self.labels.append(named.get("aria-label") or "" if named.get("role") == "img" else "")
-        if tag != "meta":
-            self.open.append(tag)
-
-    def handle_startendtag(self, tag: str, attrs: list[tuple[str, str | None]]) -> None:
-        pass
-
-    def handle_endtag(self, tag: str) -> None:
-        assert self.open and self.open.pop() == tag, f"{tag} isn't closed where it was opened"
-
-
 def test_page(today: World) -> None:
     """Made on the machine, by the log and the snapshot; its figures are those of the books."""
     m = today.machine
     log = "--log /var/log/counter/watch.log --snapshots /srv/counter/snapshots"
     today.watched()
-    m.follow(f"/opt/counter/watch/page --to /tmp/counter.html {log}")
-    text = Path(f"{m.root}/tmp/counter.html").read_text()
-    read = Page()
-    read.feed(text)
-    assert not read.open and len(set(read.ids)) == len(read.ids)
-    assert len(read.labels) >= 5 and read.tables >= 3
-    assert all(len(label) > 20 for label in read.labels), "each picture says in words what it shows"
+    m.shell(f"/opt/counter/watch/page --to /tmp/counter.html {log}")
+    text = Path(m.path("/tmp/counter.html")).read_text()
+    ElementTree.fromstring(re.sub("(?i)<!doctype html>|<meta[^>]*>|(?<=<details) open", "", text))
+    ids, labels = (re.findall(f' {name}="([^"]*)"', text) for name in ("id", "aria-label"))
+    assert len(set(ids)) == len(ids) and text.count("<table") >= 3
+    assert len(labels) == len(re.findall('<svg[^>]* role="img"', text)) == text.count("<svg") >= 5
+    assert all(len(label) > 20 for label in labels), "each picture says in words what it shows"
     assert f"{today.metric('ladwenpik_open_day_dollars'):,.2f}" in text
     assert not re.search(r"[A-Z]\d+EE|payee|10\.0\.|anna", text)
-
-
-# ---- troubles
 
 
 @pytest.mark.parametrize(

@@ -1,7 +1,5 @@
 """samples/audit/who_asked: over a store and logs written by hand, and over payments whose entries a full disk took."""
 
-from __future__ import annotations
-
 import gzip
 import json
 import shutil
@@ -35,9 +33,8 @@ def entry(
     """A line of the log, as nginx writes it."""
     asked = json.dumps({"desk": desk, "number": number}) if body is None else body
     fields = {"time": f"{DAY}T10:00:0{number}+00:00", "entry": f"e{desk}-{number}", "user": user}
-    return json.dumps(
-        {**fields, "route": route, "counter": counter, "body": asked}, separators=(",", ":")
-    )
+    fields |= {"route": route, "counter": counter, "body": asked}
+    return json.dumps(fields, separators=(",", ":"))
 
 
 OPENED = entry("bert", "/day/open", 2, 1)
@@ -62,9 +59,7 @@ def books(tmp_path: Path) -> Path:
     path = tmp_path / "day.db"
     with sqlite3.connect(path) as store:
         store.execute("CREATE TABLE answers (desk, number, act, reply)")
-        rows = [
-            (desk, number, json.dumps(act), json.dumps(reply)) for desk, number, act, reply in KEPT
-        ]
+        rows = [(*named, json.dumps(act), json.dumps(reply)) for *named, act, reply in KEPT]
         store.executemany("INSERT INTO answers VALUES (?, ?, ?, ?)", rows)
     return path
 
@@ -101,6 +96,9 @@ def test_rotated_logs(books: Path, tmp_path: Path) -> None:
     assert found.status == 0 and {(2, 1, "bert"), (3, 1, "anna")} < found.users
 
 
+OF_999 = ["--command-line", "999"]
+
+
 @pytest.mark.parametrize(
     "lines, words, nobody",
     [
@@ -108,12 +106,8 @@ def test_rotated_logs(books: Path, tmp_path: Path) -> None:
         ([OPENED, FIRST, SECOND], ["--command-line", "998"], {(999, 1)}),
         ([OPENED, FIRST], ["--command-line", "999,3,2"], {(3, 2)}),
         ([FIRST, SECOND], ["--command-line", "999,3,2"], {(2, 1)}),
-        (
-            [OPENED, FIRST, entry("anna", "/redeem", 3, 2, "400")],
-            ["--command-line", "999"],
-            {(3, 2)},
-        ),
-        ([OPENED, FIRST, entry("anna", "/bonds", 3, 2)], ["--command-line", "999"], {(3, 2)}),
+        ([OPENED, FIRST, entry("anna", "/redeem", 3, 2, "400")], OF_999, {(3, 2)}),
+        ([OPENED, FIRST, entry("anna", "/bonds", 3, 2)], OF_999, {(3, 2)}),
     ],
 )
 def test_findings(
@@ -133,17 +127,13 @@ def test_torn_entries(books: Path, tmp_path: Path) -> None:
     assert "line 2 is no whole entry" in found.said and "line 3 is no" not in found.said
 
 
-# ---- a full disk
-
-
 @pytest.fixture
 def full_disk(site: MakeSite) -> Iterator[tuple[Site, Path]]:
     """A site whose logs have a small disk of their own, and the file that fills it."""
     made = site()
     logs = made.folder / "log"
     mounted = ["mount", "-t", "tmpfs", "-o", "size=64k,mode=755", "log", str(logs)]
-    if subprocess.run(mounted, capture_output=True).returncode != 0:
-        pytest.skip("no file system can be mounted")
+    subprocess.run(mounted, check=True)
     try:
         made.restart()
         yield made, logs / "fill"

@@ -37,13 +37,8 @@ def superblock_writes(base: str, steps: list[Step], begin: int, end: int) -> lis
     for place, step in enumerate(steps, 1):
         if step.kind == WRITE and step.at <= begin and end <= step.at + step.size:
             now = step.bytes_[begin - step.at : end - step.at]
-            if (
-                sum(
-                    now[at : at + SECTOR] != last[at : at + SECTOR]
-                    for at in range(0, end - begin, SECTOR)
-                )
-                > 1
-            ):
+            places = range(0, end - begin, SECTOR)
+            if sum(now[at : at + SECTOR] != last[at : at + SECTOR] for at in places) > 1:
                 found.append(place)
             last = now
     return found
@@ -98,12 +93,8 @@ class Image:
             steps = steps[: dice.randint(0, len(steps))]
         share = 1 if kind == "kept" else dice.random()
         for place, step in enumerate(steps, 1):
-            if (
-                kind == "torn"
-                and dice.random() < 0.6
-                or kind == "last torn"
-                and place == len(steps)
-            ):
+            is_last = kind == "last torn" and place == len(steps)
+            if is_last or kind == "torn" and dice.random() < 0.6:
                 self.put_torn(step, dice)
             elif kind not in ("some", "torn") or dice.random() < share:
                 self.put(step, 0, step.size)

@@ -16,21 +16,12 @@ from random import Random
 from typing import Callable
 
 from tests.shared.counter_calls import free_port, matched, piped
-from tests.shared.hostile import desk, judging, talk
+from tests.shared.hostile import counter, desk, judging, making, talk
 from tests.shared.hostile.judging import Wrong
 
 #: What a new process calls before it runs a program.
 Setup = Callable[[], None]
-
 SECONDS = 120
-BONDS = 200
-OWNERS = (7, 8)
-DENOMINATIONS, ISSUES = (50, 75, 100, 200, 500, 1000, 5000, 10000), (
-    "2010-06",
-    "2010-10",
-    "2010-11",
-    "2011-02",
-)
 # For each architecture: its number in a filter, and the numbers of fsync and fdatasync.
 SYNCS = {"x86_64": (0xC000003E, 74, 75), "aarch64": (0xC00000B7, 82, 83)}
 LOAD, JUMP_IF, RETURN = 0x20, 0x15, 0x06
@@ -38,75 +29,30 @@ ALLOW, ANSWER_ZERO = 0x7FFF0000, 0x00050000
 NO_NEW_PRIVILEGES, FILTER = 38, 22
 
 
-def serial(number: int) -> str:
-    return f"A{number}EE"
-
-
-def bond(number: int, dice: Random) -> str:
-    return '{"serial":"%s","denom":%d,"issued":"%s","owner":%d}' % (
-        serial(number),
-        dice.choice(DENOMINATIONS),
-        dice.choice(ISSUES),
-        dice.choice(OWNERS),
-    )
-
-
-def redemption(number: int, day: str, dice: Random) -> str:
-    """A redemption of one to three bonds. Some are refused, since a bond was paid already or has
-    another owner."""
-    serials = dice.sample(range(1, BONDS + 1), dice.choice((1, 1, 1, 2, 3)))
-    listed = ",".join(f'"{serial(one)}"' for one in serials)
-    return '/redeem {"desk":%d,"number":%d,"day":"%s","payee":%d,"serials":[%s]}' % (
-        number % 3,
-        number,
-        day,
-        dice.choice(OWNERS),
-        listed,
-    )
-
-
 def requests(count: int, dice: Random) -> list[bytes]:
-    """`count` requests: rates, bonds, and days of redemptions. Some are sent twice."""
-    bonds = ",".join(bond(number, dice) for number in range(1, BONDS + 1))
-    found = [
-        '/rates {"number":1,"rates":[{"from":"2010-05","rate":"2.00"},{"from":"2010-11","rate":"3.50"}]}',
-        '/bonds {"number":2,"bonds":[%s]}' % bonds,
-    ]
-    days = iter(range(1, 29))
+    """`count` requests of random days, each under a number of its own. Some are sent twice."""
+    books, found = desk.Books(), list[bytes]()
     while len(found) < count:
-        day = f"2012-02-{next(days):02}"
-        found.append('/day/open {"number":%d,"day":"%s"}' % (len(found) + 1, day))
-        for _ in range(max(10, count // 5)):
-            found.append(
-                dice.choice(found[2:])
-                if dice.random() < 0.04
-                else redemption(len(found) + 1, day, dice)
-            )
-        found.append('/day/close {"number":%d,"day":"%s"}' % (len(found) + 1, day))
-    return [talk.message("POST " + text) for text in found[:count]]
+        path, value = making.posted(dice, books)
+        value["number"] = len(found) + 1
+        found.append(talk.message(f"POST {path} {desk.compact(value)}"))
+        if dice.random() < 0.04:
+            found[-1] = dice.choice(found)
+        counter.connection(books, found[-1])
+    return found
 
 
 def drop_syncs() -> None:
-    """Let fsync and fdatasync of this process do nothing and return 0, by a filter of its system
-    calls."""
+    """Let fsync and fdatasync of this process do nothing, by a filter of its system calls."""
     mark, *numbers = SYNCS[platform.machine()]
-    words = [
-        (LOAD, 0, 0, 4),
-        (JUMP_IF, 0, 3, mark),
-        (LOAD, 0, 0, 0),
-        *((JUMP_IF, 3 - place, 0, number) for place, number in enumerate(numbers, 1)),
-    ]
-    code = b"".join(
-        struct.pack("=HBBI", *word)
-        for word in [*words, (RETURN, 0, 0, ALLOW), (RETURN, 0, 0, ANSWER_ZERO)]
-    )
+    words = [(LOAD, 0, 0, 4), (JUMP_IF, 0, 3, mark), (LOAD, 0, 0, 0)]
+    words += [(JUMP_IF, 3 - place, 0, number) for place, number in enumerate(numbers, 1)]
+    words += [(RETURN, 0, 0, ALLOW), (RETURN, 0, 0, ANSWER_ZERO)]
+    code = b"".join(struct.pack("=HBBI", *word) for word in words)
     held = ctypes.create_string_buffer(code)
     given = struct.pack("@HP", len(code) // 8, ctypes.addressof(held))
-    libc = ctypes.CDLL(None, use_errno=True)
-    if (
-        libc.prctl(NO_NEW_PRIVILEGES, 1, 0, 0, 0) != 0
-        or libc.prctl(FILTER, 2, ctypes.create_string_buffer(given), 0, 0) != 0
-    ):
+    libc, held_filter = ctypes.CDLL(None), ctypes.create_string_buffer(given)
+    if libc.prctl(NO_NEW_PRIVILEGES, 1, 0, 0, 0) or libc.prctl(FILTER, 2, held_filter, 0, 0):
         os._exit(98)
 
 
@@ -129,12 +75,8 @@ class Applied:
     """`apply`. It ends with its input, and checkpoints the log."""
 
     def __init__(self, path: str, store: str, setup: Setup | None) -> None:
-        self.process = subprocess.Popen(
-            [path, "apply", "--db", store],
-            stdin=subprocess.PIPE,
-            stdout=subprocess.PIPE,
-            preexec_fn=setup,
-        )
+        words, pipe = [path, "apply", "--db", store], subprocess.PIPE
+        self.process = subprocess.Popen(words, stdin=pipe, stdout=pipe, preexec_fn=setup)
 
     def ask(self, message: bytes) -> bytes:
         stdin, stdout = piped(self.process.stdin), piped(self.process.stdout)
@@ -153,11 +95,8 @@ class Served:
 
     def __init__(self, path: str, store: str, setup: Setup | None) -> None:
         port = free_port()
-        self.process = subprocess.Popen(
-            [path, "serve", "--db", store, "--port", str(port)],
-            stdout=subprocess.DEVNULL,
-            preexec_fn=setup,
-        )
+        words, none = [path, "serve", "--db", store, "--port", str(port)], subprocess.DEVNULL
+        self.process = subprocess.Popen(words, stdout=none, preexec_fn=setup)
         until = time.time() + SECONDS
         while True:
             try:
@@ -217,9 +156,8 @@ class Played:
         for place, message in enumerate(asked):
             books, right = judging.delivered(books, message)
             if right != answers[place]:
-                raise Wrong(
-                    f"request {place + 1} was answered {answers[place]!r:.600}, and not {right!r:.600}"
-                )
+                said = f"{answers[place]!r:.600}, and not {right!r:.600}"
+                raise Wrong(f"request {place + 1} was answered {said}")
             self.chain.append(judging.key_of(books))
             self.books[self.chain[-1]] = books
 
@@ -243,9 +181,7 @@ def play(
     setup: Setup | None = None,
 ) -> Played:
     """Send the requests to `apply` and `serve` in turn. The first command meets no store."""
-    answers: list[bytes] = []
-    sent: list[int] = []
-    came: list[int] = []
+    answers, sent, came = list[bytes](), list[int](), list[int]()
     place, turn = 0, 0
     while place < len(messages):
         talked = (Applied, Served)[turn % 2](path, store, setup)

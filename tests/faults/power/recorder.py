@@ -18,20 +18,8 @@ from typing import IO, NoReturn, Sequence
 
 from . import volumes
 
-(
-    GET_ATTRIBUTES,
-    SET_ATTRIBUTES,
-    OPEN,
-    READ,
-    WRITTEN,
-    STATFS,
-    RELEASE,
-    FSYNC,
-    CLOSE,
-    INIT,
-    DESTROY,
-    FALLOCATE,
-) = (3, 4, 14, 15, 16, 17, 18, 20, 25, 26, 38, 43)
+GET_ATTRIBUTES, SET_ATTRIBUTES, OPEN, READ, WRITTEN, STATFS = 3, 4, 14, 15, 16, 17
+RELEASE, FSYNC, CLOSE, INIT, DESTROY, FALLOCATE = 18, 20, 25, 26, 38, 43
 WITHOUT_ANSWER = (2, 36, 42)
 NOT_SERVED = -38
 HEAD, ANSWER, STEP = struct.Struct("=2I2Q4I"), struct.Struct("=IiQ"), struct.Struct("=3Q")
@@ -87,11 +75,8 @@ class Server:
             if kind not in WITHOUT_ANSWER:
                 parts = self.answer(kind, memoryview(asked)[HEAD.size :])
                 error = NOT_SERVED if parts is None else 0
-                parts = parts or []
-                os.writev(
-                    self.device,
-                    [ANSWER.pack(ANSWER.size + sum(map(len, parts)), error, unique), *parts],
-                )
+                size = ANSWER.size + sum(map(len, parts or []))
+                os.writev(self.device, [ANSWER.pack(size, error, unique), *(parts or [])])
             if kind == DESTROY:
                 return
 
@@ -99,46 +84,13 @@ class Server:
         """The parts of an answer; None for a request that a disk doesn't need."""
         if kind == INIT:
             _, _, ahead, flags = struct.unpack_from("=4I", asked)
-            return [
-                struct.pack(
-                    "=4I2H2I2H2I24x",
-                    7,
-                    31,
-                    ahead,
-                    flags & (BIG_WRITES | MAX_PAGES),
-                    16,
-                    12,
-                    MOST_BYTES,
-                    1,
-                    MOST_BYTES // 4096,
-                    0,
-                    0,
-                    0,
-                )
-            ]
+            limits = (16, 12, MOST_BYTES, 1, MOST_BYTES // 4096, 0, 0, 0)
+            known = flags & (BIG_WRITES | MAX_PAGES)
+            return [struct.pack("=4I2H2I2H2I24x", 7, 31, ahead, known, *limits)]
         if kind in (GET_ATTRIBUTES, SET_ATTRIBUTES):
-            return [
-                struct.pack("=Q2I", 3600, 0, 0),
-                struct.pack(
-                    "=6Q10I",
-                    1,
-                    self.size,
-                    self.size // 512,
-                    0,
-                    0,
-                    0,
-                    0,
-                    0,
-                    0,
-                    0o100600,
-                    1,
-                    0,
-                    0,
-                    0,
-                    4096,
-                    0,
-                ),
-            ]
+            sizes = (1, self.size, self.size // 512)
+            found = struct.pack("=3Q36x2I12xI4x", *sizes, 0o100600, 1, 4096)
+            return [struct.pack("=Q2I", 3600, 0, 0), found]
         if kind == OPEN:
             return [struct.pack("=Q2I", 0, DIRECT_IO, 0)]
         if kind == STATFS:
@@ -181,9 +133,7 @@ class Recorder:
         device = os.open("/dev/fuse", os.O_RDWR)
         options = f"fd={device},rootmode=100600,user_id=0,group_id=0"
         if libc.mount(b"power_lost", self.file.encode(), b"fuse", 0, options.encode()) != 0:
-            raise volumes.Failed(
-                f"FUSE can't mount the recorded disk: {os.strerror(ctypes.get_errno())}"
-            )
+            raise volumes.Failed(f"FUSE can't mount it: {os.strerror(ctypes.get_errno())}")
         self.server = os.fork()
         if self.server == 0:
             self.serve(device, image)

@@ -7,19 +7,9 @@ import os
 import subprocess
 import time
 
+NO_LAZY = "lazy_itable_init=0,lazy_journal_init=0,nodiscard"
 MAKERS = {
-    "ext4": (
-        192,
-        [
-            "mkfs.ext4",
-            "-q",
-            "-F",
-            "-b",
-            "4096",
-            "-E",
-            "lazy_itable_init=0,lazy_journal_init=0,nodiscard",
-        ],
-    ),
+    "ext4": (192, ["mkfs.ext4", "-q", "-F", "-b", "4096", "-E", NO_LAZY]),
     "xfs": (320, ["mkfs.xfs", "-q", "-f", "-K"]),
     "btrfs": (256, ["mkfs.btrfs", "-q", "-f", "-K"]),
 }
@@ -27,11 +17,8 @@ MAKERS = {
 # one sector.
 SUPERBLOCKS = {"ext4": (0, 4096), "xfs": (0, 512), "btrfs": (65536, 69632)}
 # What repairs a file system whose superblock was torn.
-REPAIRS = {
-    "ext4": ["e2fsck", "-f", "-y"],
-    "xfs": ["xfs_repair"],
-    "btrfs": ["btrfs", "rescue", "super-recover", "-y"],
-}
+REPAIRS = {"ext4": ["e2fsck", "-f", "-y"], "xfs": ["xfs_repair"]}
+REPAIRS |= {"btrfs": ["btrfs", "rescue", "super-recover", "-y"]}
 SECONDS = 60
 BLOCK = 65536
 PUNCH_HOLE, KEEP_SIZE = 2, 1
@@ -49,15 +36,9 @@ class NotMounted(Exception):
 
 
 def command(*words: str) -> tuple[int, str]:
-    ran = subprocess.run(
-        words,
-        stdout=subprocess.PIPE,
-        stderr=subprocess.STDOUT,
-        text=True,
-        errors="replace",
-        env={**os.environ, "PATH": PLACES},
-    )
-    return ran.returncode, ran.stdout.strip()
+    env, both = {**os.environ, "PATH": PLACES}, subprocess.STDOUT
+    ran = subprocess.run(words, stdout=subprocess.PIPE, stderr=both, env=env)
+    return ran.returncode, ran.stdout.decode(errors="replace").strip()
 
 
 def done(*words: str) -> str:

@@ -16,14 +16,8 @@ from .program import SECONDS, Program, Ran, read_counts
 
 def rates_rows(file: bytes) -> tuple[tuple[int | None, int | None, int | None], ...]:
     rows = [line.split(",") for line in file.decode().splitlines()[1:]]
-    return tuple(
-        (
-            spelling.issue(begins),
-            spelling.rate(rate),
-            spelling.rate(rest[0] if rest and rest[0] else rate),
-        )
-        for begins, rate, *rest in rows
-    )
+    whole = [(begins, rate, (rest and rest[0]) or rate) for begins, rate, *rest in rows]
+    return tuple((spelling.issue(b), spelling.rate(r), spelling.rate(e)) for b, r, e in whole)
 
 
 def bond_rows(
@@ -60,9 +54,7 @@ class Connection:
         """The books after a run that met nothing."""
         heard = judging.follow(many, self.messages, ran.told)
         if ran.status != 0 or ran.faults or not judging.is_ample(heard, self.messages):
-            raise Wrong(
-                f"a run without a fault ended with {ran.status} {ran.faults!r} after {heard}"
-            )
+            raise Wrong(f"without a fault it ended with {ran.status} {ran.faults!r} after {heard}")
         return heard.books
 
 
@@ -76,10 +68,8 @@ class Served(Connection):
         words = [program.path, "serve", "--db", store, "--port", str(port), "--connections", "1"]
         counts = store + ".counts"
         environment = program.environment(store, **hostile)
-        process = subprocess.Popen(
-            words, stdout=subprocess.PIPE, stderr=subprocess.PIPE, env=environment
-        )
-        told = b""
+        pipe, told = subprocess.PIPE, b""
+        process = subprocess.Popen(words, stdout=pipe, stderr=pipe, env=environment)
         client = connected(process, port)
         if client:
             with client:
@@ -87,9 +77,11 @@ class Served(Connection):
                 client.shutdown(sockets.SHUT_WR)
                 told = rest_of(client)
         out, faults = process.communicate(timeout=SECONDS)
-        if told and not out.startswith(b"connection 1: "):
+        has_failed = b"the store failed" in out
+        if told and (b'"StoreFailed"' in told, out[:14]) != (has_failed, b"connection 1: "):
             raise Wrong(f"`serve` told {out!r}")
-        return Ran(process.returncode, told, faults.decode(errors="replace"), read_counts(counts))
+        said = faults.decode(errors="replace").removeprefix(f"listening on port {port}\n")
+        return Ran(process.returncode, told, said, read_counts(counts))
 
 
 def connected(process: subprocess.Popen[bytes], port: int) -> sockets.socket | None:
@@ -151,11 +143,8 @@ class Import:
         raise Wrong(f"an import told {fault!r}")
 
     def replied(self, ran: Ran, many: list[desk.Books]) -> list[desk.Books]:
-        right = [
-            after
-            for after, told, status in map(self.delivered, many)
-            if told == ran.told and ran.status in (status, 3)
-        ]
+        found = map(self.delivered, many)
+        right = [a for a, told, status in found if told == ran.told and ran.status in (status, 3)]
         if not right:
             raise Wrong(f"an import ended with {ran.status}, {ran.told!r} {ran.faults!r}")
         return right
@@ -180,25 +169,16 @@ class Shown:
 
     def text(self, books: desk.Books) -> bytes:
         month = spelling.month(self.month) if self.month else None
-        return (
-            books.export(self.customer)
-            if month is None
-            else books.ask_inventory(self.customer, month)
-        ).encode()
+        if month is None:
+            return books.export(self.customer).encode()
+        return books.ask_inventory(self.customer, month).encode()
 
     def judge(self, ran: Ran, many: list[desk.Books]) -> list[desk.Books]:
-        if (
-            ran.status not in (0, 3)
-            or (ran.status == 3 and ran.faults.strip() not in judging.FAULTS_TOLD)
-            or (ran.status == 0 and ran.faults)
-        ):
+        fault = ran.faults.strip()
+        if ran.status not in (0, 3) or fault not in (judging.FAULTS_TOLD if ran.status else {""}):
             raise Wrong(f"{self.name} ended with {ran.status} {ran.faults!r}")
-        is_whole = ran.status == 0 or ran.faults.strip() == "store: NotWrittenBack"
-        right = [
-            books
-            for books in many
-            if (self.text(books) == ran.told if is_whole else self.text(books).startswith(ran.told))
-        ]
+        size = None if ran.status == 0 or fault == "store: NotWrittenBack" else len(ran.told)
+        right = [books for books in many if self.text(books)[:size] == ran.told]
         if not right:
             raise Wrong(f"{self.name} told {ran.told!r} with {ran.status} {ran.faults!r}")
         return right

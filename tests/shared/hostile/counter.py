@@ -17,9 +17,8 @@ def json_answer(status: int, value: object, closes: bool) -> bytes:
 def fault_answer(code: int, closes: bool, field: str | None = None) -> bytes:
     name = framing.FAULTS.get(code) or decoding.NAMES[code]
     status = {61: 413, 62: 413, 66: 404, 67: 405}.get(code, 400)
-    return json_answer(
-        status, {"code": code, "fault": name, **({"field": field} if field else {})}, closes
-    )
+    named = {"field": field} if field else {}
+    return json_answer(status, {"code": code, "fault": name, **named}, closes)
 
 
 def shown(books: desk.Books, asked: tuple[Any, ...], closes: bool) -> bytes:

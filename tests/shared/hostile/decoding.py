@@ -2,7 +2,6 @@
 route, the method, the body field by field."""
 from __future__ import annotations
 
-import re
 from typing import Any, Callable, Sequence, TypeVar
 
 from . import framing, json_text, spelling
@@ -16,12 +15,9 @@ GETS: dict[str, tuple[tuple[str, Callable[[str], object]], ...]] = {
     "inventory": (("customer", spelling.customer), ("month", spelling.month)),
     "ticket": (("ticket", spelling.ticket),),
     "batch": (("day", spelling.day),),
-    "value": (
-        ("denom", spelling.denomination),
-        ("issued", spelling.issue),
-        ("month", spelling.month),
-    ),
 }
+GETS["value"] = (("denom", spelling.denomination), ("issued", spelling.issue))
+GETS["value"] += (("month", spelling.month),)
 NAMES = {64: "BadJson", 65: "BadField", 66: "NoRoute", 67: "BadMethod"}
 
 
@@ -82,10 +78,8 @@ def only(members: Members, names: Sequence[str]) -> None:
 
 
 def rows_in(members: Members, name: str, row: Callable[[object], T]) -> tuple[T, ...]:
-    return tuple(
-        row(value)
-        for value in field(members, name, lambda value: value if isinstance(value, list) else None)
-    )
+    listed = field(members, name, lambda value: value if isinstance(value, list) else None)
+    return tuple(map(row, listed))
 
 
 def rate_row(value: object) -> tuple[int, int, int | None]:
@@ -125,11 +119,8 @@ def act_in(path: str, members: Members) -> tuple[tuple[Any, ...], tuple[str, ...
     if path != "/redeem":
         return (path.removeprefix("/day/"), day), ("day",)
     payee = field(members, "payee", customer)
-    return ("redeem", day, payee, rows_in(members, "serials", serial_row)), (
-        "day",
-        "payee",
-        "serials",
-    )
+    serials = rows_in(members, "serials", serial_row)
+    return ("redeem", day, payee, serials), ("day", "payee", "serials")
 
 
 def posted(path: str, body: bytes) -> tuple[Any, ...]:
@@ -163,12 +154,8 @@ def call(message: framing.Message) -> tuple[Any, ...]:
             raise Fault(67, None)
         return posted(path, message.body)
     name, *parts = path[1:].split("/")
-    if (
-        not re.match("/", path)
-        or name not in GETS
-        or len(parts) != len(GETS[name])
-        or not all(parts)
-    ):
+    is_known = path.startswith("/") and len(parts) == len(GETS.get(name, ()))
+    if name not in GETS or not is_known or not all(parts):
         raise Fault(66, None)
     if message.method != b"GET":
         raise Fault(67, None)

@@ -8,8 +8,8 @@ import json
 from typing import Any, Iterable, Mapping, Sequence, TypedDict
 
 from .. import exact
-
 from . import spelling
+from .spelling import Serial, day_text, money, month_text, rate_text, serial_text
 
 #: The desk and the number of a request.
 Key = tuple[int, int]
@@ -30,56 +30,19 @@ class Ticket(TypedDict):
     ticket: int
     day: int
     payee: int
-    lines: list[tuple[spelling.Serial, int]]
+    lines: list[tuple[Serial, int]]
 
 
 MOST_ROWS, MOST_SERIALS, MOST_TICKETS = 500, 100, 1_000
-NAMES = {
-    10: "NumberReused",
-    11: "Empty",
-    12: "TooMany",
-    13: "Repeated",
-    14: "SameCoowner",
-    20: "NotAnnouncementMonth",
-    21: "RateConflict",
-    30: "NoRate",
-    31: "SerialConflict",
-    40: "DayOpen",
-    41: "DayNotLater",
-    42: "NoOpenDay",
-    43: "DayIsOther",
-    44: "DayFull",
-    50: "UnknownSerial",
-    51: "NotPayee",
-    52: "AlreadyPaid",
-    53: "NotIssued",
-    54: "NotEligible",
-}
+NAMES = {10: "NumberReused", 11: "Empty", 12: "TooMany", 13: "Repeated", 14: "SameCoowner"}
+NAMES |= {20: "NotAnnouncementMonth", 21: "RateConflict", 30: "NoRate", 31: "SerialConflict"}
+NAMES |= {40: "DayOpen", 41: "DayNotLater", 42: "NoOpenDay", 43: "DayIsOther", 44: "DayFull"}
+NAMES |= {50: "UnknownSerial", 51: "NotPayee", 52: "AlreadyPaid", 53: "NotIssued"}
+NAMES |= {54: "NotEligible"}
 NOTES = {exact.PLAIN: "", exact.NI: "NI", exact.NE: "NE", exact.P5: "P5", exact.MA: "MA"}
-COLUMNS = (
-    (13, "<"),
-    (6, "<"),
-    (6, ">"),
-    (7, "<"),
-    (7, "<"),
-    (7, "<"),
-    (12, ">"),
-    (14, ">"),
-    (6, ">"),
-    (14, ">"),
-)
-HEADINGS = (
-    "Serial",
-    "Series",
-    "Denom",
-    "Issued",
-    "Next",
-    "Final",
-    "Price",
-    "Interest",
-    "Rate",
-    "Value",
-)
+COLUMNS = "<13 <6 >6 <7 <7 <7 >12 >14 >6 >14".split()
+HEADINGS = "Serial Series Denom Issued Next Final Price Interest Rate Value".split()
+MONTHS, SUMS = ("issued", "next", "final"), ("price", "interest", "value")
 
 
 class Refused(Exception):
@@ -107,7 +70,7 @@ def exact_row(dollars: int, issued: int, month: int, terms: Terms) -> exact.Row:
     return exact.row(dollars, exact.number_of(issued), exact.number_of(month), *terms)
 
 
-def first_twice(keys: Iterable[spelling.Serial]) -> spelling.Serial | None:
+def first_twice(keys: Iterable[Serial]) -> Serial | None:
     """The first key that stands earlier in the list, or None."""
     seen = set()
     for key in keys:
@@ -127,8 +90,8 @@ def count_is_right(count: int, most: int) -> None:
 class Books:
     def __init__(self) -> None:
         self.rates: dict[int, Terms] = {}
-        self.bonds: dict[spelling.Serial, Bond] = {}
-        self.paid_on: dict[spelling.Serial, int] = {}
+        self.bonds: dict[Serial, Bond] = {}
+        self.paid_on: dict[Serial, int] = {}
         self.day: int | None = None
         self.last_day: int | None = None
         self.tickets: list[Ticket] = []
@@ -156,11 +119,11 @@ class Books:
         count_is_right(len(rows), MOST_ROWS)
         for begins, *_ in rows:
             if not is_announced(begins):
-                raise Refused(20, month=spelling.month_text(begins))
+                raise Refused(20, month=month_text(begins))
         known = dict(self.rates)
         for begins, rate, extension in rows:
             if known.setdefault(begins, (rate, extension)) != (rate, extension):
-                raise Refused(21, month=spelling.month_text(begins))
+                raise Refused(21, month=month_text(begins))
         return self.added(known, "rates", len(rows))
 
     def added(self, known: Mapping[Any, object], name: str, count: int) -> Reply:
@@ -168,22 +131,22 @@ class Books:
         setattr(self, name, known)
         return {"new": new, "same": count - new}
 
-    def do_bonds(self, rows: Sequence[tuple[spelling.Serial, int, int, int, int | None]]) -> Reply:
+    def do_bonds(self, rows: Sequence[tuple[Serial, int, int, int, int | None]]) -> Reply:
         count_is_right(len(rows), MOST_ROWS)
         twice = first_twice(row[0] for row in rows)
         if twice:
-            raise Refused(13, serial=spelling.serial_text(twice))
+            raise Refused(13, serial=serial_text(twice))
         for serial, _, _, owner, coowner in rows:
             if owner == coowner:
-                raise Refused(14, serial=spelling.serial_text(serial))
+                raise Refused(14, serial=serial_text(serial))
         for serial, _, issued, *_ in rows:
             if period(issued) not in self.rates:
-                raise Refused(30, serial=spelling.serial_text(serial))
+                raise Refused(30, serial=serial_text(serial))
         known = dict(self.bonds)
         for serial, dollars, issued, owner, coowner in rows:
             bond = (dollars, issued, owner, coowner)
             if known.setdefault(serial, bond) != bond:
-                raise Refused(31, serial=spelling.serial_text(serial))
+                raise Refused(31, serial=serial_text(serial))
         return self.added(known, "bonds", len(rows))
 
     def do_open(self, day: int) -> Reply:
@@ -192,7 +155,7 @@ class Books:
         if self.last_day is not None and day <= self.last_day:
             raise Refused(41)
         self.day = day
-        return {"opened": spelling.day_text(day)}
+        return {"opened": day_text(day)}
 
     def day_is(self, day: int) -> None:
         if self.day is None:
@@ -203,9 +166,9 @@ class Books:
     def todays(self) -> list[Ticket]:
         return [ticket for ticket in self.tickets if ticket["day"] == self.day]
 
-    def payment(self, serial: spelling.Serial, payee: int) -> int:
+    def payment(self, serial: Serial, payee: int) -> int:
         """What a bond pays on the open day."""
-        named = {"serial": spelling.serial_text(serial)}
+        named = {"serial": serial_text(serial)}
         if serial not in self.bonds:
             raise Refused(50, **named)
         dollars, issued, owner, coowner = self.bonds[serial]
@@ -221,11 +184,11 @@ class Books:
             raise Refused(54, **named)
         return exact_row(dollars, issued, month, self.rates[period(issued)])[0]
 
-    def do_redeem(self, day: int, payee: int, serials: Sequence[spelling.Serial]) -> Reply:
+    def do_redeem(self, day: int, payee: int, serials: Sequence[Serial]) -> Reply:
         count_is_right(len(serials), MOST_SERIALS)
         twice = first_twice(serials)
         if twice:
-            raise Refused(13, serial=spelling.serial_text(twice))
+            raise Refused(13, serial=serial_text(twice))
         self.day_is(day)
         if len(self.todays()) >= MOST_TICKETS:
             raise Refused(44)
@@ -256,7 +219,7 @@ class Books:
         terms = self.rates.get(period(issued))
         return None if terms is None else row_told(columns(dollars, issued, month, terms))
 
-    def unpaid(self, owner: int) -> list[tuple[spelling.Serial, int, int, int, int | None]]:
+    def unpaid(self, owner: int) -> list[tuple[Serial, int, int, int, int | None]]:
         return sorted(
             (serial, *bond)
             for serial, bond in self.bonds.items()
@@ -273,7 +236,8 @@ class Books:
     def export(self, owner: int) -> str:
         text = "serial,denom,issued,owner,coowner\n"
         for serial, dollars, issued, _, coowner in self.unpaid(owner):
-            text += f"{spelling.serial_text(serial)},{dollars},{spelling.month_text(issued)},{owner},{coowner or ''}\n"
+            row = (serial_text(serial), dollars, month_text(issued), owner, coowner or "")
+            text += ",".join(map(str, row)) + "\n"
         return text
 
 
@@ -282,113 +246,62 @@ def refusal(refused: Refused) -> Reply:
 
 
 def ticket_told(ticket: Ticket) -> Reply:
-    lines = [
-        {"serial": spelling.serial_text(serial), "paid": spelling.money(cents)}
-        for serial, cents in ticket["lines"]
-    ]
-    total = spelling.money(sum(cents for _, cents in ticket["lines"]))
-    return {
-        "ticket": ticket["ticket"],
-        "day": spelling.day_text(ticket["day"]),
-        "payee": ticket["payee"],
-        "lines": lines,
-        "total": total,
-    }
+    lines = [{"serial": serial_text(one), "paid": money(cents)} for one, cents in ticket["lines"]]
+    total = money(sum(cents for _, cents in ticket["lines"]))
+    return {**ticket, "day": day_text(ticket["day"]), "lines": lines, "total": total}
 
 
 def batch_told(day: int, batch: tuple[int, int, int]) -> Reply:
-    return {
-        "day": spelling.day_text(day),
-        "tickets": batch[0],
-        "bonds": batch[1],
-        "total": spelling.money(batch[2]),
-    }
+    tickets, bonds, total = batch
+    return {"day": day_text(day), "tickets": tickets, "bonds": bonds, "total": money(total)}
 
 
 def columns(dollars: int, issued: int, month: int, terms: Terms) -> Columns:
     """The row of the calculator: what a month shows of a bond."""
     _, price, interest, value, _, note, *_ = exact_row(dollars, issued, month, terms)
     age = month - issued
-    is_earning, is_issued = 0 <= age < 360, age >= 0
-    return {
-        "denom": dollars,
-        "issued": issued,
-        "next": month + 1 if is_earning else None,
-        "final": issued + 360 if is_issued else None,
-        "price": price,
-        "interest": interest,
-        "rate": terms[0 if age < 240 else 1] if is_earning else None,
-        "value": value,
-        "note": NOTES[note],
-    }
+    is_earning = 0 <= age < 360
+    found: Columns = {"denom": dollars, "issued": issued, "next": month + 1 if is_earning else None}
+    found |= {"final": issued + 360 if age >= 0 else None, "note": NOTES[note]}
+    found |= {"rate": terms[0 if age < 240 else 1] if is_earning else None}
+    return {**found, "price": price, "interest": interest, "value": value}
 
 
 def row_told(row: Columns) -> dict[str, object]:
-    months = {
-        name: "" if row[name] is None else spelling.month_text(row[name])
-        for name in ("issued", "next", "final")
-    }
-    sums = {name: spelling.money(row[name]) for name in ("price", "interest", "value")}
-    return {
-        "denom": row["denom"],
-        "note": row["note"],
-        "rate": "" if row["rate"] is None else spelling.rate_text(row["rate"]),
-        **months,
-        **sums,
-    }
+    months = {name: "" if row[name] is None else month_text(row[name]) for name in MONTHS}
+    rate = "" if row["rate"] is None else rate_text(row["rate"])
+    return {**row, "rate": rate, **months, **{name: money(row[name]) for name in SUMS}}
 
 
 def sheet_line(cells: Sequence[str], note: str) -> str:
-    text = " ".join(format(cell, f"{side}{width}") for cell, (width, side) in zip(cells, COLUMNS))
+    text = " ".join(format(cell, form) for cell, form in zip(cells, COLUMNS))
     return text + (" " + note if note else "") + "\n"
 
 
-def sheet(rows: Sequence[tuple[spelling.Serial, Columns]]) -> str:
-    text, totals = sheet_line(HEADINGS, "Note"), {"price": 0, "interest": 0, "value": 0}
+def sheet(rows: Sequence[tuple[Serial, Columns]]) -> str:
+    text, totals = sheet_line(HEADINGS, "Note"), dict.fromkeys(SUMS, 0)
     for serial, row in rows:
-        months = [
-            "" if row[name] is None else spelling.sheet_month_text(row[name])
-            for name in ("issued", "next", "final")
-        ]
-        rate = "" if row["rate"] is None else spelling.rate_text(row["rate"])
-        sums = [spelling.money(row[name]) for name in ("price", "interest", "value")]
-        text += sheet_line(
-            [
-                spelling.serial_text(serial),
-                "EE",
-                str(row["denom"]),
-                *months,
-                *sums[:2],
-                rate,
-                sums[2],
-            ],
-            row["note"],
-        )
-        for name in totals:
-            totals[name] += row[name]
-    sums = [spelling.money(totals[name]) for name in ("price", "interest", "value")]
-    return text + sheet_line(["Total", "", "", "", "", "", *sums[:2], "", sums[2]], "")
-
-
-# ---- the rows of a store
+        ms = ["" if row[name] is None else spelling.sheet_month_text(row[name]) for name in MONTHS]
+        rate = "" if row["rate"] is None else rate_text(row["rate"])
+        *sums, value = (money(row[name]) for name in SUMS)
+        cells = [serial_text(serial), "EE", str(row["denom"]), *ms, *sums, rate, value]
+        text += sheet_line(cells, row["note"])
+        totals = {name: totals[name] + row[name] for name in SUMS}
+    *sums, value = map(money, totals.values())
+    return text + sheet_line(["Total", *[""] * 5, *sums, "", value], "")
 
 
 def rate_named(row: tuple[int, int, int]) -> dict[str, object]:
     begins, rate, extension = row
-    named = {} if rate == extension else {"extension": spelling.rate_text(extension)}
-    return {"from": spelling.month_text(begins), "rate": spelling.rate_text(rate), **named}
+    named = {} if rate == extension else {"extension": rate_text(extension)}
+    return {"from": month_text(begins), "rate": rate_text(rate), **named}
 
 
-def bond_named(row: tuple[spelling.Serial, int, int, int, int | None]) -> dict[str, object]:
+def bond_named(row: tuple[Serial, int, int, int, int | None]) -> dict[str, object]:
     serial, dollars, issued, owner, coowner = row
-    named = {} if coowner is None else {"coowner": coowner}
-    return {
-        "serial": spelling.serial_text(serial),
-        "denom": dollars,
-        "issued": spelling.month_text(issued),
-        "owner": owner,
-        **named,
-    }
+    named: dict[str, object] = {} if coowner is None else {"coowner": coowner}
+    named |= {"serial": serial_text(serial), "denom": dollars, "issued": month_text(issued)}
+    return {**named, "owner": owner}
 
 
 def act_named(act: Act) -> dict[str, object]:
@@ -399,46 +312,32 @@ def act_named(act: Act) -> dict[str, object]:
     if name == "bonds":
         return {"act": name, "bonds": [bond_named(row) for row in parts[0]]}
     if name != "redeem":
-        return {"act": name, "day": spelling.day_text(parts[0])}
+        return {"act": name, "day": day_text(parts[0])}
     day, payee, serials = parts
-    return {
-        "act": name,
-        "day": spelling.day_text(day),
-        "payee": payee,
-        "serials": [spelling.serial_text(serial) for serial in serials],
-    }
+    named = [serial_text(serial) for serial in serials]
+    return {"act": name, "day": day_text(day), "payee": payee, "serials": named}
 
 
 def rows_of(books: Books) -> Rows:
     """The rows of each table of version 2, in order of key."""
     first = spelling.FIRST_MONTH
-    total = {
-        ticket["ticket"]: sum(cents for _, cents in ticket["lines"]) for ticket in books.tickets
-    }
-    return {
+    rates, tickets = sorted(books.rates.items()), books.tickets
+    found: Rows = {
         "desk": [(1, 2, books.day, books.last_day)],
-        "rates": [(begins - first, terms[0]) for begins, terms in sorted(books.rates.items())],
-        "extensions": [
-            (begins - first, terms[1])
-            for begins, terms in sorted(books.rates.items())
-            if terms[0] != terms[1]
-        ],
-        "bonds": [
-            (*serial, bond[0], bond[1] - first, *bond[2:], books.paid_on.get(serial))
-            for serial, bond in sorted(books.bonds.items())
-        ],
-        "tickets": [
-            (t["ticket"], t["day"], t["payee"], len(t["lines"]), total[t["ticket"]])
-            for t in books.tickets
-        ],
-        "paid": [
-            (t["ticket"], place, *serial, cents)
-            for t in books.tickets
-            for place, (serial, cents) in enumerate(t["lines"], 1)
-        ],
+        "rates": [(begins - first, rate) for begins, (rate, _) in rates],
+        "extensions": [(at - first, more) for at, (rate, more) in rates if rate != more],
         "batches": [(day, *batch) for day, batch in sorted(books.batches.items())],
-        "answers": [
-            (*key, compact(act_named(act)), compact(reply))
-            for key, (act, reply) in sorted(books.kept.items())
-        ],
     }
+    found["bonds"] = [
+        (*serial, bond[0], bond[1] - first, *bond[2:], books.paid_on.get(serial))
+        for serial, bond in sorted(books.bonds.items())
+    ]
+    found["tickets"] = [
+        (t["ticket"], t["day"], t["payee"], len(t["lines"]), sum(cents for _, cents in t["lines"]))
+        for t in tickets
+    ]
+    lines = ((t["ticket"], *line) for t in tickets for line in enumerate(t["lines"], 1))
+    found["paid"] = [(ticket, place, *serial, cents) for ticket, place, (serial, cents) in lines]
+    kept = sorted(books.kept.items())
+    found["answers"] = [(*key, compact(act_named(a)), compact(reply)) for key, (a, reply) in kept]
+    return found

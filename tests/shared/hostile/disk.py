@@ -119,15 +119,9 @@ def mixed(dice: random.Random, old: bytes | bytearray, new: bytes, unit: int) ->
     """Of each unit of bytes the old or the new ones."""
     count = -(-len(new) // unit)
     choice = dice.randbytes(count).translate(ALL_OR_NONE)
-    mask = (
-        choice
-        if unit == 1
-        else b"".join(choice[place : place + 1] * unit for place in range(count))[: len(new)]
-    )
-    before, after = int.from_bytes(old, "little"), int.from_bytes(new, "little")
-    return (before ^ ((before ^ after) & int.from_bytes(mask, "little"))).to_bytes(
-        len(new), "little"
-    )
+    mask = b"".join(choice[at : at + 1] * unit for at in range(count))[: len(new)]
+    before, after, bits = (int.from_bytes(part, "little") for part in (old, new, mask))
+    return (before ^ ((before ^ after) & bits)).to_bytes(len(new), "little")
 
 
 def torn_mixed(dice: random.Random, unit: int) -> Take:
@@ -194,15 +188,10 @@ class Disk:
         if not all(file.is_sure for file in self.files.values()):
             for missing in (DB, LOG):
                 if not self.files[missing].is_sure:
-                    found.append(
-                        tuple(
-                            None if on == missing else content
-                            for on, content in zip(self.files, found[0])
-                        )
-                    )
-            found.append(
-                tuple(file.synced if file.is_sure else None for file in self.files.values())
-            )
+                    rest = zip(self.files, found[0])
+                    found.append(tuple(None if on == missing else text for on, text in rest))
+            sure = (file.synced if file.is_sure else None for file in self.files.values())
+            found.append(tuple(sure))
         return found
 
     def subset_images(self) -> Iterator[Image]:
@@ -214,22 +203,15 @@ class Disk:
             other = self.files[LOG if on == DB else DB]
             for chosen in subsets(len(file.steps), LAST_FEW):
                 content = file.outcome(takes_of(chosen))
-                for beside in (other.seen(), other.synced)[
-                    : 1 if other.seen() == other.synced else 2
-                ]:
+                for beside in dict.fromkeys((other.seen(), other.synced)):
                     yield (content, beside) if on == DB else (beside, content)
 
     def torn_takes(self, file: File, dice: random.Random) -> Iterator[Take]:
         """Ways in which the last step of a file is torn."""
         last = file.steps[-1]
         if last.kind == WRITE:
-            edges = {
-                1,
-                last.size // 2,
-                last.size - 1,
-                SECTOR * (last.size // (2 * SECTOR)),
-                dice.randrange(last.size + 1),
-            }
+            edges = {1, last.size // 2, last.size - 1, SECTOR * (last.size // (2 * SECTOR))}
+            edges.add(dice.randrange(last.size + 1))
             yield from (torn_prefix(edge) for edge in sorted(edges) if 0 < edge < last.size)
         yield from (torn_mixed(dice, unit) for unit in (SECTOR, SECTOR, 1, 24))
         yield torn_garbage(dice, len(file.synced or b""))
@@ -249,34 +231,19 @@ class Disk:
 
     def random_images(self, dice: random.Random, count: int) -> Iterator[Image]:
         """Each unsynced step of each file taken, lost or torn by chance."""
+        torn = (torn_mixed(dice, SECTOR), torn_mixed(dice, 1))
+
+        def outcome(file: File) -> bytes:
+            ways = (kept, kept, lost, *torn, torn_garbage(dice, len(file.synced or b"")))
+            return file.outcome(dice.choices(ways, k=len(file.steps)))
+
         for _ in range(count):
-            yield tuple(
-                file.outcome(
-                    [
-                        dice.choice(
-                            (
-                                kept,
-                                kept,
-                                lost,
-                                torn_mixed(dice, SECTOR),
-                                torn_mixed(dice, 1),
-                                torn_garbage(dice, len(file.synced or b"")),
-                            )
-                        )
-                        for _ in file.steps
-                    ]
-                )
-                for file in self.files.values()
-            )
+            yield tuple(map(outcome, self.files.values()))
 
     def images(self, dice: random.Random) -> tuple[list[Image], list[Image]]:
         """Images that a crash now may leave: what is always tried, and what may be chosen from."""
         if any(file.synced is None for file in self.files.values()):
             return self.plain_images(), []
         steps = sum(len(file.steps) for file in self.files.values())
-        more = [
-            *self.subset_images(),
-            *self.torn_images(dice),
-            *self.random_images(dice, 12 if steps > 1 else 0),
-        ]
-        return self.plain_images(), more
+        more = [*self.subset_images(), *self.torn_images(dice)]
+        return self.plain_images(), more + [*self.random_images(dice, 12 if steps > 1 else 0)]

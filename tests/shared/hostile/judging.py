@@ -78,20 +78,15 @@ def unserved(
     if told.startswith(counter.NO_MEMORY, at):
         return "no_memory", many, len(counter.NO_MEMORY)
     if told.startswith(counter.STORE_FAILED, at):
-        return (
-            "store_failed",
-            distinct(many + [delivered(books, message)[0] for books in many]),
-            len(counter.STORE_FAILED),
-        )
+        after = distinct(many + [delivered(books, message)[0] for books in many])
+        return "store_failed", after, len(counter.STORE_FAILED)
     return None, many, 0
 
 
 def is_front(many: list[desk.Books], message: framing.Message, rest: bytes) -> bool:
     """Whether what is left is a front of the next answer, and not all of it."""
-    rights = [delivered(books, message)[1] for books in many] + [
-        counter.NO_MEMORY,
-        counter.STORE_FAILED,
-    ]
+    rights = [delivered(books, message)[1] for books in many]
+    rights += [counter.NO_MEMORY, counter.STORE_FAILED]
     return any(right.startswith(rest) and len(rest) < len(right) for right in rights)
 
 
@@ -105,13 +100,11 @@ def follow(many: Iterable[desk.Books], messages: list[framing.Message], told: by
             word, found, length = unserved(heard.books, message, told, at)
             if word is None:
                 if not is_front(heard.books, message, told[at:]):
-                    raise Wrong(
-                        f"answer {heard.answered + 1} is {told[at:][:600]!r}, and not {delivered(heard.books[0], message)[1][:600]!r}"
-                    )
-                heard.is_cut = True
-                heard.books = distinct(
-                    heard.books + [delivered(books, message)[0] for books in heard.books]
-                )
+                    right = delivered(heard.books[0], message)[1][:600]
+                    found_here = f"answer {heard.answered + 1} is {told[at:][:600]!r}"
+                    raise Wrong(f"{found_here}, and not {right!r}")
+                after = [delivered(books, message)[0] for books in heard.books]
+                heard.is_cut, heard.books = True, distinct(heard.books + after)
                 return heard
             setattr(heard, word, getattr(heard, word) + 1)
         heard.books = found
@@ -136,12 +129,8 @@ def ended_rightly(ran: Ran, heard: Heard, messages: list[framing.Message]) -> No
     if ran.status != 3 or fault not in FAULTS_TOLD:
         raise Wrong(f"status {ran.status}, told {fault!r}")
     if (fault == "store: StoreFailed") != (heard.store_failed > 0):
-        raise Wrong(
-            f"{fault!r} after {heard.store_failed} answers that the store failed, and {heard.answered} in all"
-        )
-    if fault == "store: NotWrittenBack" and not (
-        heard.answered == len(messages) and heard.store_failed == 0
-    ):
+        raise Wrong(f"{fault!r} after {heard}")
+    if fault == "store: NotWrittenBack" and heard.answered != len(messages):
         raise Wrong(f"{fault!r} after {heard}")
 
 
@@ -149,9 +138,8 @@ def shows_books(many: list[desk.Books], found_rows: store.Rows, what: str) -> li
     """The books whose rows the store has, of those that may stand."""
     right = [books for books in many if desk.rows_of(books) == found_rows]
     if not right:
-        raise Wrong(
-            f"{what}: no books that may stand have these rows; {store.difference(found_rows, desk.rows_of(many[-1]))}"
-        )
+        difference = store.difference(found_rows, desk.rows_of(many[-1]))
+        raise Wrong(f"{what}: no books that may stand have these rows; {difference}")
     return right
 
 

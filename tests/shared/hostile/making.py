@@ -19,14 +19,14 @@ LAST_DAY = spelling.day("2199-01-01") or 0
 
 
 def serials(dice: random.Random) -> str:
-    return (
-        f"{dice.choice('AKLZ')}{dice.choice((1, 2, 3, 4, 9_999_999_999, dice.randrange(5, 200)))}EE"
-    )
+    number = dice.choice((1, 2, 3, 4, 9_999_999_999, dice.randrange(5, 200)))
+    return f"{dice.choice('AKLZ')}{number}EE"
 
 
 def respelled_serial(dice: random.Random, text: str) -> str:
     letter, digits = text[0], text[1:-2]
-    return f"{letter}{dice.choice(('', '-'))}{digits.rjust(dice.choice((0, 4, 10)), '0')}{dice.choice(('', '-'))}EE"
+    one, two = dice.choices(("", "-"), k=2)
+    return f"{letter}{one}{digits.rjust(dice.choice((0, 4, 10)), '0')}{two}EE"
 
 
 def respelled_month(dice: random.Random, text: str) -> str:
@@ -71,11 +71,8 @@ def day_for(dice: random.Random, books: desks.Books) -> str:
 
 def posted(dice: random.Random, books: desks.Books) -> tuple[str, dict[str, object]]:
     """A path and a body, which is often one that the books take."""
-    kind = dice.choice(
-        ("rates", "bonds", "bonds", "bonds", "day/open")
-        + ("redeem",) * 7
-        + (("day/close",) if dice.random() < 0.5 else ())
-    )
+    kinds = ["rates", "bonds", "bonds", "bonds", "day/open", *["redeem"] * 7]
+    kind = dice.choice([*kinds, "day/close"] if dice.random() < 0.5 else kinds)
     if books.day is None and dice.random() < 0.4:
         kind = "day/open"
     body = {"number": dice.choice(NUMBERS) if dice.random() < 0.25 else 1000 + len(books.kept)}
@@ -90,17 +87,9 @@ def posted(dice: random.Random, books: desks.Books) -> tuple[str, dict[str, obje
     if kind == "redeem":
         known = [spelling.serial_text(serial) for serial in books.bonds]
         payee = dice.choice(OWNERS)
-        mine = [
-            spelling.serial_text(serial)
-            for serial, bond in books.bonds.items()
-            if payee in bond[2:] and serial not in books.paid_on
-        ]
-        named = (
-            dice.choice((mine, mine, mine, known, ["A1EE", "Z9EE", "K2EE"])) or known or ["A1EE"]
-        )
-        body["payee"] = payee
-        body["serials"] = [
-            respelled_serial(dice, dice.choice(named))
-            for _ in range(dice.choice((0, 1, 1, 1, 2, 3)))
-        ]
+        unpaid = [one for one, bond in books.bonds.items() if payee in bond[2:]]
+        mine = [spelling.serial_text(one) for one in unpaid if one not in books.paid_on]
+        some = dice.choice((mine, mine, mine, known, ["A1EE", "Z9EE", "K2EE"])) or known or ["A1EE"]
+        named = dice.choices(some, k=dice.choice((0, 1, 1, 1, 2, 3)))
+        body |= {"payee": payee, "serials": [respelled_serial(dice, one) for one in named]}
     return "/" + kind, body

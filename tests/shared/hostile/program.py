@@ -50,31 +50,11 @@ class Program:
         os.mkdir(folder)
         return os.path.join(folder, "day.db")
 
-    def environment(
-        self,
-        store: str,
-        fault: str | None = None,
-        refuse: str | None = None,
-        record: str | None = None,
-        plant: str | None = None,
-        file: str | None = None,
-    ) -> dict[str, str]:
-        wanted = {
-            "LD_PRELOAD": self.shim,
-            "HOSTILE_STORE": store,
-            "HOSTILE_COUNTS": store + ".counts",
-        }
-        given = {
-            "HOSTILE_FAULT": fault,
-            "HOSTILE_REFUSE": refuse,
-            "HOSTILE_RECORD": record,
-            "HOSTILE_PLANT": plant,
-            "HOSTILE_FILE": file,
-        }
-        for name, value in given.items():
-            if value:
-                wanted[name] = value
-        return wanted
+    def environment(self, store: str, **hostile: str | None) -> dict[str, str]:
+        """What shim.c reads: `fault`, `refuse`, `record`, `plant` and `file`, if they are given."""
+        wanted = {f"HOSTILE_{name.upper()}": value for name, value in hostile.items() if value}
+        wanted |= {"LD_PRELOAD": self.shim, "HOSTILE_STORE": store}
+        return {**wanted, "HOSTILE_COUNTS": store + ".counts"}
 
     def run(
         self,
@@ -90,21 +70,14 @@ class Program:
         counts = store + ".counts"
         if os.path.exists(counts):
             os.remove(counts)
-        environment = self.environment(store, **hostile) if shimmed else {}
+        env, line = self.environment(store, **hostile) if shimmed else {}, [self.path, *words]
+        more: dict[str, Any] = {"env": env, "timeout": SECONDS, "preexec_fn": limit}
         try:
-            ran = subprocess.run(
-                [self.path, *words],
-                input=stream,
-                capture_output=True,
-                timeout=SECONDS,
-                env=environment,
-                preexec_fn=limit,
-            )
+            ran = subprocess.run(line, input=stream, capture_output=True, **more)
         except subprocess.TimeoutExpired:
             return Ran(-99, b"", f"didn't end within {SECONDS} seconds", read_counts(counts))
-        return Ran(
-            ran.returncode, ran.stdout, ran.stderr.decode(errors="replace"), read_counts(counts)
-        )
+        said = ran.stderr.decode(errors="replace")
+        return Ran(ran.returncode, ran.stdout, said, read_counts(counts))
 
     def apply(self, store: str, stream: bytes, **hostile: Any) -> Ran:
         return self.run(store, ["apply", "--db", store], stream, **hostile)

@@ -28,14 +28,14 @@ def come_back(
     scene: Scene,
     path: str,
     many: list[desk.Books],
-    is_at_rest: bool,
+    at_rest: bool,
     forgets: bool = False,
 ) -> None:
     """What the store has, and then the same requests again. One that isn't at rest is brought to
     it by another command; `forgets` loses the log before that."""
     if forgets and os.path.exists(store.log_of(path)):
         os.remove(store.log_of(path))
-    if not is_at_rest:
+    if not at_rest:
         many = judging.exports_one(many, program.export(path), "the next command")
     many = judging.shows_books(many, store.rows(path), "before the same requests again")
     ran = scene.command.run(program, path)

@@ -37,10 +37,8 @@ def first_version(program: Program, name: str, with_extensions: bool) -> tuple[s
     """A store of version 1, and its books."""
     path = program.place(name)
     store.make_version_one(path, with_extensions)
-    books = judging.start(
-        [talk.texts("FIVE")["FIVE"]] + ([talk.texts("NAMED")["NAMED"]] if with_extensions else [])
-    )
-    return path, books
+    named = [talk.texts("NAMED")["NAMED"]] if with_extensions else []
+    return path, judging.start([talk.texts("FIVE")["FIVE"], *named])
 
 
 def written(program: Program, name: str, file: bytes) -> str:
@@ -60,14 +58,8 @@ def connections(program: Program) -> list[Scene]:
     scenes = [Scene("new", None, desk.Books(), commands.Connection(day))]
     at_rest = made(program, "rest", begun)
     scenes.append(Scene("at rest", at_rest, start, commands.Connection(day)))
-    scenes.append(
-        Scene(
-            "with a log",
-            made(program, "logged", begun, "truncate log 1 1 e 5"),
-            start,
-            commands.Connection(day),
-        )
-    )
+    logged = made(program, "logged", begun, "truncate log 1 1 e 5")
+    scenes.append(Scene("with a log", logged, start, commands.Connection(day)))
     for name, with_extensions in (("version 1", True), ("version 1 without extensions", False)):
         path, books = first_version(program, name.replace(" ", "_"), with_extensions)
         talked = talk.stream(talk.texts("FIVE")["FIVE"] + earlier["NAMED"] + earlier["OTHER"])
@@ -79,23 +71,18 @@ def connections(program: Program) -> list[Scene]:
 def files(program: Program) -> list[Scene]:
     """Imports into a new store and into one with rates, an export and a sheet."""
     days = talk.texts("BEGUN")
-    rates, bonds = written(program, "rates.csv", RATES_FILE), written(
-        program, "bonds.csv", BONDS_FILE
-    )
+    rates = written(program, "rates.csv", RATES_FILE)
+    bonds = written(program, "bonds.csv", BONDS_FILE)
     with_rates = made(program, "rated", talk.exchanges(days["BEGUN"])[0][0])
     begun, start = made(program, "shown", talk.stream(days["BEGUN"])), judging.start(
         [days["BEGUN"]]
     )
     rated = desk.Books()
     rated.deliver((0, 1), ("rates", commands.rates_rows(RATES_FILE)))
+    second = commands.Import("inventory", bonds, BONDS_FILE, 2, 3)
     return [
         Scene("import rates", None, desk.Books(), commands.Import("rates", rates, RATES_FILE, 1)),
-        Scene(
-            "import inventory",
-            with_rates,
-            rated,
-            commands.Import("inventory", bonds, BONDS_FILE, 2, 3),
-        ),
+        Scene("import inventory", with_rates, rated, second),
         Scene("export", begun, start, commands.Shown(7)),
         Scene("sheet", begun, start, commands.Shown(7, "2012-02")),
     ]

@@ -55,15 +55,9 @@ def rows(store: str, with_log: bool = False) -> Rows:
     try:
         base = sqlite3.connect(looked_at)
         try:
-            there = {
-                name
-                for (name,) in base.execute("SELECT name FROM sqlite_master WHERE type = 'table'")
-            }
-            return {
-                table: base.execute(query).fetchall()
-                for table, query in ORDERS.items()
-                if table in there
-            }
+            found = base.execute("SELECT name FROM sqlite_master WHERE type = 'table'")
+            there = {name for (name,) in found}
+            return {name: base.execute(ORDERS[name]).fetchall() for name in ORDERS if name in there}
         finally:
             base.close()
     except sqlite3.DatabaseError as error:
@@ -98,11 +92,7 @@ def make_version_one(store: str, with_extensions: bool) -> None:
     remove(store)
     base = sqlite3.connect(store, isolation_level=None)
     base.execute("PRAGMA journal_mode = WAL")
-    names = (
-        ("SEVEN_TABLES", "EXTENSIONS", "ROWS", "EXTENDED_ROWS")
-        if with_extensions
-        else ("SEVEN_TABLES", "ROWS")
-    )
+    names = ["SEVEN_TABLES", "EXTENSIONS", "ROWS", "EXTENDED_ROWS"][:: 1 if with_extensions else 2]
     base.executescript("BEGIN;" + "".join(earlier[name] for name in names) + "COMMIT;")
     base.close()
     if os.path.exists(log_of(store)):

@@ -9,15 +9,8 @@ from typing import Any, Iterator
 from ..counter_calls import TOP
 
 SOURCES = os.path.join(TOP, "crates", "store_tests", "src")
-REASONS = {
-    200: "OK",
-    400: "Bad Request",
-    404: "Not Found",
-    405: "Method Not Allowed",
-    409: "Conflict",
-    413: "Content Too Large",
-    503: "Service Unavailable",
-}
+REASONS = {200: "OK", 400: "Bad Request", 404: "Not Found", 405: "Method Not Allowed"}
+REASONS |= {409: "Conflict", 413: "Content Too Large", 503: "Service Unavailable"}
 
 
 def source_of(name: str) -> str:
@@ -56,19 +49,8 @@ def items(count: int, item: str, between: str) -> str:
 
 def written_out(line: str) -> str:
     """The line with its list or its items written out."""
-    listed = re.search(r"\[\*(\d+) (.*?)\*\]", line)
-    if listed:
-        return (
-            line[: listed.start()]
-            + "["
-            + items(int(listed[1]), listed[2], ",")
-            + "]"
-            + line[listed.end() :]
-        )
-    placed = re.search(r"\(\*(\d+) (.*?)\*\)", line)
-    if placed:
-        return line[: placed.start()] + items(int(placed[1]), placed[2], "") + line[placed.end() :]
-    return line
+    line = re.sub(r"\[\*(\d+) (.*?)\*\]", lambda it: f"[{items(int(it[1]), it[2], ',')}]", line, 1)
+    return re.sub(r"\(\*(\d+) (.*?)\*\)", lambda it: items(int(it[1]), it[2], ""), line, 1)
 
 
 def message(line: str) -> bytes:
@@ -81,10 +63,8 @@ def message(line: str) -> bytes:
 def answer(status: int, body: bytes, closes: bool = False, kind: str = "application/json") -> bytes:
     """The bytes of an answer."""
     end = "Connection: close\r\n" if closes else ""
-    return (
-        f"HTTP/1.1 {status} {REASONS[status]}\r\nContent-Type: {kind}\r\nContent-Length: {len(body)}\r\n{end}\r\n".encode()
-        + body
-    )
+    head = f"HTTP/1.1 {status} {REASONS[status]}\r\nContent-Type: {kind}\r\n"
+    return f"{head}Content-Length: {len(body)}\r\n{end}\r\n".encode() + body
 
 
 def answer_told(text: str) -> bytes:
@@ -118,9 +98,8 @@ def exchanges(transcript: str) -> list[tuple[bytes, bytes]]:
         while len(told) > 1 and told[-1] == "":
             told.pop()
         body = "\n".join(told)
-        found.append(
-            (message(does[2:]), answer_told(body + "\n" if body.startswith("200 Serial") else body))
-        )
+        end = "\n" if body.startswith("200 Serial") else ""
+        found.append((message(does[2:]), answer_told(body + end)))
     return found
 
 

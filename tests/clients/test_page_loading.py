@@ -1,0 +1,153 @@
+"""What a load of the page asks for: all modules at once, and only two files if the browser was there before."""
+
+from __future__ import annotations
+
+import re
+import shutil
+import subprocess
+import sys
+from pathlib import Path
+
+import pytest
+
+from tests.browser.bank import PAGE, USER, Bank
+from tests.conftest import TOP
+
+pytest.importorskip("selenium")
+from tests.browser.engines import Chromium
+from tests.browser.page import Page
+
+#: The files that came over the network, and their bytes.
+LOADED = """
+    const files = performance.getEntriesByType("resource").filter((one) => one.transferSize > 0 && !one.name.endsWith("/user"));
+    return [files.map((one) => one.name.split("/").at(-1)).sort(), files.reduce((sum, one) => sum + one.transferSize, 0)];
+"""
+
+
+def imported(folder: Path, name: str = "main.js") -> set[str]:
+    """A module, and all that it imports."""
+    found, left = {name}, [name]
+    while left:
+        text = (folder / left.pop()).read_text()
+        new = set(re.findall(r'from "\./([a-z_]+\.js)"', text)) - found
+        found |= new
+        left += new
+    return found
+
+
+def preloaded(text: str) -> list[str]:
+    return re.findall(r'<link rel="modulepreload" href="([^"]+)">', text)
+
+
+def test_all_modules_are_preloaded() -> None:
+    """And no others, each once."""
+    text = (PAGE / "index.html").read_text()
+    assert sorted(preloaded(text)) == sorted(imported(PAGE)) and preloaded(text)[0] == "main.js"
+    fewer = text.replace('<link rel="modulepreload" href="words.js">\n', "")
+    assert sorted(preloaded(fewer)) != sorted(imported(PAGE))  # control
+
+
+def name_page(folder: Path) -> str:
+    """Does to a page what the package does; the name of its second path."""
+    script = "import layout, pathlib, sys; layout.name_page(pathlib.Path(sys.argv[1]))"
+    words = [sys.executable, "-B", "-c", script, str(folder)]
+    subprocess.run(words, cwd=TOP / "packaging", check=True)
+    found = re.search('href="([0-9a-f]{16})/main.js"', (folder / "index.html").read_text())
+    assert found is not None
+    return found[1]
+
+
+def headers(bank: Bank, path: str) -> tuple[int, str, str | None]:
+    """The status, whether it may be stored, and how it is compressed."""
+    client = {"X-Counter-Client": "test", "Accept-Encoding": "gzip"}
+    connection = bank.nginx.connect(USER)
+    connection.request("GET", path, headers=client)
+    answer = connection.getresponse()
+    stored = answer.headers.get_all("Cache-Control")
+    connection.close()
+    assert stored is not None and len(stored) == 1
+    return answer.status, stored[0], answer.headers["Content-Encoding"]
+
+
+@pytest.mark.nginx
+def test_only_files_of_this_page_are_stored(bank: Bank, folder: Path) -> None:
+    """Not the page itself, nor the bank's own file, an answer, or what isn't there: as the files of an earlier release. Files alone are compressed."""
+    bank.begin([7])
+    name = name_page(bank.teller)
+    for file in ("main.js", "style.css", "icon.svg"):
+        status, stored, how = headers(bank, f"/teller/{name}/{file}")
+        assert (status, stored) == (200, "private, max-age=31536000, immutable")
+        assert how == (None if file == "icon.svg" else "gzip")
+    other = name[::-1] if name != name[::-1] else "0" * 16
+    for path in (f"{name}/bank.js", f"{name}/index.html", "", "main.js", f"{name}/", "bank.js"):
+        assert headers(bank, f"/teller/{path}")[:2] == (200, "no-store"), path
+    for path in (f"{name}/none.js", f"{other}/main.js", f"{name}/{name}/none.js"):
+        assert headers(bank, f"/teller/{path}")[:2] == (404, "no-store"), path
+    assert headers(bank, "/inventory/7/2012-02") == (200, "no-store", None)
+    shutil.copytree(PAGE, folder / "later")
+    (folder / "later/words.js").write_text((PAGE / "words.js").read_text() + "// Later.\n")
+    assert name_page(folder / "later") != name
+
+
+class Trusting(Chromium):
+    """Chromium that trusts the bank's certificate: it keeps nothing of a server that it doesn't trust."""
+
+    def __init__(self, profile: Path, bank: Bank) -> None:
+        profile.mkdir()
+        service = self.service_with(profile, bank.certificate)
+        words = ["-d", f"sql:{profile}/home/.pki/nssdb", "-A", "-t", "C,,", "-n", "bank"]
+        file = bank.nginx.folder / "certificate.pem"
+        subprocess.run(["certutil", *words, "-i", str(file)], check=True)
+        self.begin(profile, (1100, 820), service, trusting=False)
+
+    def loads(self, page: Page, url: str) -> tuple[list[str], int]:
+        """Loads the page: the files that came for it, and their bytes."""
+        page.open("about:blank")
+        page.open(url)
+        page.until(lambda: page.is_shown("#start form"), "the page is there")
+        files, size = page.run(LOADED)
+        return files, size
+
+
+@pytest.mark.browser
+@pytest.mark.nginx
+def test_files_come_once(bank: Bank, folder: Path) -> None:
+    """Of a page that was there before the files come no more, and an upgrade meanwhile is noticed. Control: without its second path each file comes each time."""
+    engine = Trusting(folder / "profile", bank)
+    page = Page("chromium", "about:blank", folder, engine=engine)
+    whole = sorted({*preloaded((PAGE / "index.html").read_text()), "style.css"})
+    try:
+        for _ in range(2):
+            files, size = engine.loads(page, bank.url)
+            assert {*whole} <= {*files} and size < 120_000
+        name_page(bank.teller)
+        assert {*whole} <= {*engine.loads(page, bank.url)[0]}
+        files, size = engine.loads(page, bank.url)
+        assert files == ["bank.js", "old.js", "start.js"] and size < 4_000
+        index, other = bank.teller / "index.html", "0123456789abcdef"
+        text = index.read_text()
+        index.write_text(re.sub("[0-9a-f]{16}/", f"{other}/", text))
+        page.open(bank.url)  # An upgrade has removed the files meanwhile.
+        page.waits_for("The page didn't load completely. It tries again by itself.")
+        index.write_text(text)
+        page.until(lambda: page.is_shown("#start form"), "the page is there")
+    finally:
+        page.quit()
+
+
+@pytest.mark.browser
+@pytest.mark.nginx
+def test_a_file_that_never_comes(bank: Bank, folder: Path) -> None:
+    """The page tries again by itself."""
+    main, start = bank.teller / "main.js", bank.teller / "start.js"
+    text, waits = main.read_text(), start.read_text()
+    main.write_text("await new Promise(() => {});\n")
+    start.write_text(waits.replace("LIMIT = 60_000", "LIMIT = 4_000"))
+    page = Page("chromium", bank.url, folder, certificate=bank.certificate)
+    try:
+        page.waits_for("The page didn't load completely. It tries again by itself.")
+        start.write_text(waits)
+        main.write_text(text)
+        page.until(lambda: page.is_shown("#start form"), "the page is there")
+    finally:
+        page.quit()

@@ -1,0 +1,158 @@
+"""Scans: none is lost and none presses a button, wherever the keyboard is; each that fails is told and heard; and how many keys a bond takes beside the scanner's own."""
+
+from __future__ import annotations
+
+import threading
+
+import pytest
+
+from tests.browser.bank import DAY, Bank
+from tests.clients.conftest import NewPage
+from tests.clients.test_page_faults import held
+
+pytest.importorskip("selenium")
+from tests.browser.browser import Keys
+from tests.browser.page import NO_PRINTER, VALUES, Page, dollars
+
+pytestmark = [pytest.mark.browser, pytest.mark.nginx]
+L, K, M = VALUES["L"], VALUES["K"], VALUES["M"]
+FOCUS = "document.querySelector(arguments[0]).focus()"
+
+
+def scan_in_question(page: Page, button: str, serial: str) -> None:
+    """With the keyboard on a button of the question that is open."""
+    page.rested("#confirm-yes")
+    page.run(FOCUS, button)
+    page.scan(serial)
+
+
+def test_scans_in_questions(bank: Bank, page: Page) -> None:
+    """A scan answers no question, with either button under the keyboard: it is named and heard, and is chosen once the teller goes back."""
+    page.watch_beeps()
+    page.show_sheet(7)
+    page.press("#in-hand")
+    page.scan("L7EE")
+    page.ask_to_pay()
+    for count, (button, serial) in enumerate(
+        [("#confirm-yes", "K7EE"), ("#confirm-no", "M7EE"), ("#confirm-yes", "K 9-EE")], 1
+    ):
+        scan_in_question(page, button, serial + Keys.ENTER)
+        names = ", ".join(["K7EE", "M7EE", "K9EE"][:count])
+        said = f"Scanned, and not in this question: {names}."
+        assert page.is_shown("#confirm") and page.text("#confirm-scanned") == said
+        assert page.find("#confirm-yes").get_attribute("aria-disabled"), "it rests anew"
+        assert page.beeps() == count
+    page.keys(Keys.ESCAPE)
+    assert page.is_shown("#confirm"), "its keys are dead for a moment"
+    page.sleep(0.6)
+    page.run(FOCUS, "#confirm-no")
+    page.keys(Keys.ENTER)
+    page.shows_sum(3, L + K + M)
+    assert page.text("#missed h2") == "Not chosen: 1" and bank.gate.bodies == []
+    assert "Bond K9EE isn't among" in page.text("#notices"), "and told where it is seen"
+    question = page.ask_to_pay()
+    assert question.startswith(f"Pay {dollars(L + K + M)} to customer 7?\n3 of 4 scans. Not in")
+    assert "Bond K9EE isn't among the unpaid bonds" in question
+    assert f"3 bonds on Monday, February 6, 2012, {dollars(L + K + M)} in all:" in question
+    page.press("#confirm-no")
+    page.ask_to_close()
+    scan_in_question(page, "#confirm-yes", "K9EE")
+    assert page.is_shown("#confirm") and bank.gate.bodies == []
+    page.press("#confirm-no")
+    page.waits_for("Scanned: K9EE. It waits for a customer's sheet.", "#scanned")
+    page.show_sheet(9)
+    page.shows_sum(1, K)
+
+
+def test_a_scan_that_answers_is_found(bank: Bank, new_page: NewPage) -> None:
+    """Control: on a page whose keys aren't dead after a letter, the Enter of a scan pays."""
+    bank.begin([7])
+    bank.change_page("scans.js", ("const NEXT = 500;", "const NEXT = 0;"))
+    page = new_page(day=DAY)
+    page.chooses(7, "L7EE")
+    page.ask_to_pay()
+    scan_in_question(page, "#confirm-yes", "K7EE")
+    page.is_paid(1, L)
+
+
+def test_scans_wait(bank: Bank, page: Page) -> None:
+    """For a sheet: on each view, in a field for something else, and while the counter is asked, half of a scan too."""
+    page.run(NO_PRINTER)
+    page.watch_beeps()
+    page.go("day")
+    page.scan("L7EE")
+    page.go("pay")
+    page.scan("K7EE")
+    page.waits_for("Scanned: L7EE, K7EE. They wait for a customer's sheet.", "#scanned")
+    page.press("#customer")
+    page.keys("7")
+    page.scan("M7EE")
+    assert page.value("#customer") == "7" and page.beeps() == 0
+    event = threading.Event()
+    with bank.gate.changes("/inventory/7/", lambda text: held(event, text)):
+        page.sleep(0.4)
+        page.keys(Keys.ENTER)
+        page.scan("K9EE")
+        page.keys("L", "9")
+        event.set()
+        page.takes_keyboard("#in-hand")
+        page.keys("EE", Keys.ENTER)
+    page.shows_sum(3, L + K + M)
+    missed = [line.text.split()[1] for line in page.all("#missed li")]
+    assert missed == ["K9EE", "L9EE"] and page.beeps() > 0 and not page.is_shown("#scanned")
+    assert page.value("#customer") == "7" and page.value("#in-hand") == ""
+    page.pay()
+    page.is_paid(1, L, K, M)
+    page.takes_keyboard("#ticket .print")
+    page.sleep(0.6)
+    beeps = page.beeps()
+    page.scan("K11EE", "7EE")
+    assert page.run("return window.prints") == 0 and page.is_shown("#ticket .print")
+    page.waits_for("“7EE” isn't a serial number", "#notices")
+    assert page.beeps() == beeps + 1
+    page.show_sheet(11)
+    page.shows_sum(1, K)
+    page.waits_for("“7EE” isn't a serial number", "#missed")
+    page.go("tickets")
+    page.scan("L11EE")
+    page.press("#forget-scans")
+    assert not page.is_shown("#scanned")
+
+
+def test_walk_ins_scanned(bank: Bank, page: Page) -> None:
+    """A pile that is scanned first: each bond's serial number stands in its field as the one before is added."""
+    page.go("walkin")
+    page.run(FOCUS, "#walkin h1")
+    page.scan("L21EE", "C22EE")
+    for serial, denom in (("L21EE", "50"), ("C22EE", "100")):
+        page.until(lambda: page.value("#walkin-serial") == serial, f"{serial} is the next")
+        page.takes_keyboard("#walkin-denom")
+        page.keys(denom, Keys.ENTER, "11/2010", Keys.ENTER)
+    page.until(lambda: len(page.all("#walkin-bonds li")) == 2, "both are in the list")
+    assert not page.is_shown("#scanned")
+
+
+def test_keys_of_a_bond(bank: Bank, page: Page) -> None:
+    """From one customer's number to the next one's: six keys beside the number's digits and the scanner's own."""
+    page.run(NO_PRINTER)
+    page.go("pay")
+    page.run(FOCUS, "#customer")
+    for ticket, (owner, serial) in enumerate([("7", "K7EE"), ("9", "K9EE")], 1):
+        page.keys(owner, Keys.ENTER)
+        page.takes_keyboard("#in-hand")
+        page.scan(serial)
+        page.shows_sum(1, K)
+        page.sleep(0.4)
+        page.keys(Keys.ENTER)
+        page.asks()
+        page.tab()
+        page.rested("#confirm-yes")
+        page.keys(Keys.ENTER)
+        page.is_paid(ticket, K)
+        page.takes_keyboard("#ticket .print")
+        page.sleep(0.6)
+        page.keys(Keys.ENTER)
+        page.takes_keyboard("#next-customer")
+        page.keys(Keys.ENTER)
+        page.takes_keyboard("#customer")
+        assert page.value("#customer") == "" and page.run("return window.prints") == ticket

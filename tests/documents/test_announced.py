@@ -1,0 +1,153 @@
+"""Every rate and every bond in a document, a help text, a description or a picture is one that a
+bank could meet: Treasury announced the rate for that issue month, and the page for tellers wouldn't
+doubt the bond. A rate of extended maturity, which nobody has announced, is called invented there.
+
+`samples/audit/announced-rates.csv` has the announcements."""
+
+from __future__ import annotations
+
+import csv
+import re
+from collections.abc import Iterator
+
+import pytest
+
+from ee_counter_client.plausible import LAST_PAPER, LETTERS
+from tests.conftest import TOP
+
+WHERE = (
+    "*.md docs/*.md docs/openapi.json samples/*.md samples/*.csv samples/*/*.md packaging/man/*"
+    " packaging/*.md clients/*/*.md clients/value/ee_value/*.py clients/value/examples/*"
+    " clients/python/src/ee_counter_client/*.py include/*"
+    " crates/ee_cli_commands/src/rows.rt"
+)
+#: The data of the pictures in docs/pictures: a file of tests, from this line on.
+PICTURES = {
+    "tests/clients/test_page_looks.py": "# ---- pictures for docs/pictures",
+    "tests/clients/test_calculator_looks.py": "# ---- the pictures of docs/pictures",
+}
+MONTH = r"(?P<month>\d{4}-\d\d|\d\d/\d{4})"
+RATE = r"(?P<rate>\d{1,2}\.\d{1,2})%?"
+EXTENSION = RATE.replace("rate", "extension")
+SERIAL = r"(?P<serial>[A-Z]-?\d{1,10}-?EE)"
+NUMBER = MONTH.replace(r"\d{4}-\d\d|", r"\d{6}|")
+ANY = r"[^{}\n]*?"
+#: Texts that name a rate with its month, and a bond with its denomination and issue month.
+FORMS = [
+    re.compile(form, re.MULTILINE)
+    for form in (
+        rf"\bvalue \d+ {MONTH} \S+ {RATE}(?: {EXTENSION})?",
+        rf"\(\d+, ?\"{MONTH}\", ?\"[\d/-]+\", ?\"{RATE}\"(?:, ?\"{EXTENSION}\")?",
+        rf"^{MONTH},{RATE}(?:,(?:{EXTENSION})?)?(?:,.*)?$",
+        rf"\"from\": ?\"{MONTH}\", ?\"rate\": ?\"{RATE}\"(?:, ?\"extension\": ?\"{EXTENSION}\")?",
+        rf"\"extension\": ?\"{EXTENSION}\", ?\"from\": ?\"{MONTH}\", ?\"rate\": ?\"{RATE}\"",
+        rf"\"issued\": ?\"{MONTH}\"{ANY}\"rate\": ?\"{RATE}\"",
+        rf"{SERIAL} +EE +(?P<denom>\d+) {MONTH} .* {RATE[:-1]} ",
+        rf"\(\d+, {NUMBER}, \d{{6}}, (?P<hundredths>\d+), \d+\)",
+        rf"\b{SERIAL}\"?,? ?(?P<denom>\d+), ?\"?{MONTH}",
+        rf"\"denom\": ?(?P<denom>\d+){ANY}\"issued\": ?\"{MONTH}\"{ANY}\"serial\": ?\"{SERIAL}",
+        rf"\"serial\": ?\"{SERIAL}\", ?\"denom\": ?(?P<denom>\d+), ?\"issued\": ?\"{MONTH}",
+    )
+]
+#: Shows a bond that isn't issued yet in February 2012, as no bond on paper can be.
+UNISSUED = {"C5EE"}
+#: Rates that stand for a limit or a rule, and no bond's.
+OTHERS = {"0.00", "20.00", "4.02", "8.08", "12.18", "16.32"}
+
+
+def texts() -> Iterator[tuple[str, str]]:
+    for pattern in WHERE.split():
+        for path in sorted(TOP.glob(pattern)):
+            if path.is_file():
+                name = str(path.relative_to(TOP))
+                yield name, f"{name}\n{path.read_text()}"
+    for name, mark in PICTURES.items():
+        yield name, (TOP / name).read_text().partition(mark)[2]
+
+
+def of_month(text: str) -> str:
+    """A month, as YYYY-MM."""
+    return f"{text[3:]}-{text[:2]}" if "/" in text else f"{text[:4]}-{text[-2:]}"
+
+
+def of_rate(text: str) -> str:
+    return f"{float(text):.2f}"
+
+
+with open(TOP / "samples/audit/announced-rates.csv", encoding="utf-8") as announced:
+    ANNOUNCED = {row["from"]: of_rate(row["rate"]) for row in csv.DictReader(announced)}
+
+
+def announced_for(month: str) -> str | None:
+    """The rate of the period in which a bond was issued."""
+    return ANNOUNCED.get(max((start for start in ANNOUNCED if start <= month), default=""))
+
+
+def doubts(found: dict[str, str | None], text: str) -> Iterator[str]:
+    """What isn't so of a rate or a bond."""
+    month = of_month(found["month"] or "")
+    rate, serial, denom = (found.get(key) for key in ("rate", "serial", "denom"))
+    if found.get("hundredths"):
+        rate = f"{int(found['hundredths'] or 0) / 100:.2f}"
+    if rate and of_rate(rate) != announced_for(month):
+        yield f"{rate} % wasn't announced for {month}: {announced_for(month)} % was"
+    if found.get("extension") and "invented" not in text:
+        yield f"the extension of {found['extension']} % isn't called invented"
+    if (
+        serial
+        and serial not in UNISSUED
+        and (LETTERS.get(int(denom or 0)) != serial[0] or month > LAST_PAPER)
+    ):
+        yield f"{serial} of {denom} dollars, issued in {month}, isn't as paper has it"
+
+
+def read(text: str) -> Iterator[dict[str, str | None]]:
+    for form in FORMS:
+        for found in form.finditer(text):
+            yield found.groupdict()
+
+
+def lone(text: str) -> Iterator[str]:
+    """Rates and serial numbers that no announcement and no paper bond has, wherever they stand."""
+    for rate in re.findall(r"(?<![\d.,])(\d{1,2}\.\d{1,2}) ?%", text):
+        is_known = of_rate(rate) in {*ANNOUNCED.values(), *OTHERS}
+        if not is_known and "invented" not in text:
+            yield f"{rate} % is no announced rate"
+    for serial in re.findall(rf"\b{SERIAL}\b", text):
+        if serial[0] not in LETTERS.values():
+            yield f"{serial} has a letter that no denomination has"
+
+
+@pytest.mark.parametrize("name, text", list(texts()), ids=[name for name, _ in texts()])
+def test_announced(name: str, text: str) -> None:
+    found = [doubt for one in read(text) for doubt in doubts(one, text)]
+    assert [*found, *lone(text)] == []
+
+
+def test_all_are_read() -> None:
+    """Many are found, each form among them. They are printed with their announcement."""
+    read_of = {name: list(read(text)) for name, text in texts()}
+    for name, rows in read_of.items():
+        for row in rows:
+            if row.get("rate"):
+                print(name, row["month"], row["rate"], announced_for(of_month(row["month"] or "")))
+    assert sum(len(rows) for rows in read_of.values()) > 100
+    for form in FORMS:
+        assert any(form.search(text) for _, text in texts()), form.pattern
+
+
+#: Controls: examples that are wrong.
+WRONG = {
+    "a rate of another month": "ee_cli value 50 2010-05 2015-05 3.50",
+    "a rate of a program in C": "ee_value_cents(50, 201005, 203011, 340, 340)",
+    "a rate that was never announced": "a bond at 2.35 %",
+    "an extension": '{"from": "2011-05", "rate": "1.10", "extension": "4.00"}',
+    "a letter of another denomination": "K1EE,50,2010-11,7,",
+    "a bond after the last paper": "L1EE          EE         50 05/2012 12/2026 11/2040  0.60%  27.56",
+    "a letter that none has": "the bond A1EE",
+}
+
+
+@pytest.mark.parametrize("text", WRONG.values(), ids=WRONG)
+def test_wrong_ones_are_named(text: str) -> None:
+    assert [*(doubt for one in read(text) for doubt in doubts(one, text)), *lone(text)] != []

@@ -1,0 +1,100 @@
+"""docs/RESTORE.md and the page of samples/restore as an operator follows them, on a machine of its own."""
+
+from __future__ import annotations
+
+import re
+import threading
+import time
+from pathlib import Path
+
+import pytest
+
+from tests.conftest import TOP
+from tests.fence.conftest import Machine
+from tests.restore.counter_day import entry_of
+from tests.samples.conftest import machines, place, root
+from tests.samples.test_systemd import UNITS, Bank, bank, begun, machine, page
+from tests.shared.counter_calls import Answer
+
+__all__ = ["bank", "begun", "machine", "machines", "place", "root"]
+pytestmark = [
+    pytest.mark.root,
+    pytest.mark.machine,
+    pytest.mark.slow,
+    pytest.mark.needs("mkfs.btrfs", "sqlite3", "file:/dev/loop-control"),
+]
+LOG, SECOND = "/srv/requests/requests.log", "/srv/counter-requests/requests.log"
+
+
+@pytest.fixture
+def logged(bank: Bank) -> Bank:
+    """The bank, with a log of requests as nginx writes it."""
+    asked, lock, log = bank.ask, threading.Lock(), Path(bank.machine.path(LOG))
+
+    def ask(message: bytes) -> Answer | None:
+        answer = asked(message)
+        if answer and answer[0] in (200, 409):
+            with lock, open(log, "a") as file:
+                sent = message.replace(b"Connection: close\r\n", b"")
+                file.write(entry_of(sent, answer[1], time.time(), str(answer[0])))
+        return answer
+
+    bank.load.ask_now = ask
+    return bank
+
+
+def test_lost_disk(logged: Bank) -> None:
+    """The disk is lost under load. The page's commands restore every reply, and the counter serves."""
+    bank, m = logged, logged.machine
+    bank.load.start()
+    time.sleep(4)
+    m.shell("systemctl kill --signal=KILL counter.service counter-archive.service")
+    begun_at = time.time()
+    m.shell("systemctl stop counter.service counter-archive.service; umount /var/lib/counter")
+    m.shell("cd /srv/counter; btrfs -q subvolume delete store; btrfs -q subvolume create store")
+    m.shell(f"mount -o subvol=store {m.devices[0]} /var/lib/counter")
+    m.shell("chown counter: /var/lib/counter; chmod 700 /var/lib/counter")
+    text = (TOP / "docs/RESTORE.md").read_text()
+    look, restore = re.findall(r"^# (counter-restore.*)$", text, re.M)
+    start = re.search(r"`(systemctl start [^`]*)`", text)
+    assert start and look == f"{restore} --look"
+    path = "PATH=$PATH:/opt/counter/restore"
+    looked = m.shell(f"{path}; {look} || [ $? = 1 ]")
+    said = m.shell(f"{path}; echo yes | {restore}")
+    m.shell(start[1])
+    bank.wait_until_served()
+    seconds = time.time() - begun_at
+    assert "its file is missing" in looked and "Replies that differ:               0" in said
+    bank.load.stop()
+    bank.gives_all_replies_again()
+    print(f"from the lost disk to serving {seconds:.1f} seconds, {len(bank.load.replies)} replies")
+
+
+def soon(m: Machine, command: str) -> None:
+    for _ in range(300):
+        if m.on("sh", "-c", command).returncode == 0:
+            return
+        time.sleep(0.1)
+    raise AssertionError(command)
+
+
+def test_second_machine(logged: Bank) -> None:
+    """The page's blocks set up the user who may read three things, and the pull. Its log rotates."""
+    m, restore = logged.machine, "/root/samples/restore"
+    m.shell(f"install -m 755 {restore}/pull /opt/counter/restore/; groupadd -f adm")
+    m.shell(f"install -m 644 {restore}/counter-pull.service {UNITS}/")
+    m.write(f"{UNITS}/counter-pull.service.d/here.conf", '[Service]\nEnvironment="OVER=sh -c"\n')
+    m.shell(f"touch {LOG}; chgrp adm {LOG}; chmod 640 {LOG}")
+    m.shell(page("restore", 2))
+    m.shell(page("restore", 3))
+    stated = m.shell("stat -c '%a %U' /srv/pull/.ssh; cat /srv/pull/.ssh/authorized_keys")
+    assert stated.startswith("700 pull\nrestrict ssh-ed25519")
+    read = f"cat /srv/archive/counter/end.json /srv/archive/machine/machine.tar {LOG} > /dev/null"
+    assert m.on("su", "-s", "/bin/sh", "pull", "-c", read).returncode == 0
+    assert m.on("su", "-s", "/bin/sh", "nobody", "-c", read).returncode == 1, "control"
+    soon(m, "cmp /srv/archive/counter/requests.jsonl /srv/counter-archive/requests.jsonl")
+    m.shell(f'echo \'{{"entry":"one"}}\' >> {LOG}')
+    soon(m, f"cmp {LOG} {SECOND}")
+    m.shell("logrotate -f -s /tmp/rotated /etc/logrotate.d/counter-requests")
+    m.shell(f'echo \'{{"entry":"two"}}\' >> {LOG}')
+    soon(m, f"cat {SECOND}.1 {SECOND} | cmp - {LOG}")
