@@ -10,14 +10,14 @@ use Rattle.ee_desk_model.specs.declared.acts.Act.TheVariants as act
 use Rattle.ee_desk_model.specs.declared.replies.Reply.{Reply}
 use Rattle.ee_desk_model.specs.declared.refusals.Unserved.{Unserved}
 use Rattle.ee_desk_model.specs.Numbers.{RequestKey, numbered}
-use Rattle.ee_desk_model.specs.Repeats.{Content, nothing}
+use Rattle.ee_desk_model.specs.Repeats.{Content}
 use Rattle.ee_desk_model.specs.Sound.{IsSound}
 use Rattle.ee_desk_model.proofs.Lemmas.Books.{sound_pays_right, sound_conserves, empty_is_sound}
 use Rattle.ee_desk_laws.specs.Attempts.{Attempt, AreEventsOf, IsEventOf}
 use Rattle.ee_desk_laws.specs.Events.{Event}
 use Rattle.ee_desk_laws.specs.Events.Event.{Lose, Unserved as NotServed}
 use Rattle.ee_desk_laws.specs.Stops.{HoldsAcknowledged}
-use Rattle.ee_wire_framing.specs.Framing.{Message, BeginsMessage, BeginsMessages}
+use Rattle.ee_wire_framing.specs.Framing.{BeginsMessage, BeginsMessages}
 use Rattle.ee_files.specs.RateFile.{rates_of_file}
 use Rattle.ee_files.specs.BondFile.{bonds_of_file}
 use Rattle.ee_cli_commands.specs.declared.commands.FileKind.{FileKind}
@@ -25,7 +25,7 @@ use Rattle.ee_cli_commands.specs.declared.commands.FileKind.TheVariants as kind
 use Rattle.ee_cli_commands.specs.CommandLine.{Asked, value, apply, imports, export, sheet, serve}
 use Rattle.ee_keeper.specs.Keeping.{Shows}
 use Rattle.ee_counter.specs.Filing.{Imports, Exports, Reading}
-use Rattle.ee_counter.specs.Serving.{Told, Serves, Ends, EndsBy, attempts_by, attempts_by_all, left_by, messages}
+use Rattle.ee_counter.specs.Serving.{Told, Serves, EndsBy, attempts_by, attempts_by_all, left_by, messages}
 use Rattle.ee_counter.specs.declared.connections.Ended.{Ended}
 use Rattle.ee_counter.specs.declared.connections.Why.{Why}
 use Rattle.ee_counter.specs.declared.connections.Why.TheVariants.{Closed, Asked as AskedToClose, Limit, Fault, ReadFailed, WriteFailed, NoMemory}
@@ -42,7 +42,7 @@ use Rattle.ee_store.specs.History.{BeginsInFiles, HasLeft, HoldHistory, stop_and
 use Rattle.ee_store.specs.NextRun.{HoldsContent}
 use Rattle.ee_cli_stores.specs.Bank.{AccountsForLines, AreOfMessages, AreOfStreams, ArePutBy, IsAccounted, Line, PutBy, Puts, RanLine, RanLines, Turn}
 use Rattle.ee_cli_stores.specs.Bank.Turn.{Ended as EndedLine, Cut}
-use Rattle.ee_cli_stores.specs.Lines.{AreEventsOfLines, LeadsInARow, LineLeads, LineWaits, LinesLead}
+use Rattle.ee_cli_stores.specs.Lines.{LeadsInARow, LineLeads, LineWaits, LinesLead}
 use Rattle.ee_cli_stores.specs.Running.{Did, DoesInFiles, Led}
 
 -- ---- the attempts of a connection

@@ -1,8 +1,7 @@
 //! The counter of a paying agent, over any keeper: lists of requests, connections, and files.
 //!
-//! It promises the headline, as the contract of `run`: the books and the answers are those of the list with its
-//! repeats taken out. Begin with `requests.rt`, then `connections.rt` for streams and `files.rt` for imports
-//! and exports.
+//! The contract of `run` promises: the books and the answers are those of the list with its repeats taken out. Begin
+//! with `requests.rt`, then `connections.rt` for streams and `files.rt` for imports and exports.
 //!
 //! It doesn't promise that a request is served, or when. It doesn't know who asks: whoever reaches it can pay.
 #![tactic(auto)]
