@@ -28,7 +28,25 @@ from hypothesis.stateful import (
 
 from tests.client_machine.conftest import NewPage
 from tests.client_machine.counter import Fate
-from tests.client_machine.machine import DONE, NOT_DONE, REFUSED, Library
+from tests.client_machine.machine import (
+    ANSWERED,
+    DONE,
+    FAULT,
+    GO_ON,
+    KILLED,
+    NOT_DONE,
+    NOTHING,
+    REFUSED,
+    SEND,
+    SHOW,
+    SUBMIT,
+    WAIT,
+    WRITE,
+    WRITTEN,
+    Event,
+    Library,
+    Record,
+)
 from tests.client_machine.page_client import MOST, PageClient
 from tests.client_machine.python_client import Edit, PythonClient, package
 
@@ -151,6 +169,59 @@ def test_header(built: Path) -> None:
     subprocess.run([*words, "-Wl,-rpath,.", "-o", "program"], cwd=built, check=True)
     ran = subprocess.run(["./program"], cwd=built, check=True, stdout=subprocess.PIPE, text=True)
     assert ran.stdout.split("\n") == ["1 0 0 2 1 0", "1 0 0 2 1 1", "2 1 5 2 1 1", ""]
+
+
+#: Points of the rules at which a wrong machine would hurt a bank: a journal, events, what the
+#: machine then does, and what its journal holds or is to hold.
+OPEN = Record(2, number=1, step=1, sent=1, act=5)
+AGAIN = [Event(GO_ON), Event(WRITTEN)]
+FAULT_OF_1 = Event(ANSWERED, number=1, detail=FAULT)
+NOTHING_OF_1 = Event(ANSWERED, number=1, detail=NOTHING)
+DONE_OF_1 = Event(ANSWERED, number=1, detail=DONE)
+POINTS = {
+    "another act takes another number": (
+        Record(2),
+        [Event(SUBMIT, act=6)],
+        (WRITE, Record(3, number=2, step=1, sent=0, act=6)),
+    ),
+    "a lost answer keeps the number": (
+        OPEN,
+        [*AGAIN, NOTHING_OF_1, Event(GO_ON)],
+        (WRITE, OPEN._replace(sent=3)),
+    ),
+    "an answer to another number is read by nobody": (
+        Record(3, number=2, step=1, sent=1, act=6),
+        [*AGAIN, DONE_OF_1],
+        (WAIT, Record(3, number=2, step=1, sent=2, act=6)),
+    ),
+    "its own answer is shown": (OPEN, [*AGAIN, DONE_OF_1], (SHOW, OPEN._replace(sent=2))),
+    "a written request is open after a kill": (
+        Record(1),
+        [Event(SUBMIT, act=5), Event(KILLED, detail=1)],
+        (WAIT, OPEN._replace(sent=0)),
+    ),
+    "a request that wasn't written isn't": (
+        Record(1),
+        [Event(SUBMIT, act=5), Event(KILLED, detail=0)],
+        (WAIT, Record(1)),
+    ),
+    "a fault ends a request that was sent once": (
+        OPEN._replace(sent=0),
+        [*AGAIN, FAULT_OF_1],
+        (WRITE, Record(2)),
+    ),
+    "and none that was sent twice": (OPEN, [*AGAIN, FAULT_OF_1], (WAIT, OPEN._replace(sent=2))),
+    "until it is sent, it has no answer": (OPEN, [*AGAIN], (SEND, OPEN._replace(sent=2))),
+}
+
+
+@pytest.mark.parametrize("journal, events, so", POINTS.values(), ids=POINTS)
+def test_points(
+    library: Library, journal: Record, events: list[Event], so: tuple[int, Record]
+) -> None:
+    """The contract of the machine says that it is its rules. This is what they say there."""
+    turn = library.turn(100, journal, events)
+    assert (turn.action, turn.written if turn.action == WRITE else turn.journal) == so
 
 
 def run_whole(started: Callable[[int], Client], least: int) -> None:
