@@ -16,14 +16,7 @@ sys.dont_write_bytecode = True
 TOP = Path(__file__).resolve().parents[1]
 sys.path.insert(0, str(TOP))
 
-from tests.shared.counter_calls import (
-    apply,
-    beginning,
-    free_port,
-    post,
-    serve,
-    wait_for,
-)  # noqa: E402
+from tests.shared.counter_calls import apply, beginning, free_port, post, serve  # noqa: E402
 from tests.fence.site import Site, workers  # noqa: E402
 
 REQUESTS, ROUNDS = 100, 9
@@ -62,7 +55,6 @@ def measured(program: str, folder: Path, key: str, requests: int) -> tuple[float
     )
     counter = serve(program, store, port)
     try:
-        wait_for(port)
         site = Site(
             folder / "nginx", f"http://127.0.0.1:{port}", {"anna": "teller"}, changed=UNLIMITED
         )

@@ -11,7 +11,7 @@ from typing import Iterator
 import pytest
 
 from tests.conftest import TOP
-from tests.shared.counter_calls import BONDS, RATES, apply, free_port, post, redeem, serve, wait_for
+from tests.shared.counter_calls import BONDS, RATES, apply, free_port, post, redeem, serve
 
 DAY = "2012-02-06"
 INVENTORY = "serial,denom,issued,owner,coowner\nL1EE,50,2010-11,7,\nM3EE,10000,2011-02,7,\n"
@@ -49,7 +49,6 @@ class Served:
         assert all(status == 200 for status, _ in apply(program, folder / "day.db", messages[1:]))
         subprocess.run(archive, check=True)
         self.process = serve(program, store, self.port)
-        wait_for(self.port)
 
     def settlement(self, day: str, *sources: str) -> subprocess.CompletedProcess[str]:
         client = ["python3", f"{TOP}/clients/counter.py", "--at", f"http://127.0.0.1:{self.port}"]

@@ -8,7 +8,7 @@ import subprocess
 from pathlib import Path
 from typing import Callable
 
-from tests.shared.counter_calls import apply, ask, free_port, get, post, serve, wait_for
+from tests.shared.counter_calls import apply, ask, free_port, get, post, serve
 
 CONNECTIONS = int(os.environ.get("CONNECTIONS", "5000"))
 RATES = post("/rates", {"number": 1, "rates": [{"from": "2010-05", "rate": "3.50"}]}, b"")
@@ -41,7 +41,6 @@ def test_memory_stays(program: Path, folder: Path) -> None:
         assert answer is not None and answer[0] == 200 and '"value":"29.74"' in answer[1], answer
 
     try:
-        wait_for(port)
         assert growth(server.pid, connect) <= MOST
         assert server.poll() is None
     finally:

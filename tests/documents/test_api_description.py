@@ -16,7 +16,7 @@ from typing import Any
 import jsonschema
 import pytest
 
-from tests.conftest import TOP, is_listening, until
+from tests.conftest import TOP
 from tests.fence.wire import everything
 from tests.samples.load import copied
 from tests.shared.counter_calls import connected, free_port, matched, serve
@@ -138,8 +138,7 @@ def test_other_value_is_none_of_the_schema() -> None:
 class Server:
     def __init__(self, program: Path, store: Path, *before: str) -> None:
         self.port = free_port()
-        self.process = serve(program, store, self.port, before)
-        until(lambda: is_listening(self.port), "the server doesn't listen", SECONDS)
+        self.process = serve(program, store, self.port, before=before)
 
     def ask(self, stream: bytes) -> bytes:
         """All that is answered to a stream after which nothing is sent."""

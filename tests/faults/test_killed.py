@@ -16,7 +16,7 @@ from pathlib import Path
 import pytest
 
 from tests.shared.counter_calls import apply, ask, beginning, bond, day_text, free_port, post, rows
-from tests.shared.counter_calls import serve, wait_for
+from tests.shared.counter_calls import serve
 
 BONDS, ROUNDS = 900, int(os.environ.get("ROUNDS", "20"))
 Replies = dict[int, str]
@@ -36,7 +36,6 @@ def one_round(program: Path, store: Path, turns: list[int], replies: Replies, de
     """Serves until the kill, which comes that long after it listens: how many replies came."""
     port, came = free_port(), 0
     server = serve(program, store, port)
-    wait_for(port)
     killing = threading.Timer(delay, server.kill)
     killing.start()
     for turn in itertools.cycle(turns):

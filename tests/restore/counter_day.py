@@ -25,7 +25,6 @@ from tests.shared.counter_calls import (
     post,
     rows,
     serve,
-    wait_for,
 )
 
 RESTORE = TOP / "samples" / "restore"
@@ -175,7 +174,6 @@ class Served:
     def __init__(self, day: Day) -> None:
         self.day, self.port = day, free_port()
         self.process = serve(day.program, day.store, self.port)
-        wait_for(self.port)
 
     def pay(self, turns: Iterable[int]) -> list[Answer]:
         """Redeems bonds one after another; each reply is acknowledged before the next request."""

@@ -28,7 +28,6 @@ from tests.shared.counter_calls import (
     free_port,
     rows,
     serve,
-    wait_for,
 )
 
 BONDS, CLIENTS = int(os.environ.get("BONDS", "4000")), 3
@@ -83,7 +82,6 @@ class Machine:
         words = [self.store, self.archive, "--snapshots", self.disk / "snapshots", "--every", "1"]
         archiver = started(RESTORE / "archive", *words, stderr=subprocess.DEVNULL)
         self.processes = [serve(self.program, self.store, self.port), archiver]
-        wait_for(self.port)
         while not (self.archive / "requests.jsonl").exists():
             assert archiver.poll() is None
             time.sleep(0.1)

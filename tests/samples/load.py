@@ -7,7 +7,7 @@ from pathlib import Path
 
 from tests.restore.counter_day import run
 from tests.shared.counter_calls import Answer, Load, Name, apply, ask, beginning, fault_of
-from tests.shared.counter_calls import fault_of_books, free_port, rows, serve, wait_for
+from tests.shared.counter_calls import fault_of_books, free_port, rows, serve
 
 
 class Busy:
@@ -21,7 +21,6 @@ class Busy:
 
     def start(self) -> None:
         self.server = serve(self.program, self.path, self.port)
-        wait_for(self.port)
 
     def stop(self) -> None:
         if self.server.poll() is None:

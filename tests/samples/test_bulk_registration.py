@@ -16,7 +16,7 @@ from ee_counter_client.testing import Gate
 
 from tests.conftest import TOP
 from tests.shared.counter_calls import RATES, apply, free_port, post, rows, run, serve, served
-from tests.shared.counter_calls import wait_for
+
 
 FIRST, LAST = 20260206001, 2**63 - 1
 HEADER = "serial,denom,issued,owner,coowner"
@@ -144,7 +144,6 @@ def test_under_kills(program: Path, store: Path, journal: Path, folder: Path, bo
     port = free_port()
     requests, kills, stops, is_over = bonds // 500, 0, 0, False
     server = serve(program, store, port)
-    wait_for(port)
 
     def kill_now_and_then() -> None:
         nonlocal server, kills

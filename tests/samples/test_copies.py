@@ -28,7 +28,7 @@ from tests.shared.counter_calls import (
     rows,
     serve,
 )
-from tests.shared.counter_calls import sql, wait_for
+from tests.shared.counter_calls import sql
 
 COPY_STORE, TAKE_OVER = TOP / "samples/copy_store", TOP / "samples/take_over"
 HEADING = "| Copy by | When | A new store | A store without checksums |"
@@ -105,7 +105,6 @@ class Row:
         if when != "at rest":
             port = free_port()
             self.server = serve(program, self.path, port)
-            wait_for(port)
             assert answered(port, LAST)[0] == 200
         if when == "after a kill":
             self.stop()

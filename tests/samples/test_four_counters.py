@@ -13,7 +13,7 @@ import pytest
 
 from tests.conftest import at_once, is_listening, until
 from tests.shared.counter_calls import KINDS, RATES, Answer, answered, free_port, post, rows, serve
-from tests.shared.counter_calls import wait_for
+
 
 MODULE = "file:/usr/lib/nginx/modules/ngx_http_js_module.so"
 pytestmark = [pytest.mark.nginx, pytest.mark.needs(MODULE)]
@@ -42,8 +42,6 @@ class Bank:
         self.stores = [folder / f"part{part}.db" for part in range(PARTS)]
         pairs = list(zip(self.stores, ports))
         self.processes: list[subprocess.Popen[Any]] = [serve(program, *pair) for pair in pairs]
-        for port in ports:
-            wait_for(port)
         text = (HERE / "nginx.conf").read_text().replace("by_serial", route)
         text = text.replace("FOLDER", str(folder)).replace("PORT;", f"{self.port};")
         for part, port in enumerate(ports):

@@ -148,18 +148,26 @@ def answered(place: int | str, message: bytes, patience: float = 60) -> Answer:
 
 
 def serve(
-    program: str | Path, store: str | Path, port: int, before: Sequence[str] = ()
+    program: str | Path,
+    store: str | Path,
+    port: int,
+    *words: str,
+    before: Sequence[str | Path] = (),
+    **more: Any,
 ) -> subprocess.Popen[str]:
-    words = [*before, program, "serve", "--db", store, "--port", str(port)]
-    return subprocess.Popen(words, stdout=subprocess.DEVNULL, stderr=PIPE, text=True)
+    """A server that takes connections, as it says on standard error. `before` are words before
+    the program's path, `words` further ones of `serve`, `more` is what Popen knows."""
+    line = [*before, program, "serve", "--db", store, "--port", str(port), *words]
+    more = {"stdout": subprocess.DEVNULL, **more}
+    server = subprocess.Popen(line, stderr=PIPE, text=True, **more)
+    said = piped(server.stderr).readline()
+    assert said == f"listening on port {port}\n", f"the server doesn't listen: {said}"
+    return server
 
 
-def wait_for(port: int, seconds: int = 60) -> None:
-    for _ in range(seconds * 20):
-        if ask(port, get("/ticket/1")) is not None:
-            return
-        time.sleep(0.05)
-    raise AssertionError("the server doesn't listen")
+def end(process: subprocess.Popen[Any]) -> None:
+    process.kill()
+    process.communicate()
 
 
 @contextlib.contextmanager
@@ -168,11 +176,9 @@ def served(program: str | Path, store: str | Path) -> Iterator[int]:
     port = free_port()
     server = serve(program, store, port)
     try:
-        wait_for(port)
         yield port
     finally:
-        server.kill()
-        server.wait()
+        end(server)
 
 
 def apply(
