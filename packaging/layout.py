@@ -5,9 +5,10 @@ import hashlib
 import os
 import re
 import shutil
+import subprocess
 from pathlib import Path
 
-from sources import LIBRARY_FILES, TOP
+from sources import LIBRARY_FILES, TOP, Unfit
 
 #: Folders and files of the repository that packages take from.
 TAKEN = ("README.md", "CHANGELOG.md", "clients", "docs", "include", "samples")
@@ -24,6 +25,11 @@ PATHS = (
 )
 #: Files that packages have under another name.
 NAMED = (("samples/systemd/counter.sysusers", "debian/ladwenpik.sysusers"),)
+#: Joins the modules of the tellers' page to one file, beside which the bank's own file stays.
+JOINED = "page.js"
+JOIN = f"esbuild main.js --bundle --minify --format=esm --charset=utf8 --external:./bank.js --outfile={JOINED} --log-level=warning"
+#: A module that the page preloads.
+PRELOADED = r'<link rel="modulepreload" href="(?!bank\.js)[a-z_]+\.js">\n'
 #: Pages say what the repository has, and keep its paths.
 PAGES = (".md", ".json", ".png", ".pdf", ".a", ".1")
 
@@ -46,6 +52,7 @@ def lay_out(tree: Path, program: Path, library: Path, version: str, epoch: int) 
     write_pkgconfig(tree / "program" / "ee_value.pc", version.rsplit("-", 1)[0])
     for path in files(tree):
         put_paths(path)
+    join_page(tree / "clients" / "teller")
     name_page(tree / "clients" / "teller")
     settle(tree, epoch)
 
@@ -57,6 +64,17 @@ def copy(old: Path, new: Path) -> None:
 
 def files(tree: Path) -> list[Path]:
     return sorted(path for path in tree.rglob("*") if path.is_file())
+
+
+def join_page(folder: Path) -> None:
+    """Has the tellers' page load one file in place of its modules: a browser asks for six files at once. The modules stay beside it, for people."""
+    ran = subprocess.run(JOIN.split(), cwd=folder, stderr=subprocess.PIPE, text=True)
+    if ran.returncode != 0 or ran.stderr:
+        raise Unfit(f"esbuild: {ran.stderr}")
+    index = folder / "index.html"
+    text, link = index.read_text(), f'<link rel="modulepreload" href="{JOINED}">\n'
+    begin = text.index('<link rel="modulepreload"')
+    index.write_text(text[:begin] + link + re.sub(PRELOADED, "", text[begin:]))
 
 
 def name_page(folder: Path) -> None:

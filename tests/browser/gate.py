@@ -3,9 +3,11 @@
 from __future__ import annotations
 
 import contextlib
+import queue
 import socket
 import struct
 import threading
+import time
 from typing import Callable, Iterator
 
 from ee_counter_client.testing import gate
@@ -50,10 +52,10 @@ class Gate(gate.Gate):
 
 
 class Relay:
-    """Passes bytes on to a port, and can break every connection at once."""
+    """Passes bytes on to a port, and can break every connection at once. As on a long line, a connection may take `first` seconds to come about, and `each` byte some on its way."""
 
-    def __init__(self, port: int) -> None:
-        self.to, self.lock = port, threading.Lock()
+    def __init__(self, port: int, first: float = 0.0, each: float = 0.0) -> None:
+        self.to, self.first, self.each, self.lock = port, first, each, threading.Lock()
         self.clients: list[socket.socket] = []
         self.listener = socket.create_server(("127.0.0.1", 0), backlog=100)
         self.port: int = self.listener.getsockname()[1]
@@ -62,16 +64,35 @@ class Relay:
     def listen(self) -> None:
         while True:
             client, _ = self.listener.accept()
-            server = socket.create_connection(("127.0.0.1", self.to))
             with self.lock:
                 self.clients.append(client)
-            for pair in ((client, server), (server, client)):
-                threading.Thread(target=self.pump, args=pair, daemon=True).start()
+            threading.Thread(target=self.connect, args=(client,), daemon=True).start()
+
+    def connect(self, client: socket.socket) -> None:
+        time.sleep(self.first)
+        server = socket.create_connection(("127.0.0.1", self.to))
+        for one, other in ((client, server), (server, client)):
+            sent: queue.Queue[tuple[float, bytes]] = queue.Queue()
+            threading.Thread(target=self.take, args=(one, sent), daemon=True).start()
+            threading.Thread(target=self.give, args=(other, sent), daemon=True).start()
+
+    def take(self, one: socket.socket, sent: queue.Queue[tuple[float, bytes]]) -> None:
+        data = b"-"
+        while data:
+            try:
+                data = one.recv(65536)
+            except OSError:
+                data = b""
+            sent.put((time.monotonic() + self.each, data))
 
     @staticmethod
-    def pump(one: socket.socket, other: socket.socket) -> None:
+    def give(other: socket.socket, sent: queue.Queue[tuple[float, bytes]]) -> None:
         with contextlib.suppress(OSError):
-            while data := one.recv(65536):
+            while True:
+                moment, data = sent.get()
+                time.sleep(max(0.0, moment - time.monotonic()))
+                if not data:
+                    break
                 other.sendall(data)
             other.shutdown(socket.SHUT_WR)
 

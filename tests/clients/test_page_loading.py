@@ -1,4 +1,4 @@
-"""What a load of the page asks for: all modules at once, and only two files if the browser was there before."""
+"""How fast the page is there at a latency of 300 ms, and what a load asks for: one script with the package, all modules at once without it, and little if the browser was there before."""
 
 from __future__ import annotations
 
@@ -7,6 +7,7 @@ import shutil
 import subprocess
 import sys
 from pathlib import Path
+from statistics import median
 
 import pytest
 
@@ -15,6 +16,7 @@ from tests.conftest import TOP
 
 pytest.importorskip("selenium")
 from tests.browser.engines import Chromium
+from tests.browser.gate import Relay
 from tests.browser.page import Page
 
 #: The files that came over the network, and their bytes.
@@ -47,12 +49,12 @@ def test_all_modules_are_preloaded() -> None:
     assert sorted(preloaded(fewer)) != sorted(imported(PAGE))  # control
 
 
-def name_page(folder: Path) -> str:
+def packed(folder: Path) -> str:
     """Does to a page what the package does; the name of its second path."""
-    script = "import layout, pathlib, sys; layout.name_page(pathlib.Path(sys.argv[1]))"
+    script = "import layout, pathlib, sys; page = pathlib.Path(sys.argv[1]); layout.join_page(page); layout.name_page(page)"
     words = [sys.executable, "-B", "-c", script, str(folder)]
     subprocess.run(words, cwd=TOP / "packaging", check=True)
-    found = re.search('href="([0-9a-f]{16})/main.js"', (folder / "index.html").read_text())
+    found = re.search('href="([0-9a-f]{16})/page.js"', (folder / "index.html").read_text())
     assert found is not None
     return found[1]
 
@@ -70,11 +72,12 @@ def headers(bank: Bank, path: str) -> tuple[int, str, str | None]:
 
 
 @pytest.mark.nginx
+@pytest.mark.needs("esbuild")
 def test_only_files_of_this_page_are_stored(bank: Bank, folder: Path) -> None:
     """Not the page itself, nor the bank's own file, an answer, or what isn't there: as the files of an earlier release. Files alone are compressed."""
     bank.begin([7])
-    name = name_page(bank.teller)
-    for file in ("main.js", "style.css", "icon.svg"):
+    name = packed(bank.teller)
+    for file in ("page.js", "main.js", "style.css", "icon.svg"):
         status, stored, how = headers(bank, f"/teller/{name}/{file}")
         assert (status, stored) == (200, "private, max-age=31536000, immutable")
         assert how == (None if file == "icon.svg" else "gzip")
@@ -86,7 +89,7 @@ def test_only_files_of_this_page_are_stored(bank: Bank, folder: Path) -> None:
     assert headers(bank, "/inventory/7/2012-02") == (200, "no-store", None)
     shutil.copytree(PAGE, folder / "later")
     (folder / "later/words.js").write_text((PAGE / "words.js").read_text() + "// Later.\n")
-    assert name_page(folder / "later") != name
+    assert packed(folder / "later") != name
 
 
 class Trusting(Chromium):
@@ -111,8 +114,9 @@ class Trusting(Chromium):
 
 @pytest.mark.browser
 @pytest.mark.nginx
+@pytest.mark.needs("esbuild")
 def test_files_come_once(bank: Bank, folder: Path) -> None:
-    """Of a page that was there before the files come no more, and an upgrade meanwhile is noticed. Control: without its second path each file comes each time."""
+    """Of a page that was there before the files come no more, and an upgrade meanwhile is noticed. Control: without its second path each module comes each time."""
     engine = Trusting(folder / "profile", bank)
     page = Page("chromium", "about:blank", folder, engine=engine)
     whole = sorted({*preloaded((PAGE / "index.html").read_text()), "style.css"})
@@ -120,10 +124,12 @@ def test_files_come_once(bank: Bank, folder: Path) -> None:
         for _ in range(2):
             files, size = engine.loads(page, bank.url)
             assert {*whole} <= {*files} and size < 120_000
-        name_page(bank.teller)
-        assert {*whole} <= {*engine.loads(page, bank.url)[0]}
+        packed(bank.teller)
+        own = ["bank.js", "old.js", "start.js"]
         files, size = engine.loads(page, bank.url)
-        assert files == ["bank.js", "old.js", "start.js"] and size < 4_000
+        assert {*files} - {"icon.svg"} == {*own, "page.js", "style.css"} and size < 50_000
+        files, size = engine.loads(page, bank.url)
+        assert files == own and size < 4_000
         index, other = bank.teller / "index.html", "0123456789abcdef"
         text = index.read_text()
         index.write_text(re.sub("[0-9a-f]{16}/", f"{other}/", text))
@@ -131,6 +137,56 @@ def test_files_come_once(bank: Bank, folder: Path) -> None:
         page.waits_for("The page didn't load completely. It tries again by itself.")
         index.write_text(text)
         page.until(lambda: page.is_shown("#start form"), "the page is there")
+    finally:
+        page.quit()
+
+
+#: Notes when the first view is shown.
+USABLE = """
+const seen = () => {
+    if (document.querySelector("section.view:not([hidden])")) window.usable = performance.now();
+    else requestAnimationFrame(seen);
+};
+seen();
+"""
+#: By line: the seconds before a connection's first byte, those of each way, and the most until the page is usable. A request waits for 300 ms; or a round trip takes as long, and a connection three: for TCP, TLS and the request.
+LINES = {"a request": (0.3, 0.0, 1.5), "a round trip": (0.3, 0.15, 3.0)}
+
+
+@pytest.mark.browser
+@pytest.mark.nginx
+@pytest.mark.needs("esbuild")
+@pytest.mark.parametrize("line", LINES)
+def test_usable_at_once(bank: Bank, folder: Path, browser: str, line: str) -> None:
+    """At a first load over a slow line: the median of three. Control: as modules the page takes longer."""
+    bank.begin([7])
+    own = bank.teller / "bank.js"
+    own.write_text(own.read_text() + USABLE)
+    *slow, most = LINES[line]
+    page = Page(browser, "about:blank", folder, certificate=bank.certificate)
+
+    def first_loads() -> float:
+        """Each at an address of its own, of which the browser has nothing."""
+        found = []
+        for _ in range(3):
+            page.open(f"https://127.0.0.1:{Relay(bank.port, *slow).port}/teller/")
+            page.until(lambda: page.run("return window.usable"), "the page is usable")
+            assert page.is_shown("#start form")
+            found.append(float(page.run("return window.usable")) / 1000)
+        return median(found)
+
+    try:
+        modules = first_loads()
+        packed(bank.teller)
+        whole = first_loads()
+        page.reload()
+        page.choose_desk(5)
+        page.joins()
+        page.pays(1, 7, "L7EE")
+        print(
+            f"{browser}, 300 ms for {line}: usable after {whole:.2f} s, as modules {modules:.2f} s"
+        )
+        assert whole <= most < modules and page.complaints() == []
     finally:
         page.quit()
 

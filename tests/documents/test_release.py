@@ -15,7 +15,7 @@ from tests.samples.books import script
 from tests.samples.releases import Tree, done, end_keys, fingerprint, library_in, make_key
 from tests.shared.counter_calls import run
 
-pytestmark = pytest.mark.needs("dh", "fakeroot", "gpg", "cc", "git")
+pytestmark = pytest.mark.needs("dh", "esbuild", "fakeroot", "gpg", "cc", "git")
 RT = """#!/bin/sh
 [ "$*" = "ci --anew" ] || exit 2
 mkdir -p crates/ee_cli/out

@@ -12,7 +12,7 @@ from tests.samples.books import script
 from tests.samples.releases import KEPT, PROGRAM, PROOF, VERDICT, Packages, Tree
 from tests.samples.releases import library_in, without
 
-pytestmark = pytest.mark.needs("dh", "fakeroot", "git", "cc")
+pytestmark = pytest.mark.needs("dh", "esbuild", "fakeroot", "git", "cc")
 MAIN, OTHER = "crates/ee_cli/src/main.rt", "crates/ee_units/src/lib.rt"
 
 

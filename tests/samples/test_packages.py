@@ -18,7 +18,7 @@ from tests.restore.counter_day import run
 from tests.samples.releases import Packages, Tree, change, end_keys, library_in, make_key, sum_of
 from tests.shared.counter_calls import matched
 
-pytestmark = pytest.mark.needs("dh", "fakeroot", "git", "cc")
+pytestmark = pytest.mark.needs("dh", "esbuild", "fakeroot", "git", "cc")
 #: What the machine that builds may have otherwise, and the packages mustn't show.
 OTHERWISE = {"TZ": "Asia/Tokyo", "LC_ALL": "C", "HOME": "/nonexistent"}
 FIELDS = Path(__file__).parent / "parts/spdx_fields.json"

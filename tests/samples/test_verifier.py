@@ -17,7 +17,7 @@ from tests.samples.books import script
 from tests.samples.releases import KEPT, VERDICT, Packages, Tree, change, done, end_keys
 from tests.samples.releases import fingerprint, library_in, make_key, sum_of, with_line, without
 
-pytestmark = pytest.mark.needs("dh", "fakeroot", "git", "cc", "gpg")
+pytestmark = pytest.mark.needs("dh", "esbuild", "fakeroot", "git", "cc", "gpg")
 VERIFIER = TOP / "packaging/verify"
 CHECKS = ("signature", "sums", "program", "verdict", "sources")
 GOOD = ["right"] * 5
