@@ -30,6 +30,9 @@ let letters = [];
 let typed_at = -NEXT;
 let read_at = -TWICE;
 
+// Brings the field for bonds in hand into sight, once nothing follows a letter.
+let typing;
+
 // The scans that wait, by serial number, or by their text if that is none. And who takes scans: `canTake`, and `take`, which is given texts and returns how many of them it took.
 const waiting = new Map();
 const takers = [];
@@ -128,9 +131,25 @@ function pressedOutside(event) {
   if (is_soon && ["Enter", "Tab"].includes(event.key) && letters.length > 1) receive([takeBack(0)]);
 }
 
+// The browser would scroll to a field that is out of sight at each letter, and Enter would bring the next bond into sight: a long sheet would jump twice at each scan. So such a letter is put in here, and
+// the page moves to the field only if no other key follows soon, as if a person types.
+function typedUnseen(field, event) {
+  clearTimeout(typing);
+  const { top, bottom } = field.getBoundingClientRect();
+  const is_seen = top >= parseFloat(getComputedStyle(document.documentElement).scrollPaddingTop) && bottom <= innerHeight;
+  if (is_seen || !isText(event) || event.isComposing || field.selectionStart !== field.value.length) return;
+  event.preventDefault();
+  field.value += event.key;
+  field.dispatchEvent(new Event("input", { bubbles: true }));
+  typing = setTimeout(() => field.scrollIntoView({ block: "nearest" }), NEXT);
+}
+
 function typedOutside(event) {
-  if (!byId("confirm").open && byId("in-hand").checkVisibility()) {
-    byId("in-hand").focus();
+  const field = byId("in-hand");
+  if (!byId("confirm").open && field.checkVisibility()) {
+    field.addEventListener("focusin", (focusing) => focusing.stopPropagation(), { once: true });
+    field.focus({ preventScroll: true });
+    typedUnseen(field, event);
     return;
   }
   if (event.key === " ") event.preventDefault();
@@ -138,10 +157,15 @@ function typedOutside(event) {
   typed_at = performance.now();
 }
 
+function typedForScan(field, event) {
+  letters = [];
+  if (field.id === "in-hand") typedUnseen(field, event);
+}
+
 function pressed(event) {
   const at = document.activeElement;
   if (byId("confirm").open || !at.matches("input:not([type=checkbox])")) pressedOutside(event);
-  else if (at.matches(FIELDS)) letters = [];
+  else if (at.matches(FIELDS)) typedForScan(at, event);
   else pressedIn(at, event);
 }
 

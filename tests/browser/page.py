@@ -5,6 +5,8 @@ from __future__ import annotations
 import time
 from typing import Any, Callable
 
+from selenium.webdriver.common.action_chains import ActionChains
+
 from tests.browser.browser import Browser, Keys
 
 #: Dollars of the bonds of `bank.bonds_of` in February 2012, by the published rates, in cents.
@@ -300,6 +302,13 @@ class Page(Browser):
         """As a scanner types, wherever the keyboard is: each text at once, with Enter."""
         for text in texts:
             self.keys(text + Keys.ENTER)
+
+    def scan_in_steps(self, text: str) -> None:
+        """As a scanner of a letter in 20 ms types, so that the browser paints between."""
+        chain = ActionChains(self.driver)
+        for letter in (*text, Keys.ENTER):
+            chain = chain.send_keys(letter).pause(0.02)
+        chain.perform()
 
     def watch_beeps(self) -> None:
         """From here on, for `beeps`."""

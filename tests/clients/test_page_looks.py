@@ -454,6 +454,8 @@ def test_fields(bank: Bank, new_page: NewPage) -> None:
     assert page.all("#customer-error") == [] and field.get_attribute("aria-invalid") is None
     assert not field.get_attribute("aria-describedby")
     assert bank.gate.bodies == []
+    page.show_sheet(7, "November 2011" if kinds[3][0] == "text" else "2011-11")
+    assert "November 2011" in page.caption(), "no month is cut as it is typed"
 
 
 # ---- pictures for docs/pictures

@@ -12,6 +12,7 @@ from tests.clients.test_page_faults import held
 
 pytest.importorskip("selenium")
 from tests.browser.browser import Keys
+from tests.browser.measures import in_window
 from tests.browser.page import NO_PRINTER, VALUES, Page, dollars
 
 pytestmark = [pytest.mark.browser, pytest.mark.nginx]
@@ -117,6 +118,48 @@ def test_scans_wait(bank: Bank, page: Page) -> None:
     page.scan("L11EE")
     page.press("#forget-scans")
     assert not page.is_shown("#scanned")
+
+
+#: Counts how often the page comes to the field for bonds in hand.
+JUMPS = """
+    window.jumps = 0;
+    const field = document.getElementById("in-hand");
+    addEventListener("scroll", () => { window.jumps += field.getBoundingClientRect().bottom > 0 ? 1 : 0; });
+"""
+
+
+def jumps(page: Page) -> int:
+    """Scans bonds at the end of a long sheet, with the keyboard in the field and elsewhere: how often the page goes back to the field."""
+    page.resize(1366, 768)
+    page.show_sheet(60)
+    page.scan("S50EE")
+    page.waits_for("1 bond", "#chosen")
+    page.run(JUMPS)
+    for count, number in enumerate((60, 42, 58), 2):
+        page.scan_in_steps(f"S{number}EE")
+        page.waits_for(f"{count} bonds", "#chosen")
+        assert in_window(page, f"input[data-serial='S{number}EE']")
+        if count == 3:
+            page.run("document.activeElement.blur()")
+    return int(page.run("return window.jumps"))
+
+
+def test_a_long_sheet_scanned(bank: Bank, page: Page) -> None:
+    """The page goes from bond to bond. A person who types is shown the field."""
+    bank.registers_many(60, 60)
+    assert jumps(page) == 0
+    page.keys("S", "5")
+    page.until(lambda: in_window(page, "#in-hand"), "the field is shown")
+    page.keys("9", Keys.ENTER)
+    page.waits_for("5 bonds", "#chosen")
+
+
+def test_a_jump_is_found(bank: Bank, new_page: NewPage) -> None:
+    """Control: if the browser puts the letters in, the page goes to the field and back at each scan."""
+    bank.begin([7])
+    bank.registers_many(60, 60)
+    bank.change_page("scans.js", ("if (is_seen || ", "if (true || "))
+    assert jumps(new_page(day=DAY)) >= 3
 
 
 def test_walk_ins_scanned(bank: Bank, page: Page) -> None:
