@@ -38,7 +38,11 @@ LINK = re.compile(r"\[[^\]]*\]\(([^)\s]+)\)")
 PRINTS = re.compile(r"`(\./ee_cli [^`]*)` prints `([^`]*)`")
 #: What comes at any moment: what a shell says of a job, and that a server listens.
 NOTICE = re.compile(r"\S+: line \d+: +\d+ (Killed|Terminated) |listening on port ")
-UNMARKED = re.compile(r"(\./ee_cli|curl|sqlite3|rt|cc|cobc|pip) |(clients|tests|benchmarks)/", re.M)
+UNMARKED = re.compile(
+    r"(\./ee_cli|curl|sqlite3|rt|cc|cobc|pip|apt-get|install|mkdir|mkfs\.\w+|systemctl|gluster) "
+    r"|(clients|tests|benchmarks|/opt)/",
+    re.M,
+)
 LIBRARY = Path(os.environ.get("EE_VALUE_LIBRARY", TOP / "clients/value/out/libee_value.so.1"))
 
 
@@ -266,6 +270,9 @@ def blocks_are_marked(blocks: list[Block]) -> None:
     for block in blocks:
         if block.kind == "quoted from":
             check_quoted(block)
-        elif block.kind != "not run:":
+        elif block.kind == "not run:":
+            for name in re.findall(r"tests/[\w/]+(?:\.py)?", block.words):
+                assert (TOP / name).exists(), f"line {block.line}: there is no {name}"
+        else:
             found = UNMARKED.match("\n".join(block.lines))
             assert found is None, f"line {block.line}: a command without `$ `"

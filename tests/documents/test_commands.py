@@ -82,6 +82,10 @@ FAULTS = {
     "another output": (f"{FENCE}\n$ echo 1\n2\n{FENCE}", "it prints"),
     "another output in a line": ("`./ee_cli --version` prints `ee_cli 0`.", "it prints"),
     "a command without its mark": (f"{FENCE}\n./ee_cli --version\n{FENCE}", "without `$ `"),
+    "a test that isn't there": (
+        f"<!-- not run: tests/no.py does -->\n{FENCE}\n{FENCE}",
+        "no tests/no",
+    ),
     "not in its file": (f"<!-- quoted from README.md -->\n{FENCE}\nno such\n{FENCE}", "stand so"),
     "goes on from nowhere": (f"<!-- goes on from NO.md -->\n{FENCE}\n$ ls\n{FENCE}", "NO.md"),
     "a line that is too long": ("long " * 20 + "lines", "has 105 columns"),

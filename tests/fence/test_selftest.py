@@ -272,3 +272,12 @@ def test_a_line_that_fits_nothing_is_told(whole: Machine) -> None:
     whole.shell(f"rm {ACCEPTED}")
     wrong = {"accepted drop-in /etc/systemd/system/old.conf"}
     assert (found.status, found.names["WRONG"]) == (1, wrong), found.text
+
+
+def test_an_upgrade_leaves_a_complete_archive(whole: Machine) -> None:
+    """By the lines of the page, at whose end the counter and the archive are started again."""
+    compared = "/usr/share/ladwenpik/restore/guard /var/lib/counter/day.db /srv/archive/counter"
+    for block in blocks("UPGRADE", "1. Stop"):
+        whole.shell(block)
+    assert "the store has 0 more" in whole.shell(compared)
+    whole.shell(blocks("UPGRADE", "5. Resume")[0] + "systemctl start counter-archive.service")
