@@ -13,7 +13,7 @@ from typing import Any, Callable, NoReturn
 SUITE = "bookworm"
 MIRROR = "http://deb.debian.org/debian"
 #: What the packages need, what a bank has beside them, and the shells in which completion is tried.
-INCLUDED = "systemd,systemd-sysv,logrotate,nftables,nginx-light,libnginx-mod-http-js,easy-rsa,apache2-utils,python3,curl,man-db,bash-completion,zsh,sqlite3,openssl,iproute2,btrfs-progs,faketime,procps,prometheus,prometheus-node-exporter"
+INCLUDED = "systemd,systemd-sysv,logrotate,nftables,nginx-light,libnginx-mod-http-js,easy-rsa,apache2-utils,python3,curl,man-db,bash-completion,zsh,sqlite3,openssl,openssh-server,adduser,iproute2,btrfs-progs,faketime,procps,prometheus,prometheus-node-exporter"
 DEVICES = ["null", "zero", "full", "random", "urandom", "tty"]
 PATH = "/usr/sbin:/usr/bin:/sbin:/bin"
 SYSTEMD = "systemd --system --unit=multi-user.target --log-target=journal --show-status=no"

@@ -10,10 +10,9 @@ from pathlib import Path
 import pytest
 
 from tests.conftest import TOP
-from tests.fence.conftest import Machine
 from tests.restore.counter_day import entry_of
 from tests.samples.conftest import machines, place, root
-from tests.samples.test_systemd import UNITS, Bank, bank, begun, machine, page
+from tests.samples.test_systemd import LOG, Bank, bank, begun, machine
 from tests.shared.counter_calls import Answer
 
 __all__ = ["bank", "begun", "machine", "machines", "place", "root"]
@@ -23,7 +22,6 @@ pytestmark = [
     pytest.mark.slow,
     pytest.mark.needs("mkfs.btrfs", "sqlite3", "file:/dev/loop-control"),
 ]
-LOG, SECOND = "/srv/requests/requests.log", "/srv/counter-requests/requests.log"
 
 
 @pytest.fixture
@@ -68,33 +66,3 @@ def test_lost_disk(logged: Bank) -> None:
     bank.load.stop()
     bank.gives_all_replies_again()
     print(f"from the lost disk to serving {seconds:.1f} seconds, {len(bank.load.replies)} replies")
-
-
-def soon(m: Machine, command: str) -> None:
-    for _ in range(300):
-        if m.on("sh", "-c", command).returncode == 0:
-            return
-        time.sleep(0.1)
-    raise AssertionError(command)
-
-
-def test_second_machine(logged: Bank) -> None:
-    """The page's blocks set up the user who may read three things, and the pull. Its log rotates."""
-    m, restore = logged.machine, "/root/samples/restore"
-    m.shell(f"install -m 755 {restore}/pull /opt/counter/restore/; groupadd -f adm")
-    m.shell(f"install -m 644 {restore}/counter-pull.service {UNITS}/")
-    m.write(f"{UNITS}/counter-pull.service.d/here.conf", '[Service]\nEnvironment="OVER=sh -c"\n')
-    m.shell(f"touch {LOG}; chgrp adm {LOG}; chmod 640 {LOG}")
-    m.shell(page("restore", 2))
-    m.shell(page("restore", 3))
-    stated = m.shell("stat -c '%a %U' /srv/pull/.ssh; cat /srv/pull/.ssh/authorized_keys")
-    assert stated.startswith("700 pull\nrestrict ssh-ed25519")
-    read = f"cat /srv/archive/counter/end.json /srv/archive/machine/machine.tar {LOG} > /dev/null"
-    assert m.on("su", "-s", "/bin/sh", "pull", "-c", read).returncode == 0
-    assert m.on("su", "-s", "/bin/sh", "nobody", "-c", read).returncode == 1, "control"
-    soon(m, "cmp /srv/archive/counter/requests.jsonl /srv/counter-archive/requests.jsonl")
-    m.shell(f'echo \'{{"entry":"one"}}\' >> {LOG}')
-    soon(m, f"cmp {LOG} {SECOND}")
-    m.shell("logrotate -f -s /tmp/rotated /etc/logrotate.d/counter-requests")
-    m.shell(f'echo \'{{"entry":"two"}}\' >> {LOG}')
-    soon(m, f"cat {SECOND}.1 {SECOND} | cmp - {LOG}")

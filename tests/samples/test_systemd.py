@@ -22,6 +22,7 @@ pytestmark = [
 ]
 STORE, BONDS = "/var/lib/counter/day.db", 6000
 UNITS, SOCKET = "/etc/systemd/system", "/run/counter-http.sock"
+LOG = "/srv/requests/requests.log"
 
 
 def page(name: str, nth: int) -> str:
@@ -114,6 +115,7 @@ def test_first_day(begun: Bank) -> None:
     begun.wait_until_served()
     answer = begun.ask(get("/value/50/2010-11/2012-02"))
     assert answer is not None and '"value":"25.16"' in answer[1]
+    assert m.shell(page("systemd", 1)).endswith('{"code":69,"fault":"NotFound"}')
     enabled = m.on("systemctl", "is-enabled", "counter.service", "counter-copy.timer")
     assert enabled.stdout.split() == ["enabled", "enabled"]
     process = m.shown("counter.service", "MainPID")
@@ -252,24 +254,55 @@ def test_store_in_use(bank: Bank, other: Machine) -> None:
     assert time.time() - begun < 8, "a stop and a start begin without a pause"
 
 
-def test_witness(bank: Bank) -> None:
-    """The second machine has more than this one: the counter is stopped, somebody is called, and a start comes to nothing. A witness that is killed stops nothing."""
-    m, restore = bank.machine, "/root/samples/restore"
-    m.shell("install -d second; cp /srv/archive/counter/end.json second/")
-    m.shell("chmod -R a+rX second; chmod a+x /root; groupadd -f adm")
-    m.shell(f"install -m 755 {restore}/witness /opt/counter/restore/; cd {restore}")
-    m.shell(
-        f"cd {restore}; install -m 644 counter-witness.service counter-taken-back.service {UNITS}"
-    )
-    answer = '[Service]\nEnvironment="WITNESS=cat /root/second/end.json"\nProtectHome=no\n'
-    m.write(f"{UNITS}/counter-witness.service.d/here.conf", answer)
-    m.shell(f"install -D -m 644 {restore}/witness.conf {UNITS}/counter.service.d/witness.conf")
-    m.shell("systemctl daemon-reload; systemctl restart counter-archive.service counter.service")
+@pytest.fixture(scope="module")
+def second(bank: Bank) -> Machine:
+    """The machine is the second one too, by the commands of the page."""
+    m, keys = bank.machine, "/etc/counter"
+    m.shell("echo 127.0.0.1 counter.bank.example second.bank.example >> /etc/hosts")
+    m.shell(f"install -d /run/sshd {keys}; /usr/sbin/sshd; install -g adm -m 640 /dev/null {LOG}")
+    m.shell(f"for key in pull witness; do ssh-keygen -q -t ed25519 -N '' -f {keys}/$key.key; done")
+    m.shell(f"ssh-keyscan counter.bank.example second.bank.example > {keys}/known_hosts")
+    pull, witness = m.shell(f"cut -d ' ' -f 1,2 {keys}/pull.key.pub {keys}/witness.key.pub").split(
+        "\n"
+    )[:2]
+    m.shell(page("restore", 2).replace("ssh-ed25519 AAAA..", pull))
+    m.shell("cd samples/restore; install -m 755 pull /opt/counter/restore/")
+    m.shell(f"install -m 644 samples/restore/counter-pull.service {UNITS}")
+    m.shell(page("restore", 3))
+    allowed = page("restore", 4).replace("ssh-ed25519 AAAA..", witness)
+    m.write("/srv/witness/.ssh/authorized_keys", allowed)
+    m.shell(f"chown counter {keys}/witness.key")
+    return m
+
+
+def soon(m: Machine, command: str) -> None:
+    until(lambda: m.on("sh", "-c", command).returncode == 0, command)
+
+
+def test_second_machine(second: Machine) -> None:
+    """It pulls the archive and follows the log, whose files rotate; its user reads no more than these."""
+    archive, asked = "/srv/archive", "/srv/counter-requests/requests.log"
+    read = f"cat {archive}/counter/end.json {archive}/machine/machine.tar {LOG} > /dev/null"
+    assert second.on("su", "-s", "/bin/sh", "pull", "-c", read).returncode == 0
+    assert second.on("su", "-s", "/bin/sh", "nobody", "-c", read).returncode == 1, "control"
+    soon(second, f"cmp {archive}/counter/requests.jsonl /srv/counter-archive/requests.jsonl")
+    second.shell(f'echo \'{{"entry":"one"}}\' >> {LOG}')
+    soon(second, f"cmp {LOG} {asked}")
+    second.shell("logrotate -f -s /tmp/rotated /etc/logrotate.d/counter-requests")
+    second.shell(f'echo \'{{"entry":"two"}}\' >> {LOG}')
+    soon(second, f"cat {asked}.1 {asked} | cmp - {LOG}")
+
+
+def test_witness(bank: Bank, second: Machine) -> None:
+    """The second machine has more: the counter is stopped, somebody is called, and a start comes to nothing. A witness that is killed stops nothing."""
+    m = bank.machine
+    m.shell(page("restore", 5))
     assert bank.is_active(), bank.journal("-u", "counter-witness.service")
     m.on("systemctl", "kill", "--signal=KILL", "counter-witness.service")
     time.sleep(3)
     assert bank.is_active(seconds=1) and bank.is_active("counter-witness.service", 1), "control"
-    m.shell("sed -i 's/\"row\":/&9/' second/end.json")
+    m.shell("systemctl stop counter-pull.service; cd /srv/counter-archive; cp -p end.json more")
+    m.shell("cd /srv/counter-archive; sed -i 's/\"row\":/&9/' more; mv more end.json")
     assert m.wait("counter.service", "ActiveState", "inactive", 20)
     calls = "counter-failed@counter-witness.service.service"
     m.wait(calls, "ExecMainExitTimestampMonotonic", "[1-9][0-9]*")
@@ -277,9 +310,9 @@ def test_witness(bank: Bank) -> None:
     assert "counter-witness.service: witness: this machine was taken back" in called
     m.on("systemctl", "start", "--no-block", "counter.service")
     assert not bank.is_active(seconds=20)
-    m.shell(f"rm {UNITS}/counter.service.d/witness.conf; systemctl daemon-reload")
-    m.shell("systemctl stop counter-witness.service; systemctl reset-failed")
-    m.shell("systemctl start counter.service")
+    m.shell(f"rm {UNITS}/counter.service.d/witness.conf; pkill sshd")
+    m.shell("systemctl daemon-reload; systemctl disable --now counter-witness.service")
+    m.shell("systemctl reset-failed; systemctl start counter.service")
     bank.wait_until_served()
 
 
