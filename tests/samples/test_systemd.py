@@ -296,8 +296,8 @@ def test_second_machine(second: Machine) -> None:
 def test_witness(bank: Bank, second: Machine) -> None:
     """The second machine has more: the counter is stopped, somebody is called, and a start comes to nothing. A witness that is killed stops nothing."""
     m = bank.machine
-    m.shell(page("restore", 5))
-    assert bank.is_active(), bank.journal("-u", "counter-witness.service")
+    ran = m.on("sh", "-ec", "cd /root; " + page("restore", 5))
+    assert ran.returncode == 0, ran.stdout + bank.journal("-n", "60")
     m.on("systemctl", "kill", "--signal=KILL", "counter-witness.service")
     time.sleep(3)
     assert bank.is_active(seconds=1) and bank.is_active("counter-witness.service", 1), "control"
@@ -311,7 +311,7 @@ def test_witness(bank: Bank, second: Machine) -> None:
     m.on("systemctl", "start", "--no-block", "counter.service")
     assert not bank.is_active(seconds=20)
     m.shell(f"rm {UNITS}/counter.service.d/witness.conf; pkill sshd")
-    m.shell("systemctl daemon-reload; systemctl disable --now counter-witness.service")
+    m.shell("systemctl daemon-reload; systemctl stop counter-witness.service")
     m.shell("systemctl reset-failed; systemctl start counter.service")
     bank.wait_until_served()
 
