@@ -15,7 +15,7 @@ from tests.conftest import TOP
 from tests.documents.test_commands import files
 
 WALKS = "CONTRIBUTING.md"
-LEFT_OUT = (WALKS, "docs/DECISIONS.md", "benchmarks/README.md")
+LEFT_OUT = (WALKS, ".ci/points.toml", "docs/DECISIONS.md", "benchmarks/README.md")
 COMMENT = re.compile(r"<!-- walk(, with proofs)?: (.*\S) -->")
 LINES = ("**Version:** ", "**Limits:** ")
 

@@ -322,6 +322,7 @@ UNUSABLE = {
     "a table less": changed("DROP TABLE extensions"),
     "an index less": changed("DROP INDEX bonds_owner"),
     "a bond without its ticket": changed("UPDATE bonds SET ticket = 1"),
+    "a line without its ticket": changed("INSERT INTO paid VALUES (1, 1, 12, 1, 2588)"),
     "a denomination that no bond has": changed("UPDATE bonds SET denom = 51"),
     "a space in a kept act": changed("UPDATE answers SET act = act || ' '"),
 }

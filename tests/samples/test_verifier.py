@@ -231,7 +231,7 @@ def test_later_commit(bank: Bank, folder: Path, kind: str) -> None:
     if later["name"]:
         change(bank.tree.path / later["name"], later["old"], later["new"])
     else:
-        next(bank.tree.path.glob("crates/ee_units/must-fail/*.edit")).unlink()
+        next(bank.tree.path.glob("crates/*/must-fail/*.edit")).unlink()
     now = bank.tree.commit(kind)
     try:
         forged = Forged(bank, folder / "release")

@@ -42,7 +42,10 @@ fn is_of_bad_month(row: &ValueRow) -> bool {
 fn pays_in_cents(rt: HostRuntime) {
     assert!(rt; ee_value_cents(50, 201005, 201505, 350, 350) == 2974);
     assert!(rt; ee_value_cents(50, 201005, 203011, 340, 400) == 5100);
+    assert!(rt; ee_value_cents(50, 201005, 201105, 350, 350) == 2566);
     assert!(rt; ee_value_cents(50, 201005, 201104, 350, 350) == -7);
+    assert!(rt; ee_value_cents(50, 201005, 201513, 350, 350) == -3);
+    assert!(rt; ee_value_cents(51, 201005, 201505, 2001, 350) == -1);
     assert!(rt; ee_value_cents(50, 201005, 201505, 350, 2001) == -5);
 }
 
@@ -52,6 +55,7 @@ fn shows_rows(rt: HostRuntime) {
     let mut row = NOTHING;
     assert!(rt; ee_value_row_into(50, 201005, 203011, 340, 400, &mut row) == 0);
     assert!(rt; is_extended(&row));
+    assert!(rt; ee_value_row(50, 201005, 201104, 350, 350).payable_cents == 0);
 }
 
 #[test]
@@ -76,5 +80,8 @@ fn writes_texts(rt: HostRuntime) {
     assert!(rt; buffer == *b"done\0x");
     assert!(rt; ee_value_status_text(4, &mut buffer) == 28);
     assert!(rt; buffer == *b"the r\0");
+    let mut whole = [120u8; 44];
+    assert!(rt; ee_value_status_text(3, &mut whole) == 43);
+    assert!(rt; whole == *b"the month is no month from 200505 to 219912\0");
     assert!(rt; ee_value_version() == 10000);
 }

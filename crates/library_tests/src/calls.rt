@@ -153,6 +153,7 @@ GET /inventory/7/02/2012 { => 66 NoRoute
 GET /ticket/1?x { => 65 ticket
 GET http://x/ticket/1 { => 66 NoRoute
 GET /rates { => 67 BadMethod
+PUT /rates { => 67 BadMethod
 get /ticket/0 { => 67 BadMethod
 POST /ticket/0 { => 67 BadMethod
 HEAD /ticket/1 { => 67 BadMethod

@@ -137,6 +137,7 @@ fn other_texts_are_of_no_act(rt: HostRuntime) -> Result<(), Fail> {
 const NO_REPLIES: &str = r#" => none
 {} => none
 {"new":2, "same":0} => none
+{"new":2,"same":0}  => none
 {"same":0,"new":2} => none
 {"new":2,"same":0,"x":0} => none
 {"new":"2","same":0} => none

@@ -18,8 +18,8 @@ use std::process::Abort;
 use std::test::Fail;
 
 /// Calls in order over one list of books, each followed by its result. A day begins; what the books show; an act
-/// is seen and decided, and the books don't change; it is done, and the day is closed; the parts of the books,
-/// and the books of these parts. Then calls that need no books: an act that is decided on a view with a number of
+/// is seen and decided, and the books don't change; it is done, and a bond of it is redeemed again over the books of
+/// the books' parts; the day is closed; the parts of the books, and of the books of these parts. Then calls that need no books: an act that is decided on a view with a number of
 /// tickets across all days, a message without a connection, and terms, which are made once for equal rates.
 const CALLS: &str =
     r#"> do {"act":"rates","rates":[{"from":"2010-05","rate":"2.00%"},{"from":"2010-11","rate":"3.50%"}]}
@@ -47,6 +47,8 @@ Total                                                    5062.50         133.72 
 none
 > do {"act":"redeem","day":"2012-02-06","payee":7,"serials":["L1EE","K2EE","M3EE"]}
 {"day":"2012-02-06","lines":[{"paid":"25.88","serial":"L1EE"},{"paid":"38.34","serial":"K2EE"},{"paid":"5132.00","serial":"M3EE"}],"payee":7,"ticket":1,"total":"5196.22"}
+> redo {"act":"redeem","day":"2012-02-06","payee":7,"serials":["K2EE"]}
+{"code":52,"refused":"AlreadyPaid","serial":"K2EE","ticket":1}
 > do {"act":"close","day":"2012-02-06"}
 {"bonds":3,"day":"2012-02-06","tickets":1,"total":"5196.22"}
 > parts
@@ -68,7 +70,8 @@ false 3.50% true"#;
 
 /// Messages without a connection, over one keeper: a day of the first desk, in which the second asks for the first's
 /// ticket under the same number, asks again, gives the number to another act, and closes the day under the number that
-/// the first desk would have taken next. The last desk has the last number.
+/// the first desk would have taken next. The last desk has the last number. A third one closes the next day before it
+/// opens, and again after that, which gives the same refusal and closes nothing; a bond of eleven months isn't paid.
 const DESKS: &str =
     r#"> post /rates {"number":1,"rates":[{"from":"2010-05","rate":"2.00%"},{"from":"2010-11","rate":"3.50%"}]}
 {"new":2,"same":0}
@@ -94,6 +97,8 @@ const DESKS: &str =
 {"bonds":3,"day":"2012-02-06","tickets":1,"total":"5196.22"}
 > post /day/close {"desk":null,"number":5,"day":"2012-02-06"}
 {"code":42,"refused":"NoOpenDay"}
+> post /day/close {"desk":2,"number":1,"day":"2012-02-07"}
+{"code":42,"refused":"NoOpenDay"}
 > post /day/open {"desk":999,"number":9223372036854775807,"day":"2012-02-07"}
 {"opened":"2012-02-07"}
 > post /day/open {"desk":998,"number":9223372036854775807,"day":"2012-02-07"}
@@ -101,7 +106,13 @@ const DESKS: &str =
 > post /day/close {"desk":999,"number":9223372036854775807,"day":"2012-02-07"}
 {"code":10,"refused":"NumberReused"}
 > post /day/open {"desk":999,"number":9223372036854775807,"day":"2012-02-07"}
-{"opened":"2012-02-07"}"#;
+{"opened":"2012-02-07"}
+> post /day/close {"desk":2,"number":1,"day":"2012-02-07"}
+{"code":42,"refused":"NoOpenDay"}
+> post /bonds {"desk":2,"number":2,"bonds":[{"serial":"N4EE","denom":50,"issued":"2011-03","owner":9}]}
+{"new":1,"same":0}
+> post /redeem {"desk":2,"number":3,"day":"2012-02-07","payee":9,"serials":["N4EE"]}
+{"code":54,"refused":"NotEligible","serial":"N4EE"}"#;
 
 /// The text of the reply to an act by a view.
 fn decided(alloc: Global, view: &View, act: &Act) -> Option<String> {
@@ -215,10 +226,9 @@ fn parts_text(alloc: Global, books: &Books, call: &str) -> Option<String> {
     text_of_parts(alloc, &parts, call)
 }
 
-/// The parts of the books of the books' parts.
-fn parts_again(alloc: Global, books: &Books) -> Option<String> {
-    let books = Books::from_parts(alloc, books.parts().ok()?).ok()?;
-    parts_text(alloc, &books, "parts")
+/// The books of the books' parts.
+fn books_again(alloc: Global, books: &Books) -> Option<Books> {
+    Books::from_parts(alloc, books.parts().ok()?).ok()
 }
 
 /// The text of the reply to a message without a connection.
@@ -266,7 +276,8 @@ fn result_of(
         "bonds" => bonds_text(alloc, books, rest),
         "ticket" => ticket_text(alloc, books, rest),
         "parts" | "check" | "copy" => parts_text(alloc, books, word),
-        "again" => parts_again(alloc, books),
+        "again" => parts_text(alloc, &books_again(alloc, books)?, "parts"),
+        "redo" => act_text(alloc, &mut books_again(alloc, books)?, "do", rest),
         "post" => post_text(alloc, keeper, rest),
         "terms" => terms_text(alloc, rest),
         _ => None,

@@ -79,11 +79,12 @@ impl Cases for RateFileCases {
     }
 }
 
-/// Inventories: the sample, files without rows, and another spelling.
+/// Inventories: the sample, files without rows, another header, and another spelling.
 const BOND_FILES: &str = "\
 serial,denom,issued,owner,coowner|L1EE,50,2010-11,7,|K-0002-EE,75,10/2010,7,8|M3EE,10000,2011-02,7,| => the sample
  => []
 serial,denom,issued,owner,coowner| => []
+serial,denom,issued,owner,owner| => row 1 code 70
 serial,denom,issued,owner,coowner^|\"C-0012-EE\",\"100\",\"05/2010\",\"007\",\"9\"^| => [Bond { serial: Serial { letter: 3, number: 12 }, denom: Hundred, issued: IssueMonth { count: 60 }, owner: Customer { number: 7 }, coowner: Some(Customer { number: 9 }) }]
 ";
 
