@@ -12,6 +12,7 @@ import sys
 import tempfile
 import time
 from concurrent.futures import ThreadPoolExecutor
+from contextlib import contextmanager
 from importlib.abc import MetaPathFinder
 from importlib.machinery import PathFinder
 from pathlib import Path
@@ -59,6 +60,7 @@ PACKAGES = {
     "ssh-keygen": "openssh-client",
     "systemd-analyze": "systemd",
     "systemd-sysusers": "systemd",
+    "wasm-opt": "binaryen",
 }
 #: What makes a file that a test needs: pytest.mark.needs("file:clients/value/out/libee_value.a").
 MAKES = {
@@ -161,6 +163,14 @@ def at_once(do: Callable[[int], Made], count: int) -> list[Made]:
         return list(pool.map(do, range(count)))
 
 
+@contextmanager
+def in_memory() -> Iterator[Path]:
+    """An empty folder in memory, which everybody may enter."""
+    with tempfile.TemporaryDirectory(prefix="ladwenpik.", dir=MEMORY) as made:
+        os.chmod(made, 0o755)
+        yield Path(made)
+
+
 @pytest.fixture(scope="session")
 def program() -> Path:
     """The built ee_cli, as $EE_CLI or ./ee_cli has it."""
@@ -181,10 +191,8 @@ def hostile(program: Path) -> Iterator[Program]:
 
 @pytest.fixture
 def folder() -> Iterator[Path]:
-    """An empty folder in memory, which everybody may enter."""
-    with tempfile.TemporaryDirectory(prefix="ladwenpik.", dir=MEMORY) as made:
-        os.chmod(made, 0o755)
-        yield Path(made)
+    with in_memory() as made:
+        yield made
 
 
 @pytest.fixture

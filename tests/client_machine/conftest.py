@@ -1,26 +1,23 @@
 """The machine of crates/ee_client, built for these tests: for Python, and for Node."""
 
-from __future__ import annotations
-
 import logging
 import os
 import shutil
-import subprocess
 import tempfile
 from pathlib import Path
-from typing import Callable, Iterator, Optional, Sequence
+from typing import Callable, Iterator, Optional
 
 import pytest
 
 from tests.client_machine.machine import Library
 from tests.client_machine.page_client import InBrowser, Node, page_in
 from tests.client_machine.python_client import Edit
+from tests.conftest import TOP
+from tests.shared.counter_calls import run
 
 NewPage = Callable[..., Node]
-TOP = Path(__file__).resolve().parents[2]
 CRATE = TOP / "crates" / "ee_client"
 WASM = "wasm64-unknown-unknown"
-WHOLE = ("-Wl,--whole-archive", str(CRATE / "out" / "libee_client.a"), "-Wl,--no-whole-archive")
 LOWERED = ("--enable-memory64", "--enable-bulk-memory", "--memory64-lowering")
 
 
@@ -30,14 +27,6 @@ def quiet() -> Iterator[None]:
     logging.disable(logging.WARNING)
     yield
     logging.disable(logging.NOTSET)
-
-
-def run(words: Sequence[str], folder: Path) -> None:
-    """Runs a command, whose status has to be 0."""
-    ran = subprocess.run(
-        words, cwd=folder, stdout=subprocess.PIPE, stderr=subprocess.STDOUT, text=True
-    )
-    assert ran.returncode == 0, f"{words}: {ran.stdout[-2000:]}"
 
 
 def toolchain() -> Path:
@@ -50,20 +39,20 @@ def toolchain() -> Path:
 @pytest.fixture(scope="session")
 def built() -> Iterator[Path]:
     """A folder with libee_client.so and ee_client.wasm. They are proved first."""
-    for program in ("rt", "cc", "wasm-opt", "node"):
-        if shutil.which(program) is None:
-            pytest.skip(f"{program} isn't there")
     with tempfile.TemporaryDirectory(prefix="client_machine.") as made:
-        out = Path(made)
-        run(["rt", "lib", "--jobs", "1"], CRATE)
-        library = out / "libee_client.so"
-        run(["cc", "-shared", "-nostdlib", *WHOLE, "-lc", "-o", str(library)], out)
-        run(["rt", "lib", "--jobs", "1", "--target", WASM], CRATE)
-        kit, wide = toolchain(), out / "wide.wasm"
-        link = [str(kit / "bin" / "rattle-link"), "--target", WASM]
-        archive = str(CRATE / "out" / "libee_client.a")
-        run([*link, "--toolchain", str(kit / "toolchain"), "-o", str(wide), archive], out)
-        run(["wasm-opt", *LOWERED, str(wide), "-o", str(out / "ee_client.wasm")], out)
+        out, archive = Path(made), str(CRATE / "out/libee_client.a")
+        whole = ("-Wl,--whole-archive", archive, "-Wl,--no-whole-archive", "-lc")
+        link = [str(toolchain() / "bin/rattle-link"), "--target", WASM]
+        link += ["--toolchain", str(toolchain() / "toolchain"), "-o", "wide.wasm", archive]
+        for words, folder in (
+            (["rt", "lib", "--jobs", "1"], CRATE),
+            (["cc", "-shared", "-nostdlib", *whole, "-o", "libee_client.so"], out),
+            (["rt", "lib", "--jobs", "1", "--target", WASM], CRATE),
+            (link, out),
+            (["wasm-opt", *LOWERED, "wide.wasm", "-o", "ee_client.wasm"], out),
+        ):
+            ran = run(*words, cwd=folder)
+            assert ran.returncode == 0, f"{words}: {ran.stdout[-2000:]}"
         yield out
 
 
@@ -73,13 +62,10 @@ def library(built: Path) -> Library:
     return Library(built / "libee_client.so")
 
 
-@pytest.fixture(
-    params=[
-        "node",
-        pytest.param("chromium", marks=pytest.mark.browser),
-        pytest.param("firefox", marks=[pytest.mark.browser, pytest.mark.slow]),
-    ]
-)
+FIREFOX = pytest.param("firefox", marks=[pytest.mark.browser, pytest.mark.slow])
+
+
+@pytest.fixture(params=["node", pytest.param("chromium", marks=pytest.mark.browser), FIREFOX])
 def new_page(request: pytest.FixtureRequest, built: Path, folder: Path) -> Iterator[NewPage]:
     """Starts the page's rules, with the machine, in Node and in each browser; `edit` makes a wrong page."""
     made: list[Node] = []

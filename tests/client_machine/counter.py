@@ -1,6 +1,4 @@
 """A counter of requests alone: it decides a number once, and keeps its one answer."""
-from __future__ import annotations
-
 import enum
 import json
 from typing import Any, NamedTuple, Optional
@@ -50,9 +48,8 @@ def redemption(act: int) -> tuple[str, Json]:
 
 def registration(act: int) -> tuple[str, Json]:
     """The registration with this name."""
-    return "/bonds", {
-        "bonds": [{"serial": f"L{act}EE", "denom": 50, "issued": "2010-05", "owner": PAYEE}]
-    }
+    bond = {"serial": f"L{act}EE", "denom": 50, "issued": "2010-05", "owner": PAYEE}
+    return "/bonds", {"bonds": [bond]}
 
 
 def name_of(fields: Json) -> int:
@@ -91,15 +88,9 @@ class Counter:
         if path == "/bonds":
             return Response(200, '{"new":1,"same":0}')
         self.tickets += 1
-        lines = [{"paid": "30.00", "serial": body["serials"][0]}]
-        ticket = {
-            "day": DAY,
-            "lines": lines,
-            "payee": PAYEE,
-            "ticket": self.tickets,
-            "total": "30.00",
-        }
-        return Response(200, json.dumps(ticket, separators=(",", ":")))
+        ticket: Json = {"day": DAY, "payee": PAYEE, "ticket": self.tickets, "total": "30.00"}
+        ticket["lines"] = [{"paid": "30.00", "serial": body["serials"][0]}]
+        return Response(200, json.dumps(ticket, separators=(",", ":"), sort_keys=True))
 
     def meets(self, path: str, body: Json, fate: Fate) -> Optional[Response]:
         """A request is sent. Returns what the client gets, None if nothing."""

@@ -1,6 +1,4 @@
 """The proved machine beside a client, whose every step has to be the machine's."""
-from __future__ import annotations
-
 import ctypes
 from pathlib import Path
 from typing import NamedTuple, Optional, Protocol, Sequence
@@ -60,18 +58,12 @@ class Library:
     """The machine as a library of C."""
 
     def __init__(self, path: Path) -> None:
+        number, pointer = ctypes.c_uint64, ctypes.c_void_p
         self.call = ctypes.CDLL(str(path)).ee_client_turn
         self.call.restype = None
-        self.call.argtypes = [
-            ctypes.c_uint64,
-            ctypes.c_void_p,
-            ctypes.c_void_p,
-            ctypes.c_size_t,
-            ctypes.c_void_p,
-        ]
+        self.call.argtypes = [number, pointer, pointer, ctypes.c_size_t, pointer]
 
     def turn(self, most: int, journal: Record, events: Sequence[Event]) -> Turn:
-        """The last turn of a client that starts with a journal, after these events."""
         numbers = [number for event in events for number in event]
         asked = (ctypes.c_uint64 * max(1, len(numbers)))(*numbers)
         start, found = (ctypes.c_uint64 * 6)(*journal), (ctypes.c_uint64 * 16)()
@@ -103,35 +95,20 @@ class Beside:
         """The client writes its journal. If that isn't due by itself, it has gone on."""
         if self.turn.action != WRITE:
             self.happens(GO_ON)
-        assert (
-            self.turn.action == WRITE
-        ), f"the client writes {record}, and the machine doesn't: {self.turn}"
-        assert (
-            self.turn.written == record
-        ), f"the client writes {record}, and the machine {self.turn.written}"
+        written = self.turn.action, self.turn.written
+        assert written == (WRITE, record), f"the client writes {record}, the machine: {self.turn}"
 
     def sends(self, number: int, act: int) -> None:
         """The client sends a request."""
-        sent = (self.turn.action, self.turn.number, self.turn.act)
-        assert sent == (
-            SEND,
-            number,
-            act,
-        ), f"the client sends act {act} under {number}, and the machine: {self.turn}"
+        sent = self.turn.action, self.turn.number, self.turn.act
+        wanted = (SEND, number, act)
+        assert sent == wanted, f"it sends act {act} under {number}, and not {self.turn}"
 
     def shows(self, act: int, outcome: int) -> None:
         """The client shows what became of an act."""
-        assert (
-            self.last_shown is not None
-        ), f"the client shows {outcome} of act {act}, and the machine nothing"
-        shown = (self.last_shown.act, self.last_shown.outcome)
-        assert shown == (
-            act,
-            outcome,
-        ), f"the client shows {outcome} of act {act}, and the machine {shown}"
+        shown = self.last_shown and (self.last_shown.act, self.last_shown.outcome)
+        assert shown == (act, outcome), f"it shows {outcome} of act {act}, and the machine {shown}"
 
     def holds(self, record: Record) -> None:
         """What the client's journal holds."""
-        assert (
-            self.turn.journal == record
-        ), f"the journal holds {record}, and the machine's {self.turn.journal}"
+        assert self.turn.journal == record, f"the journal holds {record}, and not {self.turn}"

@@ -1,6 +1,4 @@
 """sender.js of the tellers' page in Node beside the machine."""
-from __future__ import annotations
-
 import json
 import shutil
 import subprocess

@@ -1,6 +1,4 @@
 """The Python client beside the machine."""
-from __future__ import annotations
-
 import importlib
 import json
 import os
@@ -10,6 +8,8 @@ import tempfile
 from pathlib import Path
 from types import ModuleType
 from typing import Any, Optional
+
+import pytest
 
 from tests.client_machine.counter import DAY, PAYEE, STOPPED, Counter, Fate, Json, name_of
 from tests.client_machine import machine as proved
@@ -81,15 +81,8 @@ class PythonClient:
         self.journal = str(self.folder / "journal")
         self.fates: list[Fate] = []
         self.writes: list[str] = []
-        start = {
-            "abandoned": [],
-            "keyed": 0,
-            "desk": 3,
-            "next": first,
-            "open": None,
-            "last": None,
-            "bookmark": None,
-        }
+        start: Json = {"desk": 3, "next": first, "open": None, "last": None, "bookmark": None}
+        start |= {"abandoned": [], "keyed": 0}
         Path(self.journal).write_text(json.dumps(start, separators=(",", ":")) + "\n")
         self.beside = Beside(machine, MOST, Record(first))
         self.shown: dict[int, int] = {}
@@ -128,10 +121,8 @@ class PythonClient:
                 raise Killed
             self.beside.happens(proved.WRITTEN)
 
-        def exchanged(
-            method: str, path: str, value: Optional[Json], read: Any, deadline: Any
-        ) -> Any:
-            assert method == "POST" and value is not None
+        def exchanged(method: str, path: str, value: Json, read: Any, deadline: Any) -> Any:
+            assert method == "POST"
             number, act = value["number"], name_of(value)
             self.beside.sends(number, act)
             fate = self.fates.pop(0) if self.fates else Fate.LOST
@@ -139,11 +130,9 @@ class PythonClient:
             answers = importlib.import_module(f"{self.package.__name__}.answers")
             kind = proved.NOTHING if response is None else answered_kind(*response)
             self.beside.happens(proved.ANSWERED, number, detail=kind)
-            return (
-                answers.Answer("none", met="nothing came")
-                if response is None
-                else answers.answer_of(*response, read)
-            )
+            if response is None:
+                return answers.Answer("none", met="nothing came")
+            return answers.answer_of(*response, read)
 
         client._journal.write = write
         client._exchanged = exchanged
@@ -169,10 +158,8 @@ class PythonClient:
             self.told(proved.NOT_DONE)
         except errors.FileFailed as failure:
             last = [(event.kind, event.detail) for event in self.beside.events[-2:]]
-            assert self.is_ended or last != [
-                (proved.ANSWERED, proved.FAULT),
-                (proved.UNWRITTEN, 0),
-            ], "a fault ended it"
+            fault = [(proved.ANSWERED, proved.FAULT), (proved.UNWRITTEN, 0)]
+            assert self.is_ended or last != fault, "a fault ended it"
             assert not (self.is_ended and failure.may_be_done)
             if not self.is_ended:
                 self.beside.happens(proved.KILLED)
@@ -180,8 +167,7 @@ class PythonClient:
             pass
         else:
             if isinstance(result, self.package.Ticket):
-                act = int(result.lines[0].serial[1:-2])
-                self.beside.shows(act, proved.DONE)
+                self.beside.shows(int(result.lines[0].serial[1:-2]), proved.DONE)
                 self.told(proved.DONE)
         if not self.is_ended:
             self.beside.holds(record_of(self.client._journal.record))
@@ -211,16 +197,14 @@ class PythonClient:
         self.beside.happens(proved.SUBMIT, act=act)
         if self.is_open:
             assert self.beside.turn.action == proved.REFUSE
-            try:
+            with pytest.raises(self.package.StillOpen):
                 self.client.redeem(DAY, PAYEE, [f"L{act}EE"])
-            except self.package.StillOpen:
-                return
-            raise AssertionError("another request is open")
+            return
         self.called(lambda: self.client.redeem(DAY, PAYEE, [f"L{act}EE"]))
 
     def go_on(self) -> None:
         """Sends the open request, or writes that it ended."""
-        self.called(lambda: self.client.finish())
+        self.called(self.client.finish)
 
     def give_up(self) -> None:
         """Gives the open request up."""

@@ -1,30 +1,21 @@
-"""Holds the Python client and the tellers' page to the proved machine, step by step.
-
-Requests and answers are lost, late and repeated, numbers are used by others, writes fail, and
-clients are killed before and after a write. Every write of a journal, every sending and everything
-that is shown has to be the machine's. Wrong clients are found within a minute."""
-
-from __future__ import annotations
+"""Holds the Python client and the tellers' page to the proved machine: every write of a journal, every
+sending and everything that is shown, while messages are lost, late and repeated, numbers are used by
+others, writes fail, and clients are killed. Wrong clients are found within a minute."""
 
 import itertools
 import os
 import subprocess
 import time
+import tomllib
 from pathlib import Path
 from typing import Callable, Union
 
 import pytest
 
-pytest.importorskip("hypothesis")
 from hypothesis import HealthCheck, Phase, settings
 from hypothesis import strategies as st
-from hypothesis.stateful import (
-    RuleBasedStateMachine,
-    initialize,
-    invariant,
-    rule,
-    run_state_machine_as_test,
-)
+from hypothesis.stateful import RuleBasedStateMachine, initialize, invariant, rule
+from hypothesis.stateful import run_state_machine_as_test
 
 from tests.client_machine.conftest import NewPage
 from tests.client_machine.counter import Fate
@@ -48,15 +39,17 @@ from tests.client_machine.machine import (
     Record,
 )
 from tests.client_machine.page_client import MOST, PageClient
-from tests.client_machine.python_client import Edit, PythonClient, package
+from tests.client_machine.python_client import PythonClient, package
+from tests.conftest import TOP
 
-TOP = Path(__file__).resolve().parents[2]
+pytestmark = pytest.mark.needs("rt", "cc", "wasm-opt", "node")
+#: Wrong clients, by file and kind.
+WRONG = tomllib.loads((TOP / "tests/client_machine/wrong.toml").read_text())
 #: The steps of a client: quickly, and at length.
 STEPS = [1_000, pytest.param(10_000, marks=pytest.mark.slow)]
 FATES = st.lists(st.sampled_from(Fate), max_size=4)
-WRITES = st.lists(
-    st.sampled_from(["kept", "kept", "kept", "failed", "killed before", "killed after"]), max_size=6
-)
+OUTCOMES = ["kept", "kept", "kept", "failed", "killed before", "killed after"]
+WRITES = st.lists(st.sampled_from(OUTCOMES), max_size=6)
 Client = Union[PythonClient, PageClient]
 
 
@@ -76,10 +69,8 @@ def rules(started: Callable[[int], Client], steps: list[int]) -> type[RuleBasedS
         @rule(fates=FATES, writes=WRITES, follows=st.booleans())
         def submit(self, fates: list[Fate], writes: list[str], follows: bool) -> None:
             self.client.fates, self.client.writes = list(fates), list(writes)
-            act = next(self.acts)
-            self.client.submit(
-                act, next(self.acts) if follows and isinstance(self.client, PageClient) else 0
-            )
+            can_follow = follows and isinstance(self.client, PageClient)
+            self.client.submit(next(self.acts), next(self.acts) if can_follow else 0)
 
         @rule(fates=FATES, writes=WRITES)
         def go_on(self, fates: list[Fate], writes: list[str]) -> None:
@@ -128,44 +119,16 @@ def run(started: Callable[[int], Client], examples: int, is_shrunk: bool = False
     """Runs the rules over a client. Returns how many steps it took."""
     steps = [0]
     phases = [Phase.generate, Phase.shrink] if is_shrunk else [Phase.generate]
-    run_state_machine_as_test(  # type: ignore[no-untyped-call]
-        rules(started, steps),
-        settings=settings(
-            max_examples=examples,
-            stateful_step_count=100,
-            deadline=None,
-            database=None,
-            phases=phases,
-            suppress_health_check=list(HealthCheck),
-        ),
-    )
+    quick = settings(deadline=None, database=None, suppress_health_check=list(HealthCheck))
+    chosen = settings(quick, max_examples=examples, stateful_step_count=100, phases=phases)
+    run_state_machine_as_test(rules(started, steps), settings=chosen)  # type: ignore[no-untyped-call]
     return steps[0]
-
-
-#: A submitted act is written with the next number, counted once it is written, and then sent.
-PROGRAM = """
-#include <stdio.h>
-#include "ee_client.h"
-
-int main(void) {
-    struct ee_client_journal journal = {1, 0, 0, 0, 0, 0};
-    struct ee_client_event events[] = {
-        {EE_CLIENT_SUBMIT, 0, 5, 0, 0}, {EE_CLIENT_WRITTEN, 0, 0, 0, 0}, {EE_CLIENT_WRITTEN, 0, 0, 0, 0}};
-    for (size_t count = 1; count <= 3; count++) {
-        struct ee_client_turn turn;
-        ee_client_turn(100, &journal, events, count, &turn);
-        printf("%d %d %d %d %d %d\\n", (int)turn.action, (int)turn.number, (int)turn.act,
-               (int)turn.written.next, (int)turn.written.number, (int)turn.written.sent);
-    }
-    return 0;
-}
-"""
 
 
 def test_header(built: Path) -> None:
     """The header says what the library has."""
-    (built / "program.c").write_text(PROGRAM)
-    words = ["cc", "-Wall", "-Werror", f"-I{TOP / 'include'}", "program.c", "libee_client.so"]
+    program = TOP / "tests/client_machine/program.c"
+    words = ["cc", "-Wall", "-Werror", f"-I{TOP / 'include'}", str(program), "libee_client.so"]
     subprocess.run([*words, "-Wl,-rpath,.", "-o", "program"], cwd=built, check=True)
     ran = subprocess.run(["./program"], cwd=built, check=True, stdout=subprocess.PIPE, text=True)
     assert ran.stdout.split("\n") == ["1 0 0 2 1 0", "1 0 0 2 1 1", "2 1 5 2 1 1", ""]
@@ -246,45 +209,6 @@ def test_page(new_page: NewPage, steps: int) -> None:
     run_whole(lambda first: PageClient(page, first), steps)
 
 
-#: Wrong clients: a file, a text of it, and the text in its place.
-WRONG_PYTHON: dict[str, Edit] = {
-    "a number for two acts": (
-        "counter.py",
-        "next=number + 1,\n                open={",
-        "next=number,\n                open={",
-    ),
-    "not done after a second sending": ("counter.py", '["sent"] == 1:', '["sent"] >= 1:'),
-    "open after a fault on a full disk": (
-        "counter.py",
-        "self._journal.drop()",
-        "self._journal.change(open=None)",
-    ),
-    "sent before it is written": (
-        "counter.py",
-        "self._journal.change(open=sending)",
-        'self._journal.record = {**self._journal.record, "open": sending}',
-    ),
-}
-WRONG_PAGE: dict[str, Edit] = {
-    "a number for two acts": (
-        "sender.js",
-        "{ next: after(number), open: { number",
-        "{ next: number, open: { number",
-    ),
-    "not done after a second sending": ("sender.js", "&& sent === 1)", "&& sent >= 1)"),
-    "another number after a lost answer": (
-        "sender.js",
-        "missed = isReused(answer) ?",
-        'missed = isReused(answer) || answer.kind === "none" ?',
-    ),
-    "a number that JavaScript can't count on from": (
-        "sender.js",
-        "if (!Number.isSafeInteger(number + 1)) throw",
-        "if (number < 0) throw",
-    ),
-}
-
-
 def is_found(started: Callable[[int], Client]) -> None:
     """A wrong client is found within a minute, or as much later as the machine has other work."""
     begun, share = time.monotonic(), max(1, os.getloadavg()[0] / (os.cpu_count() or 1))
@@ -293,13 +217,14 @@ def is_found(started: Callable[[int], Client]) -> None:
     assert time.monotonic() - begun < 60 * share
 
 
-@pytest.mark.parametrize("edit", WRONG_PYTHON.values(), ids=WRONG_PYTHON)
-def test_wrong_python(library: Library, edit: Edit) -> None:
-    client = package(edit)
+@pytest.mark.parametrize("what", WRONG["counter.py"])
+def test_wrong_python(library: Library, what: str) -> None:
+    old, new = WRONG["counter.py"][what]
+    client = package(("counter.py", old, new))
     is_found(lambda first: PythonClient(client, library, first))
 
 
-@pytest.mark.parametrize("edit", WRONG_PAGE.values(), ids=WRONG_PAGE)
-def test_wrong_page(new_page: NewPage, edit: Edit) -> None:
-    page = new_page(edit)
+@pytest.mark.parametrize("what", WRONG["sender.js"])
+def test_wrong_page(new_page: NewPage, what: str) -> None:
+    page = new_page(("sender.js", *WRONG["sender.js"][what]))
     is_found(lambda first: PageClient(page, first))

@@ -1,7 +1,5 @@
 """The calculator's page in a browser: the built page on a port of its own, copies of it that are wrong on purpose, and what a person does there."""
 
-from __future__ import annotations
-
 import contextlib
 import functools
 import http.server
@@ -67,9 +65,8 @@ class Site:
     """A server of a folder. `asked` has the paths that were asked for."""
 
     def __init__(self, folder: Path = OUT) -> None:
-        self.server = http.server.ThreadingHTTPServer(
-            ("127.0.0.1", 0), functools.partial(Handler, directory=folder)
-        )
+        of_folder = functools.partial(Handler, directory=folder)
+        self.server = http.server.ThreadingHTTPServer(("127.0.0.1", 0), of_folder)
         self.asked: list[str] = []
         self.server.asked = self.asked  # type: ignore[attr-defined]
         self.url = f"http://127.0.0.1:{self.server.server_address[1]}/"

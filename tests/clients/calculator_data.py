@@ -1,7 +1,5 @@
 """Random rates, bonds and months, files with each fault, and what the program answers of them."""
 
-from __future__ import annotations
-
 import json
 import random
 import subprocess
@@ -12,6 +10,9 @@ from typing import Iterable, Iterator, NamedTuple
 
 from tests.conftest import MEMORY, TOP
 from tests.shared import exact
+from tests.shared.hostile.spelling import FIRST_MONTH as FIRST
+from tests.shared.hostile.spelling import LAST_ISSUE, LAST_MONTH, month_text
+from tests.shared.hostile.spelling import money as rate_text
 
 #: The terms of each period: a fixed rate and an extension, in hundredths of a percent.
 Rates = dict[int, tuple[int, int]]
@@ -25,17 +26,8 @@ SHIPPED = (TOP / "samples/rates.csv").read_bytes()
 #: The rate periods that the page ships, and the issue months from 2005-05 on that they cover.
 SHIPPED_PERIODS = SHIPPED.count(b"\n") - 1
 SHIPPED_MONTHS = 6 * SHIPPED_PERIODS
-FIRST, LAST_ISSUE, LAST_MONTH = 12 * 2005 + 4, 12 * 2099 + 11, 12 * 2199 + 11
 INVENTORY = b"serial,denom,issued,owner,coowner\n"
 RATES, EXTENDED = b"from,rate\n", b"from,rate,extension\n"
-
-
-def month_text(month: int) -> str:
-    return f"{month // 12}-{month % 12 + 1:02}"
-
-
-def rate_text(hundredths: int) -> str:
-    return f"{hundredths // 100}.{hundredths % 100:02}"
 
 
 def random_rates(dice: random.Random, count: int = 190) -> Rates:
@@ -48,11 +40,11 @@ def random_rates(dice: random.Random, count: int = 190) -> Rates:
 
 
 def rates_file(rates: Rates) -> bytes:
-    lines = [
-        f"{month_text(period)},{rate_text(rate)},{'' if extension == rate else rate_text(extension)}\n"
-        for period, (rate, extension) in rates.items()
-    ]
-    return EXTENDED + "".join(lines).encode()
+    lines = ""
+    for period, (rate, extension) in rates.items():
+        more = "" if extension == rate else rate_text(extension)
+        lines += f"{month_text(period)},{rate_text(rate)},{more}\n"
+    return EXTENDED + lines.encode()
 
 
 def random_month(dice: random.Random, issued: int) -> int:
@@ -94,9 +86,7 @@ def inventory_file(bonds: Iterable[Bond], dice: random.Random | None = None) -> 
     if dice is not None:
         ends = dice.choice(("\n", "\r\n", "\r"))
         return INVENTORY + "".join(spelled(dice, bond) + ends for bond in bonds).encode()
-    lines = [
-        f"{s},{dollars},{month_text(i)},{owner},{co or ''}\n" for s, dollars, i, owner, co in bonds
-    ]
+    lines = [f"{s},{d},{month_text(i)},{o},{c or ''}\n" for s, d, i, o, c in bonds]
     return INVENTORY + "".join(lines).encode()
 
 
@@ -161,17 +151,15 @@ INVENTORIES: dict[str, bytes] = {
     "same coowner before no rate": INVENTORY + b"L2EE,50,2099-12,7,\nL3EE,50,2010-11,7,7\n",
     "most of each": INVENTORY + b"Z9999999999EE,10000,2020-12,999999999,999999998\n",
 }
+STARTS = b"|2010|2005-04|2100-05|05-2010|2010-5".split(b"|")
 RATE_FIELDS = b"|20.01|100|3.505|3,50|+3.50|.50|3.|3.5%%|% 3|3 %|3.50 |-0".split(b"|")
 RATE_FILES: dict[str, bytes] = {
     **{f"rate {n}": RATES + b'2010-05,"' + one + b'"\n' for n, one in enumerate(RATE_FIELDS)},
     **{
-        f"extension {n}": EXTENDED + b'2010-05,3.40,"' + f + b'"\n'
+        f"extended {n}": EXTENDED + b'2010-05,3.40,"' + f + b'"\n'
         for n, f in enumerate(RATE_FIELDS)
     },
-    **{
-        f"from {n}": RATES + one + b",3.50\n"
-        for n, one in enumerate(b"|2010|2005-04|2100-05|05-2010|2010-5".split(b"|"))
-    },
+    **{f"from {n}": RATES + begins + b",3.50\n" for n, begins in enumerate(STARTS)},
     "spellings": RATES + b"05/2010,3\n2010-11,3.5\n2011-05,03.50%\n2011-11,0%\n2012-05,20.00\n",
     "no byte": b"",
     "header alone": EXTENDED,

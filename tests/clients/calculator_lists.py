@@ -1,14 +1,14 @@
 """Lists of bonds as people have them: sheets with Excel's number formats, which LibreOffice writes as text, and tables as TreasuryDirect's calculator shows them."""
 
-from __future__ import annotations
-
 import datetime
 import random
 import subprocess
 from pathlib import Path
 
-from tests.clients.calculator_data import FIRST, SHIPPED_MONTHS
+from tests.clients.calculator_data import SHIPPED_MONTHS
 from tests.shared import exact
+from tests.shared.hostile.spelling import FIRST_MONTH as FIRST
+from tests.shared.hostile.spelling import sheet_month_text as month
 
 MONEY = ["General", "0.00", "#,##0", "$#,##0", "$#,##0.00", '"USD" 0', '0" USD"']
 MONEY += ['_($* #,##0.00_);_($* (#,##0.00);_($* "-"??_);_(@_)', "$#,##0_);($#,##0)"]
@@ -121,10 +121,6 @@ def sheets(dice: random.Random, folder: Path, count: int) -> list[Made]:
             text = (out / f"lists-L{place}.csv").read_text()
             found.append((text.replace("\n", dice.choice(("\n", "\r\n"))), bonds))
     return found
-
-
-def month(count: int) -> str:
-    return f"{count % 12 + 1:02}/{count // 12}"
 
 
 def table(dice: random.Random) -> Made:

@@ -1,7 +1,5 @@
 """What the clients' tests share: a desk at the package's own fake counter, the true counter, servers that aren't one, and controls."""
 
-from __future__ import annotations
-
 import contextlib
 import logging
 import os
@@ -19,7 +17,7 @@ import pytest
 import ee_counter_client as client
 from ee_counter_client.testing import FakeCounter, Gate
 from tests.conftest import TOP
-from tests.shared.counter_calls import free_port
+from tests.shared.counter_calls import end, free_port, serve
 
 DAY = "2012-02-06"
 #: What a server does with a connection.
@@ -64,11 +62,12 @@ def within(most: float, least: float = 0.0) -> Iterator[None]:
 class Desk:
     """A folder, a fake counter in which a day is open and customer 7 has bonds of 50 dollars, and a gate before it."""
 
-    def __init__(self, place: Path, fake: FakeCounter, gate: Gate) -> None:
+    def __init__(self, place: Path, fake: FakeCounter, gate: Gate, is_empty: bool = False) -> None:
         self.place, self.fake, self.gate = place, fake, gate
         self.journal, self.archive = place / "a.journal", place / "a.archive"
-        fake.answered("POST", "/day/open", b'{"number":1,"day":"2012-02-06"}')
-        self.has("L1EE", "L2EE", "L3EE")
+        if not is_empty:
+            fake.answered("POST", "/day/open", b'{"number":1,"day":"2012-02-06"}')
+            self.has("L1EE", "L2EE", "L3EE")
 
     def has(self, *serials: str) -> None:
         for serial in serials:
@@ -103,19 +102,8 @@ class TrueCounter:
     def __init__(self, program: Path, place: Path) -> None:
         self.program, self.store, self.port, self.kills = program, place / "day.db", free_port(), 0
         self.lock = threading.Lock()
-        self.process = self.begun()
+        self.process = serve(program, self.store, self.port)
         self.address = f"http://127.0.0.1:{self.port}"
-
-    def begun(self) -> subprocess.Popen[bytes]:
-        words = ["serve", "--db", str(self.store), "--port", str(self.port)]
-        process = subprocess.Popen([self.program, *words], stdout=subprocess.DEVNULL)
-        for _ in range(1200):
-            with socket.socket() as trial:
-                if trial.connect_ex(("127.0.0.1", self.port)) == 0:
-                    return process
-            assert process.poll() is None, "the counter ended"
-            time.sleep(0.05)
-        raise AssertionError("the counter doesn't listen")
 
     def kill(self) -> None:
         with self.stopped():
@@ -128,11 +116,10 @@ class TrueCounter:
         with self.lock:
             self.end()
             yield
-            self.process = self.begun()
+            self.process = serve(self.program, self.store, self.port)
 
     def end(self) -> None:
-        self.process.kill()
-        self.process.wait()
+        end(self.process)
 
 
 # ---- other programs

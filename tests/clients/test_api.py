@@ -1,7 +1,5 @@
 """Both clients beside docs/openapi.json: each message that the Python client and the tellers' page send is one of its, and each example of an answer is read as what it is."""
 
-from __future__ import annotations
-
 import contextlib
 import copy
 import json
@@ -197,10 +195,8 @@ def page_does(desk: Desk, api: Api) -> None:
     }
     calls = []
     for path, one in first.items():
-        answer = {"status": 200, "text": one.text}
-        calls.append(
-            {"path": path, "fields": one.fields, "parts": parts.get(path), "answer": answer}
-        )
+        call: dict[str, Any] = {"path": path, "fields": one.fields, "parts": parts.get(path)}
+        calls.append({**call, "answer": {"status": 200, "text": one.text}})
     modules = desk.place / "teller"
     shutil.copytree(TOP / "clients/teller", modules, dirs_exist_ok=True)
     (modules / "package.json").write_text('{"type":"module"}')

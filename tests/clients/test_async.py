@@ -1,7 +1,5 @@
 """AsyncCounter: the loop is never held, what is cancelled stops, and each request has its one reply."""
 
-from __future__ import annotations
-
 import asyncio
 import contextlib
 import functools

@@ -1,7 +1,5 @@
 """What the calculator keeps in the browser: nothing without the box, nothing written before what is there was read, two tabs, 50,000 bonds."""
 
-from __future__ import annotations
-
 import datetime
 import json
 from typing import Any
@@ -10,19 +8,16 @@ from typing import Any
 from tests.clients.calculator import NEEDS, Calculator, Changes, script, variants
 from tests.clients.calculator_data import INVENTORY
 from tests.clients.test_calculator_uses import add_pasted, put
+from tests.clients.scripts import scripts
 
 pytestmark = NEEDS
+SCRIPTS = scripts("calculator_scripts.js")
 #: A 50-dollar bond at 3.40 % is worth 50.14 at 241 months, by hand.
 BY_HAND = b"from,rate,extension\n2010-05,3.40,\n"
 FILTER = "document.querySelector('#filter').value = 'C'; document.querySelector('#filter').dispatchEvent(new Event('input')); document.querySelector('#month-on').click();"
 #: The browser's answers of its storage are held back, until `held` is let go.
 HELD = "const open = IDBFactory.prototype.open; window.held = []; IDBFactory.prototype.open = function (...given) { const request = open.apply(this, given); let told; Object.defineProperty(request, 'onsuccess', { set(tell) { request.addEventListener('success', (event) => { window.held === null ? tell(event) : window.held.push(() => tell(event)); }); } }); return request; };"
 LET_GO = "const held = window.held; window.held = null; for (const tell of held) tell();"
-MANY = """
-    const lines = Array.from({ length: 50000 }, (_, place) => `C${place + 1}EE\\t50\\t2010-05`);
-    document.querySelector("#pasted").value = lines.join("\\n");
-    document.querySelector("#pasted").dispatchEvent(new Event("input"));
-"""
 EARLIER = {
     "inventory": f"{INVENTORY.decode()}C7EE,50,2010-05,7,\n",
     "rates": BY_HAND.decode(),
@@ -155,9 +150,8 @@ def differing(calc: Calculator, first: str, second: str) -> None:
     """Another tab keeps the same serial number with another denomination."""
     calc.driver.switch_to.window(first)
     found = calc.record() or {}
-    calc.put(
-        {**found, "version": "other", "inventory": f"{found['inventory']}C6EE,75,2010-05,7,\n"}
-    )
+    more = f"{found['inventory']}C6EE,75,2010-05,7,\n"
+    calc.put({**found, "version": "other", "inventory": more})
     calc.adds("C6EE")
     calc.is_told("Another tab of this page kept other bonds or rates")
     assert not calc.is_ticked() and "C6EE,75" in calc.inventory() and len(calc.rows()) == 5
@@ -173,7 +167,7 @@ def differing(calc: Calculator, first: str, second: str) -> None:
 def test_many(calc: Calculator, changes: Changes) -> None:
     """50,000 bonds are kept."""
     calc.serve(changes)
-    calc.run(MANY)
+    calc.run(SCRIPTS["many_pasted"])
     is_read = lambda: "Add these 50,000" in calc.texts("#paste-add")[0]
     calc.until(is_read, "50,000 bonds are understood", 120)
     calc.run("document.querySelector('#paste-form').requestSubmit()")
@@ -206,21 +200,13 @@ def test_full(calc: Calculator, changes: Changes) -> None:
         assert calc.serials() == ["C1EE"]
 
 
-#: Empties the storage, as a person does who clears the browser's data.
-CLEAR = """
-    const request = indexedDB.deleteDatabase("savings-bond-calculator");
-    await new Promise((resolve, reject) => { request.onsuccess = resolve; request.onblocked = reject; });
-    return true;
-"""
 ASKED = "return !window.dispatchEvent(new Event('beforeunload', { cancelable: true }))"
 
 
-@variants(
-    forgotten_version=script(
-        "base = { ...base, version: void 0 };\n    stop(TEXTS.keep_ended)",
-        "stop(TEXTS.keep_ended)",
-    )
-)
+STOP = "stop(TEXTS.keep_ended)"
+
+
+@variants(forgotten_version=script(f"base = {{ ...base, version: void 0 }};\n    {STOP}", STOP))
 def test_kept_again_in_two_tabs(calc: Calculator, changes: Changes) -> None:
     """Two tabs keep; one ends the keeping, and the other ticks the box again."""
     url = calc.serve(changes)
@@ -249,7 +235,7 @@ def test_cleared_data(calc: Calculator, changes: Changes) -> None:
     assert not calc.run(ASKED)
     with calc.holds_not(changes):
         for wakes in ("dispatchEvent(new Event('focus'))", ""):
-            assert calc.run_module(CLEAR) is True
+            assert calc.run_module(SCRIPTS["clear"]) is True
             calc.run(wakes)
             calc.until(lambda: not calc.is_said(), "the page sees that nothing is kept", 15)
             assert "the browser's data was cleared" in calc.told() and calc.run(ASKED)

@@ -1,7 +1,5 @@
 """Lists of bonds in the calculator: it takes the good rows of a list, lets the others be mended in place, and shows how far it is."""
 
-from __future__ import annotations
-
 import os
 import time
 
@@ -9,8 +7,10 @@ import pytest
 
 from tests.clients.calculator import NEEDS, Calculator, Changes, script, variants
 from tests.clients.test_calculator_uses import add_pasted, put
+from tests.clients.scripts import scripts
 
 pytestmark = NEEDS
+SCRIPTS = scripts("calculator_scripts.js")
 
 LIST = """Serial\tDenomination\tIssued
 L1EE\t50\t05/2010
@@ -92,24 +92,6 @@ def test_american_months_and_dollars(calc: Calculator) -> None:
         assert calc.serials() == ["X3EE"], words
 
 
-MANY = """
-    const lines = Array.from({ length: 50000 }, (_, n) => `L${n + 1}EE\\t50\\t${1 + (n % 12)}/${2006 + (n % 5)}`);
-    const field = document.querySelector("#pasted"), bar = document.querySelector("#working-box");
-    const seen = [];
-    new MutationObserver(() => { if (!bar.hidden) seen.push(document.querySelector("#working").value); }).observe(bar, { attributes: true, subtree: true });
-    field.closest("details").open = true;
-    const begun = performance.now();
-    const until = async (done) => { while (!done()) await new Promise((resolve) => setTimeout(resolve, 5)); };
-    field.value = lines.join("\\n");
-    field.dispatchEvent(new Event("input"));
-    await until(() => document.querySelector("#paste-add").textContent.includes("50,000"));
-    const read = performance.now();
-    document.querySelector("#paste-form").requestSubmit();
-    await until(() => document.querySelector("#told-text").textContent.includes("50,000 bonds added"));
-    return { read: read - begun, all: performance.now() - begun, seen, is_hidden: bar.hidden };
-"""
-
-
 def processor_seconds() -> float:
     """How long this machine takes for a fixed sum: other work makes it slower."""
     begun = time.perf_counter()
@@ -121,7 +103,7 @@ def test_fifty_thousand_bonds(calc: Calculator) -> None:
     """They are read and added in 3 seconds, below a bar that moves. On a machine that does other work it may take longer."""
     calc.serve()
     before = processor_seconds()
-    found = calc.run_module(MANY)
+    found = calc.run_module(SCRIPTS["fifty_thousand"])
     assert isinstance(found, dict), found
     waiting = 2 * os.getloadavg()[0] / (os.cpu_count() or 1)
     slower = max(1.0, max(before, processor_seconds()) / 0.25, waiting)

@@ -1,7 +1,5 @@
 """How the calculator looks and reads: 320 pixels, 200 % zoom, paper, names and contrast, a bond's dialog, and the pictures of docs/pictures."""
 
-from __future__ import annotations
-
 import datetime
 import random
 import subprocess
@@ -16,40 +14,15 @@ from tests.browser.engines import Chromium, said
 from tests.clients.calculator import NEEDS, SIZE, Calculator, Changes, script, variants
 from tests.clients.calculator_data import INVENTORY, KNOWN, inventory_file, random_bonds
 from tests.clients.test_calculator_uses import put
+from tests.clients.scripts import scripts
 
 pytestmark = NEEDS
+SCRIPTS = scripts("calculator_scripts.js")
 BONDS = """C1204415EE,100,2006-03,7, C1204416EE,100,2006-03,7, K20488EE,75,2010-10,7,8
 L77031EE,50,2010-11,7, L77032EE,50,2010-11,7,8 D9910EE,500,2005-05,7, D9911EE,500,2007-12,7,
 M801EE,1000,2011-08,7, R802EE,200,2011-11,7, V4400127EE,5000,2009-06,7, X300519EE,10000,2011-02,7,"""
 FILE = INVENTORY + "".join(f"{line}\n" for line in BONDS.split()).encode()
 
-OVER = """
-    const wide = [...document.querySelectorAll("body *")].filter((one) => one.checkVisibility() && one.getBoundingClientRect().right > innerWidth + 1 && one.closest(".skip") === null);
-    return [document.documentElement.scrollWidth > innerWidth, wide.slice(0, 5).map((one) => one.outerHTML.slice(0, 120))];
-"""
-#: Cells of the table whose text is wider than they are.
-CUT = """
-    const cells = [...document.querySelectorAll("#table tbody th, #table tbody td, #table thead th")].filter((one) => one.checkVisibility());
-    return cells.filter((one) => one.scrollWidth > one.clientWidth + 1).map((one) => `${one.className} ${one.textContent}`);
-"""
-#: Words and sums that are broken over two lines.
-BROKEN = """
-    const texts = [];
-    for (const root of document.querySelectorAll("dialog[open], #understood-rows, #table, #total, #sums, #one-told")) {
-        const walker = document.createTreeWalker(root, NodeFilter.SHOW_TEXT);
-        while (walker.nextNode()) if (walker.currentNode.parentNode.checkVisibility()) texts.push(walker.currentNode);
-    }
-    const lines = (node, start, end) => { const range = document.createRange(); range.setStart(node, start); range.setEnd(node, end); return new Set([...range.getClientRects()].map((box) => Math.round(box.top))).size; };
-    return texts.flatMap((node) => [...node.data.matchAll(/\\S+/g)].filter((word) => lines(node, word.index, word.index + word[0].length) > 1).map((word) => word[0]));
-"""
-SMALL = """
-    const shown = [...document.querySelectorAll("button, input, select, summary")].filter((one) => one.checkVisibility() && one.type !== "checkbox");
-    return shown.filter((one) => one.getBoundingClientRect().height < 24).map((one) => one.outerHTML.slice(0, 120));
-"""
-VALUE_FIRST = """
-    const row = document.querySelector("#table tbody tr"), top = (name) => row.querySelector(`.${name}`).getBoundingClientRect().top;
-    return top("serial") < top("value") && ["denom", "issued", "next", "price"].every((name) => top("value") <= top(name));
-"""
 DETAILS = "for (const one of document.querySelectorAll('details')) one.open = true"
 LONG = "Serial\tDenom\tIssued\tOwner\tCoowner\nW9999999999EE\t10000\tSeptember 2010\t999999999\t999999998\nC1EE\t50\t5/2010\t7\t\n"
 SHORT = "W9999999999EE\t10000\tSeptember 2010\nC1EE\t50\t5/2010\n"
@@ -57,9 +30,9 @@ SHORT = "W9999999999EE\t10000\tSeptember 2010\nC1EE\t50\t5/2010\n"
 
 def fits(calc: Calculator) -> None:
     """Nothing goes over the edge, no cell is cut, no word and no sum is broken."""
-    assert calc.run(BROKEN) == []
-    assert calc.run(OVER) == [False, []]
-    assert calc.run(CUT) == []
+    assert calc.run(SCRIPTS["broken"]) == []
+    assert calc.run(SCRIPTS["over"]) == [False, []]
+    assert calc.run(SCRIPTS["cut"]) == []
 
 
 def widest(calc: Calculator) -> None:
@@ -92,7 +65,7 @@ def test_narrow(calc: Calculator, changes: Changes) -> None:
                 put(calc, text)
                 fits(calc)
             put(calc, "")
-            assert calc.run(SMALL) == [] and calc.run(VALUE_FIRST)
+            assert calc.run(SCRIPTS["small"]) == [] and calc.run(SCRIPTS["value_first"])
             calc.open_inventory(INVENTORY + b"x" * 200 + b",50,2010-05,7,\n")
             fits(calc)
         widest(calc)
@@ -121,10 +94,6 @@ GIVEN = [
     *(("rowheader", f"November {year}") for year in range(2010, 2041)),
     *(("button", "Close"), ("button", "Remove this bond")),
 ]
-OUTSIDE = """
-    const { left, right, top, bottom } = document.activeElement.getBoundingClientRect();
-    return left < 0 || top < 0 || right > innerWidth || bottom > innerHeight || !document.activeElement.matches("dialog *");
-"""
 CHARTED = "return document.querySelector('#bond-figure svg') !== null"
 
 
@@ -139,7 +108,7 @@ def whole_dialog(calc: Calculator, serial: str) -> None:
     fits(calc)
     for _ in range(3):
         calc.keys(Keys.TAB)
-        assert not calc.run(OUTSIDE)
+        assert not calc.run(SCRIPTS["outside"])
     assert calc.has_keyboard("#bond-remove")
     calc.keys(Keys.ESCAPE)
     focused = "return document.activeElement.textContent"
@@ -236,42 +205,13 @@ def test_last_pages(calc: Calculator, changes: Changes) -> None:
             assert len(calc.rows()) == count, "the table has its rows again"
 
 
-NAMES = """
-    const shown = (one) => one.checkVisibility();
-    const all = (words) => [...document.querySelectorAll(words)];
-    const fields = all("input, select, textarea").filter((one) => one.labels.length === 0 && !one.hasAttribute("aria-label"));
-    const buttons = all("button, a, summary").filter((one) => one.textContent.trim() === "" && shown(one));
-    const levels = all("h1, h2, h3").filter(shown).map((one) => Number(one.tagName[1]));
-    const jumps = levels.filter((level, at) => level - (levels[at - 1] ?? 0) > 1);
-    const ids = all("[id]").map((one) => one.id);
-    const live = all("[aria-live], [role=status], [role=alert], output").map((one) => one.id);
-    const ordered = all("[tabindex]").filter((one) => one.tabIndex > 0);
-    const svgs = all("svg").filter((one) => one.getAttribute("role") !== "img" || !one.getAttribute("aria-label"));
-    const untold = all("[data-text]").filter((one) => one.textContent === "" || one.textContent === "undefined");
-    const none = [fields, buttons, jumps, ordered, svgs, untold].map((one) => one.length);
-    return [none, levels.filter((level) => level === 1).length, ids.length - new Set(ids).size, live, document.documentElement.lang];
-"""
 WANTED = [[0] * 6, 1, 0, ["told-text", "one-told"], "en"]
-POOR = """
-    const parts = (text) => text.match(/[0-9.]+/g).map(Number);
-    const straight = (c) => (c <= 0.04045 ? c / 12.92 : ((c + 0.055) / 1.055) ** 2.4);
-    const light = (text) => { const [r, g, b] = parts(text).map((c) => straight(c / 255)); return 0.2126 * r + 0.7152 * g + 0.0722 * b; };
-    const ground = (one) => { for (let at = one; at !== null; at = at.parentElement) { const color = getComputedStyle(at).backgroundColor; if (parts(color)[3] !== 0) return color; } return "rgb(255, 255, 255)"; };
-    const has_text = (one) => [...one.childNodes].some((node) => node.nodeType === 3 && node.data.trim() !== "") || one.matches("input");
-    const seen = [...document.querySelectorAll("body *")].filter((one) => one.checkVisibility() && has_text(one) && one.closest(".skip, option, noscript") === null);
-    const ratio = (one) => {
-        const style = getComputedStyle(one);
-        const [more, less] = [light(one.namespaceURI.includes("svg") ? style.fill : style.color), light(ground(one))].sort((x, y) => y - x);
-        return (more + 0.05) / (less + 0.05);
-    };
-    return [seen.length, seen.filter((one) => ratio(one) < 4.5).map((one) => `${one.tagName} ${one.getAttribute("class")} ${one.textContent.slice(0, 30)}`)];
-"""
 
 
 def reads_well(calc: Calculator) -> None:
     """Each field, button and drawing has a name, headings are in order, there are two live regions, and each text has a contrast of 4.5 to 1."""
-    assert calc.run(NAMES) == WANTED
-    count, poor = calc.run(POOR)
+    assert calc.run(SCRIPTS["names"]) == WANTED
+    count, poor = calc.run(SCRIPTS["poor"])
     assert count > 50 and poor == []
 
 
@@ -294,9 +234,9 @@ def test_reading(calc: Calculator) -> None:
     reads_well(calc)
     calc.engine.dark(False)
     calc.run("document.querySelector('#told-text').style.color = '#999999'")
-    assert calc.run(POOR)[1] != [], "control: a pale text"
+    assert calc.run(SCRIPTS["poor"])[1] != [], "control: a pale text"
     calc.run("document.querySelector('label[for=serial]').remove()")
-    assert calc.run(NAMES) != WANTED, "control: a field without a label"
+    assert calc.run(SCRIPTS["names"]) != WANTED, "control: a field without a label"
 
 
 def roles_of(engine: Chromium) -> list[Any]:

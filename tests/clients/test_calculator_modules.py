@@ -1,7 +1,5 @@
 """The calculator's WebAssembly modules and its readers under Node: the published values, the program's replies and sheets, and pasted lists."""
 
-from __future__ import annotations
-
 import json
 import os
 import random
@@ -15,10 +13,11 @@ import pytest
 
 from tests.clients import calculator_lists as lists
 from tests.clients.calculator_data import INVENTORIES, PUBLISHED, RATE_FILES, KNOWN, SHIPPED, Case
-from tests.clients.calculator_data import answers, damaged, inventory_file, month_text, random_bonds
-from tests.clients.calculator_data import rate_text, sheets
+from tests.clients.calculator_data import answers, damaged, inventory_file, random_bonds, sheets
 from tests.conftest import TOP
 from tests.shared import exact
+from tests.shared.counter_calls import run
+from tests.shared.hostile.spelling import money, month_text
 
 PARTS = Path(__file__).resolve().parent / "calculator_parts"
 OUT = TOP / "clients/value/out"
@@ -163,29 +162,22 @@ def test_readers(program: Path, dice: random.Random, kind: str) -> None:
     assert answered(tasks[:1]) != wanted[:1], "control: another task"
 
 
-def value_lines(program: Path, rows: list[tuple[str, ...]]) -> list[str]:
-    """What the command `value` prints."""
-    found = [
-        subprocess.run([program, "value", *row], capture_output=True, text=True) for row in rows
-    ]
-    return [done.stdout.rstrip("\n") for done in found]
-
-
 @pytest.mark.parametrize("bits", MODULES)
 def test_rows_and_sheets(program: Path, dice: random.Random, bits: int) -> None:
     """Random rows beside the command `value`, and random inventories beside `sheet`, byte for byte."""
     rows = []
     for _, dollars, issued, _, _ in random_bonds(dice, 400):
         month = min(issued + dice.randrange(400), 12 * 2199 + 11)
-        rates = [rate_text(dice.randrange(2001)) for _ in range(2)]
+        rates = [money(dice.randrange(2001)) for _ in range(2)]
         rows.append((str(dollars), month_text(issued), month_text(month), *rates))
     task = {"kind": "values", "questions": [[int(row[0]), *row[1:]] for row in rows]}
-    assert answered([task], bits) == [value_lines(program, rows)]
+    values = [run(program, "value", *row).stdout.rstrip("\n") for row in rows]
+    assert answered([task], bits) == [values]
     listed = sheets(program, dice, 60)
-    tasks = [
-        {"kind": "sheet", **one._asdict(), "rates": one.rates.hex(), "file": one.file.hex()}
-        for one in listed
-    ]
+    tasks: list[dict[str, Any]] = []
+    for one in listed:
+        files = {"rates": one.rates.hex(), "file": one.file.hex()}
+        tasks.append({"kind": "sheet", **one._asdict(), **files})
     assert answered(tasks, bits) == [one.sheet for one in listed]
     notes = {line.split()[-1] for one in listed for line in one.sheet.splitlines()}
     assert {"NI", "NE", "P5", "MA"} <= notes
@@ -207,12 +199,12 @@ def test_pasted_tables(dice: random.Random) -> None:
     for text, bonds in made:
         lines = text.splitlines()
         at = max(place for place, line in enumerate(lines) if "\tEE\t" in line)
-        misspellings = (
+        wrong = [
             ("\t$", "\t$6", "denom"),
             ("/20", "/13/20", "issued"),
             ("\tEE\t", "\tI\t", "series"),
-        )
-        for cell, other, column in misspellings if len(bonds) > 2 else ():
+        ]
+        for cell, other, column in wrong if len(bonds) > 2 else ():
             changed = [*lines[:at], lines[at].replace(cell, other, 1), *lines[at + 1 :]]
             tasks.append({"kind": "pasted", "text": "\n".join(changed)})
             wanted.append([f"{at + 1} {column}"])

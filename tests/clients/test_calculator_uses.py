@@ -1,9 +1,10 @@
 """How the calculator is used: typing and pasting, sorting and filtering, what a bond will be worth, offline, by the keyboard alone, and nothing asked of elsewhere."""
 
-from __future__ import annotations
-
 import csv
+import datetime
+import itertools
 import random
+import tomllib
 from typing import Any, Callable
 
 import pytest
@@ -14,11 +15,14 @@ from tests.clients.calculator import NEEDS, Calculator, Changes, Site, script, v
 from tests.clients.calculator_data import INVENTORY, KNOWN, PUBLISHED, inventory_file, random_bonds
 from tests.clients.calculator_data import random_rates, rates_file
 from tests.clients.calculator_lists import LETTERS
+from tests.clients.scripts import scripts
 from tests.conftest import TOP
 
 pytestmark = NEEDS
+SCRIPTS = scripts("calculator_scripts.js")
 #: A 50-dollar bond at 3.40 % is worth 48.90 at 239 months, 50.00 at 240 and 50.14 at 241, by hand.
 BY_HAND = b"from,rate,extension\n2010-05,3.40,\n"
+TABLE = tomllib.loads((TOP / "tests/clients/pastes.toml").read_text())
 LISTED = "#told-list li"
 
 
@@ -32,15 +36,6 @@ def type_bond(calc: Calculator, serial: str, denom: str, issued: str) -> None:
     calc.keys(*issued, Keys.ENTER)
 
 
-MISTYPED = [
-    ("12EE", "50", "2010-05", "The column serial has “12EE”", "serial"),
-    ("C13EE", "50", "5/10", "The column issued has “5/10”", "issued"),
-    ("C13EE", "50", "5/2/2010", "The column issued has “5/2/2010”", "issued"),
-    ("C12EE", "75", "2010-05", "(code 31, SerialConflict)", None),
-    ("C13EE", "50", "2021-05", "(code 30, NoRate)", None),
-]
-
-
 @variants(another_denomination=script("sameBond(books.bonds.get(row.serial),", "sameBond(row,"))
 def test_typing(calc: Calculator, changes: Changes) -> None:
     """Typed bonds are read by the counter's spellings; a fault takes the keyboard to its field; a bond is never there twice, and needs no serial number."""
@@ -52,10 +47,10 @@ def test_typing(calc: Calculator, changes: Changes) -> None:
             type_bond(calc, serial, "50", issued)
             calc.is_told("1 bond already there")
             calc.run("document.querySelector('#told-text').textContent = ''")
-        for serial, denom, issued, wanted, field in MISTYPED:
+        for serial, denom, issued, wanted, field in TABLE["mistyped"]:
             type_bond(calc, serial, denom, issued)
             calc.is_told(wanted)
-            if field is not None:
+            if field:
                 assert calc.has_keyboard(f"#{field}[aria-invalid=true]")
         assert len(calc.rows()) == 1
         for count in (1, 2):
@@ -71,72 +66,7 @@ def test_typing(calc: Calculator, changes: Changes) -> None:
         assert [(row[0], row[2]) for row in calc.rows()][1:] == wanted_rows
 
 
-TREASURY_DIRECT = """Savings Bond Calculator
-Serial #\tSeries\tDenom\tIssue Date\tNext Accrual\tFinal Maturity\tIssue Price\tInterest\tInterest Rate\tValue\tNote
-L15EE\tEE\t$50\t05/2010\t12/2026\t05/2040\t$25.00\t$7.00\t1.40%\t$32.00\t
-NA\tEE\t$1,000\t11/2010\t12/2026\t11/2040\t$500.00\t$7.00\t1.40%\t$507.00\t
-Totals for 2 Bonds\t\t\t\t\t\t$525.00\t$14.00\t\t$539.00
-"""
 NAMES = "Row 1 names the columns."
-#: What is pasted; the serial number (or none), dollars and month of each bond; and what the page says about the rest.
-PASTES = [
-    ("L1EE\t50\t2010-05\nK2EE\t75\t05/2011\n", "L1EE 50 2010-05, K2EE 75 2011-05", ""),
-    ("Issue date\tSerial number\tDenomination\n2010-05\tL3EE\t50\n", "L3EE 50 2010-05", NAMES),
-    ("serial,denom,issued,owner,coowner\nL4EE,50,2010-05,7,8\n", "L4EE 50 2010-05", NAMES),
-    ("L5EE 50 2010-05\r\n\r\n  K6EE   75  05/2011  \r\n", "L5EE 50 2010-05, K6EE 75 2011-05", ""),
-    ('"L7EE"\t" 50 "\t2010-05', "L7EE 50 2010-05", ""),
-    ("L8EE;50;2010-05;7", "L8EE 50 2010-05", ""),
-    (
-        "l10ee\t$50\tMay 2010\nM 11 EE\t1,000\t5/2010\nL-12-EE\t50.00\t2010-05-01\nTotal\t$1,100.00\n",
-        "L10EE 50 2010-05, M11EE 1000 2010-05, L12EE 50 2010-05",
-        "Row 4 is no bond: “Total $1,100.00”",
-    ),
-    (
-        'Bonds of May\n\nIssue Date,Face Value,Serial No.\n"May 1, 2010","$1,000.00",M13EE\n05/01/10,"10,000",X14EE\n,"$11,000.00",\n',
-        "M13EE 1000 2010-05, X14EE 10000 2010-05",
-        "Row 1 is no bond: “Bonds of May”|Row 2 names the columns.|Row 5 is no bond: “$11,000.00”",
-    ),
-    (
-        TREASURY_DIRECT,
-        "L15EE 50 2010-05, none 1000 2010-11",
-        "Row 1 is no bond: “Savings Bond Calculator”|Row 2 names the columns.|Row 5 is no bond: “Totals for 2 Bonds $525.00 $14.00 $539.00”|Not used: the columns Next Accrual, Final Maturity, Issue Price, Interest, Interest Rate, Value.",
-    ),
-    ("May-10\t$50.00\n1-Nov-2010\t 75 USD\n", "none 50 2010-05, none 75 2010-11", ""),
-    (
-        "1\tL16EE\t2010-05-01 00:00:00\t$ 50\n2\tK17EE\t2010-11-01 00:00:00\t75.\n",
-        "L16EE 50 2010-05, K17EE 75 2010-11",
-        "Not used: the column 1.",
-    ),
-    (
-        "Owner\tDenomination\tIssued\nMary\t$50\tSaturday, May 01, 2010\n",
-        "none 50 2010-05",
-        f"{NAMES}|Not used: the column Owner.",
-    ),
-    (
-        "Serial\tPrice\tFace\tDate\nC20EE\t$50.00\t$100\tMay 2010\n",
-        "C20EE 100 2010-05",
-        f"{NAMES}|Not used: the column Price.",
-    ),
-    (
-        "Maturity\tDate issued\tFace amt\n05/2040\t05/2010\t100\n",
-        "none 100 2010-05",
-        f"{NAMES}|Not used: the column Maturity.",
-    ),
-    ("$50.00\t$100\t5/2040\t5/2010\tC21EE\n", "C21EE 100 2010-05", "Not used: the columns 1, 3."),
-    ("C22EE\t100\t2010-05\t50\n", "C22EE 100 2010-05", "Not used: the column 4."),
-    ("l 18 ee $50 May 2010\nM19EE 1,000 May 1, 2010", "L18EE 50 2010-05, M19EE 1000 2010-05", ""),
-]
-PASTE_FAULTS = {
-    "C9EE\t$60\t2010-05": "(row 1 code 72)",
-    "Serial\tDenom\tIssued\nC9EE\t50\t2010-05\nC10EE\t50\t5/10": "(row 3 code 72)",
-    "C9EE\t50": "The column issued has nothing",
-    "C9EE\t$50\t########": "The column issued has “########”",
-    "C9EE\t$100\t5/2010\t$50\nX9EE\t$610,000\t5/2010\t$5,000": "The column denom has “$610,000”",
-    "C9EE\t50\t05/02/2010": "The column issued has “05/02/2010”",
-    "C9EE\t1,0000\t2010-05": "The column denom has “1,0000”",
-    "Serial\tSeries\tDenom\tIssued\nC9EE\tI\t50\t2010-05": "must be EE: this page values no other",
-    "C9EE\t50\t2010-05\nC-9-EE\t50\t2010-05": "(code 13, Repeated)",
-}
 PREVIEW = "return [...document.querySelectorAll('#understood-rows tbody tr')].map((row) => [...row.children].slice(1, 4).map((cell) => cell.textContent));"
 NOTES = "#understood-notes li"
 PASTE = "document.querySelector('#paste-form').closest('details').open = true; document.querySelector('#pasted').value = arguments[0]; document.querySelector('#pasted').dispatchEvent(new InputEvent('input', { inputType: 'insertFromPaste' }))"
@@ -155,12 +85,9 @@ def add_pasted(calc: Calculator) -> str:
 
 def as_shown(bonds: str) -> list[list[str]]:
     """What the page shows of bonds as they are written in PASTES."""
-    names = "January February March April May June July August September October November December"
     found = [bond.split() for bond in bonds.split(", ")]
-    return [
-        [serial, f"${int(dollars):,}", f"{names.split()[int(issued[5:]) - 1]} {issued[:4]}"]
-        for serial, dollars, issued in found
-    ]
+    days = [datetime.date.fromisoformat(f"{month}-01") for *_, month in found]
+    return [[row[0], f"${int(row[1]):,}", f"{day:%B %Y}"] for row, day in zip(found, days)]
 
 
 ADDED = "{ understand(); addRows(shown.read); return undefined; }"
@@ -174,7 +101,7 @@ def test_pasting(calc: Calculator, changes: Changes) -> None:
     """Columns of a spreadsheet, in the spellings that spreadsheets write: what the page understands is shown before it is added."""
     count = 0
     with calc.serving(changes):
-        for text, bonds, said in PASTES:
+        for text, bonds, said in TABLE["pasted"]:
             told, wanted = put(calc, text), as_shown(bonds)
             assert told.startswith(f"{len(wanted)} bond") and "understood" in told, text
             assert calc.run(PREVIEW) == wanted, text
@@ -188,7 +115,7 @@ def test_pasting(calc: Calculator, changes: Changes) -> None:
             assert len(shown) == count, text
             assert all(bond.split()[1:] in shown for bond in bonds.split(", ")), text
             assert calc.value("#pasted") == "" and not calc.is_shown("#understood")
-        for text, fault in PASTE_FAULTS.items():
+        for text, fault in TABLE["faults"].items():
             told = put(calc, text)
             assert fault in told, text
             assert len(calc.rows()) == count
@@ -225,11 +152,9 @@ def test_remarks(calc: Calculator, changes: Changes) -> None:
         assert calc.open_inventory(INVENTORY + b"".join(fitting)) == "8 bonds added. 8 in all."
         assert calc.texts(LISTED) == []
         letters = list(LETTERS.values())
-        wrong = [
-            (f"{letters[(place + step) % 8]}{100 * place + step + 1}EE", dollars)
-            for place, dollars in enumerate(LETTERS)
-            for step in range(1, 8)
-        ]
+        wrong = []
+        for (place, dollars), step in itertools.product(enumerate(LETTERS), range(1, 8)):
+            wrong.append((f"{letters[(place + step) % 8]}{100 * place + step + 1}EE", dollars))
         for part in (wrong[:20], wrong[20:40], wrong[40:]):
             lines = b"".join(bond_line(serial, dollars) for serial, dollars in part)
             told = calc.open_inventory(INVENTORY + lines)
@@ -378,11 +303,9 @@ def test_interest_of_the_year(calc: Calculator, changes: Changes) -> None:
     bonds = b"C1EE,500,2010-05,7,\nC2EE,50,2006-03,7,\nC3EE,100,2012-01,7,\n"
     calc.open_inventory(INVENTORY + bonds)
     with calc.holds_not(changes):
-        for month, december, said in (
-            ("2012-02", "2011-12", "from January to February"),
-            ("2011-12", "2010-12", "from January to December"),
-            ("2012-01", "2011-12", "in January"),
-        ):
+        spans = {"2012-02": "from January to February", "2011-12": "from January to December"}
+        for month, said in {**spans, "2012-01": "in January"}.items():
+            december = f"{int(month[:4]) - 1}-12"
             calc.choose_month(month)
             cents = 0
             for issued, units_of in (("2010-05", 20), ("2006-03", 2)):
@@ -461,13 +384,6 @@ def test_offline(calc: Calculator, changes: Changes) -> None:
         assert calc.total()[9] == "10262.51"
 
 
-ATTEMPTS = """
-    const [other] = given;
-    const fetched = await fetch(other).then(() => "passed", () => "stopped");
-    const evaluated = await new Promise((resolve) => { const script = document.createElement("script"); script.textContent = "window.ran = true"; document.head.append(script); setTimeout(() => resolve(window.wrappedJSObject?.ran ?? window.ran ? "passed" : "stopped"), 50); });
-    const drawn = await new Promise((resolve) => { const image = new Image(); image.onload = () => resolve("passed"); image.onerror = () => resolve("stopped"); image.src = other + "icon.svg"; });
-    return [fetched, evaluated, drawn];
-"""
 LOADED = "return performance.getEntriesByType('resource').map((entry) => entry.name)"
 STORED = "return document.cookie.length + Object.keys(localStorage).length + Object.keys(sessionStorage).length"
 
@@ -483,22 +399,8 @@ def test_fences(calc: Calculator, changes: Changes) -> None:
     assert names and all(name.startswith(url) for name in names)
     assert calc.run(STORED) == 0
     with calc.holds_not(changes):
-        assert calc.run_module(ATTEMPTS, other.url) == ["stopped"] * 3 and other.asked == []
-
-
-FRAMES = """
-    await new Promise((resolve) => setTimeout(resolve, 1000));
-    const frames = [];
-    document.querySelector("#table").scrollIntoView();
-    for (let count = 0; count < 200; count++) {
-        const begun = performance.now();
-        scrollBy(0, 800);
-        await new Promise(requestAnimationFrame);
-        frames.push(performance.now() - begun);
-    }
-    frames.sort((one, other) => one - other);
-    return [scrollY, frames[100]];
-"""
+        found = calc.run_module(SCRIPTS["attempts"], other.url)
+        assert found == ["stopped"] * 3 and other.asked == []
 
 
 def test_speed(calc: Calculator, dice: random.Random) -> None:
@@ -506,21 +408,16 @@ def test_speed(calc: Calculator, dice: random.Random) -> None:
     calc.serve()
     bonds = random_bonds(dice, 10_000, months=KNOWN)
     assert "10,000 bonds added" in calc.open_inventory(inventory_file(bonds))
-    scrolled, median = calc.run_module(FRAMES)
+    scrolled, median = calc.run_module(SCRIPTS["frames"])
     assert scrolled > 100_000 and median < 100
 
 
-CONTROLS = """
-    const shown = (one) => one.checkVisibility() && one.closest("details:not([open])") === null;
-    const all = [...document.querySelectorAll("main a, main button, main input, main select, main textarea, main summary")];
-    return all.filter((one) => (one.matches("summary") || shown(one)) && !one.matches(".open, .skip")).map((one) => one.id || one.dataset.column || one.dataset.text || one.textContent);
-"""
 FOCUSED = "const one = document.activeElement; const { outlineStyle, outlineWidth } = getComputedStyle(one); return one === document.body ? ['', ''] : [one.id || one.dataset.column || one.dataset.text || one.textContent, `${outlineStyle} ${outlineWidth}`];"
 
 
 def all_reached(calc: Calculator) -> None:
     """Tab reaches each control, and each has an outline."""
-    wanted, reached = set(calc.run(CONTROLS)), set()
+    wanted, reached = set(calc.run(SCRIPTS["controls"])), set()
     calc.run("document.querySelector('.skip').focus()")
     for _ in range(len(wanted) + 15):
         calc.keys(Keys.TAB)

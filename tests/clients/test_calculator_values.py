@@ -1,7 +1,5 @@
 """The calculator's table beside the published values and the program's own sheets, replies and exports, byte for byte."""
 
-from __future__ import annotations
-
 import random
 import re
 import shutil
@@ -112,16 +110,6 @@ def test_round_trip(calc: Calculator, program: Path, dice: random.Random) -> Non
     assert store.enter("inventory", changed.encode()) == '{"new":1,"same":299}\n', "control"
 
 
-FIVE_LINES = """<!doctype html>
-<p id="told"></p>
-<script type="module">
-import { load } from "./ee-value.js";
-const value = await load();
-document.querySelector("#told").textContent = value.cents(50, "2010-05", "2015-05", "3.50");
-</script>
-"""
-
-
 @pytest.mark.parametrize("month", ["2015-05", "2015-06"])
 def test_web_page_of_five_lines(calc: Calculator, month: str) -> None:
     """ee-value.js in a web page, which loads the module beside it. Another month is the control."""
@@ -129,7 +117,8 @@ def test_web_page_of_five_lines(calc: Calculator, month: str) -> None:
     (folder / "out").mkdir(parents=True)
     shutil.copy(TOP / "clients/value/ee-value.js", folder)
     shutil.copy(TOP / "clients/value/out/ee_value.wasm", folder / "out")
-    (folder / "index.html").write_text(FIVE_LINES.replace("2015-05", month))
+    text = (Path(__file__).parent / "five_lines.html").read_text()
+    (folder / "index.html").write_text(text.replace("2015-05", month))
     site = Site(folder)
     calc.sites.append(site)
     calc.open(site.url)

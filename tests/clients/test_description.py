@@ -1,8 +1,6 @@
 """docs/openapi.json as a program follows it: a client that Debian's OpenAPI::Client (libopenapi-client-perl) makes of it
 pays bonds, through nginx and at the counter's own port, and each answer is one that the description has."""
 
-from __future__ import annotations
-
 import copy
 import json
 import re

@@ -1,10 +1,8 @@
 """Four desks behind one address, as in a branch whose router translates addresses: each counts a day of many tickets and pays, over the limits of samples/nginx."""
 
-from __future__ import annotations
-
 import threading
 import time
-from typing import Mapping
+from typing import Any, Mapping
 
 import pytest
 
@@ -50,14 +48,9 @@ class Desk(threading.Thread):
                 return
             self.counted = number
             if number % 200 == 0:
+                asked: Any = {"desk": self.desk, "number": number, "day": DAY, "payee": 60}
                 serials = [f"S{self.desk * 1000 + number}EE"]
-                asked: dict[str, object] = {
-                    "desk": self.desk,
-                    "number": number,
-                    "day": DAY,
-                    "payee": 60,
-                }
-                self.ask("POST", "/redeem", asked | {"serials": serials})
+                self.ask("POST", "/redeem", {**asked, "serials": serials})
 
 
 def busy(nginx: Front) -> int:
@@ -91,12 +84,8 @@ def test_four_desks(bank: Bank, new_page: NewPage) -> None:
     page.sends(7, "L7EE")
     page.refuses("is paid.")
     page.go("day")
-    page.until(
-        lambda: dollars(VALUES["L"]) in page.text("#desk-sum")
-        and "tickets, " in page.text("#all-sum"),
-        "the day is counted",
-        900,
-    )
+    page.until(lambda: dollars(VALUES["L"]) in page.text("#desk-sum"), "the desk's sum", 900)
+    page.until(lambda: "tickets, " in page.text("#all-sum"), "the day is counted", 900)
     for desk in desks:
         desk.join()
     assert [(desk.counted, desk.busy) for desk in desks] == [(TICKETS, 0)] * 3

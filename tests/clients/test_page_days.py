@@ -1,7 +1,5 @@
 """Days: what the page does over one, which days it opens after how many questions, what it asks the counter for, and who may."""
 
-from __future__ import annotations
-
 import json
 import re
 
@@ -9,17 +7,14 @@ import pytest
 
 from tests.browser.bank import DAY, USER, Bank
 from tests.clients.conftest import NewPage
+from tests.clients.scripts import scripts
 
 pytest.importorskip("selenium")
 from tests.browser.page import EARLIER, VALUES, Page, dollars
 
 pytestmark = [pytest.mark.browser, pytest.mark.nginx]
+SCRIPTS = scripts("page_scripts.js")
 SUM = sum(VALUES.values())
-#: All storage that a page may use, beside its two databases.
-STORAGES = """
-    const databases = (await indexedDB.databases()).map((one) => one.name);
-    return [[Object.entries(localStorage), Object.entries(sessionStorage), await caches.keys(), document.cookie], databases.sort(), location.href];
-"""
 JOURNAL = {"desk", "next", "open", "day", "closed", "last", "paid", "tally"}
 TICKET = {"ticket", "bonds", "total", "number", "at", "teller", "printed"}
 
@@ -27,7 +22,7 @@ TICKET = {"ticket", "bonds", "total", "number", "at", "teller", "printed"}
 def keeps_nothing(page: Page) -> None:
     """No bond number and no customer in any storage of the browser, receipts apart."""
     page.settled()
-    others, databases, address = page.run_module(STORAGES)
+    others, databases, address = page.run_module(SCRIPTS["storages"])
     assert others == [[], [], [], ""]
     assert databases == ["ladwenpik-receipts", "ladwenpik-teller"]
     assert re.search(r"/teller/(#[a-z]+)?$", address)
@@ -35,18 +30,6 @@ def keeps_nothing(page: Page) -> None:
     assert set(journal) == JOURNAL and journal["open"] is None
     assert {name for entry in journal["paid"]["tickets"] for name in entry} == TICKET
     assert re.search(r"\d+EE", json.dumps(journal)) is None
-
-
-HEARD = """
-    window.heard = [];
-    const real = window.fetch;
-    window.fetch = (url, options) => {
-        const headers = new Headers(options.headers);
-        const names = ["X-Counter-Client", "Content-Type", "X-Counter-Sending"].map((name) => headers.get(name));
-        window.heard.push([options.method, new URL(url).pathname, ...names]);
-        return real(url, options);
-    };
-"""
 
 
 def names_all(page: Page) -> None:
@@ -64,7 +47,7 @@ def names_all(page: Page) -> None:
 def test_a_day(bank: Bank, new_page: NewPage) -> None:
     bank.begin([7], day=None)
     page = new_page(3)
-    page.run(HEARD)
+    page.run(SCRIPTS["heard"])
     page.open_day(DAY)
     page.waits_for("February 6, 2012 is open.")
     page.show_sheet(7)
@@ -101,12 +84,6 @@ def test_a_day(bank: Bank, new_page: NewPage) -> None:
 
 # ---- which days
 
-#: What the page reads as the server's time, from the next response on.
-SERVER_DATE = """
-    const [date, real] = [arguments[0], window.realGet ?? Headers.prototype.get];
-    window.realGet = real;
-    Headers.prototype.get = function (name) { return name === "Date" ? date : real.call(this, name); };
-"""
 ONCE, TWICE = "Open the day", "Continue"
 
 
@@ -123,7 +100,7 @@ def test_usual_day(bank: Bank, new_page: NewPage) -> None:
     bank.opens("2012-02-03")
     bank.closes("2012-02-03")
     page = new_page()
-    page.run(SERVER_DATE, "Mon, 06 Feb 2012 14:00:00 GMT")
+    page.run(SCRIPTS["server_date"], "Mon, 06 Feb 2012 14:00:00 GMT")
     distance = "3 days after the last closed day, Friday, February 3, 2012."
     asks(page, DAY, f"Open February 6, 2012?\nMonday, February 6, 2012: {distance}", ONCE)
     assert bank.gate.bodies == [] and page.journal()["open"] is None, "Back sends nothing"
@@ -147,12 +124,10 @@ def test_usual_day(bank: Bank, new_page: NewPage) -> None:
     with bank.gate.changes("/batch/", lambda text: b""):
         page.type("#open-date", "2012-02-14")
         page.press("#open-day button")
-        page.waits_for(
-            "The counter didn't answer: it is starting, or has too much to do.", "#notices"
-        )
-    assert len(bank.gate.bodies) == sent and not page.is_shown(
-        "#confirm"
-    ), "no day is opened blindly"
+        silent = "The counter didn't answer: it is starting, or has too much to do."
+        page.waits_for(silent, "#notices")
+    assert len(bank.gate.bodies) == sent, "no day is opened blindly"
+    assert not page.is_shown("#confirm")
 
 
 CLOCK = "The server's clock says"
@@ -172,7 +147,7 @@ def test_far_from_today(bank: Bank, new_page: NewPage) -> None:
         ("Wed, 01 Feb 2012", "Friday, February 3, 2012.", ONCE),
         ("Tue, 31 Jan 2012", f"{CLOCK} January 31, 2012, which can't be right", TWICE),
     ):
-        page.run(SERVER_DATE, f"{today} 14:00:00 GMT")
+        page.run(SCRIPTS["server_date"], f"{today} 14:00:00 GMT")
         asked = page.ask_to_open(DAY)
         assert words in asked and page.text("#confirm-yes") == times
         assert ("today" in asked or CLOCK in asked) == (times == TWICE)
@@ -196,9 +171,8 @@ def test_wrong_year(bank: Bank, new_page: NewPage) -> None:
     page.watch_rests()
     page.press("#confirm-yes")
     page.until(lambda: "Is the year 2121 right?" in page.question(), "it asks again")
-    for words in ("values in February 2121", "no earlier day can ever be opened again"):
-        assert words in page.question()
-    assert "mistyped, choose Back" in page.question()
+    said = ("values in February 2121", "no earlier day can ever be opened", "mistyped, choose Back")
+    assert all(words in page.question() for words in said)
     page.has_rested()
     page.press("#confirm-no")
     page.sleep(1.5)

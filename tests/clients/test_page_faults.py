@@ -1,7 +1,5 @@
 """What goes wrong around a request: answers that don't come, or come from others, kills of the counter and of the browser, numbers that were used. Each request is done once, and its one reply is shown."""
 
-from __future__ import annotations
-
 import json
 import threading
 import time
@@ -13,6 +11,7 @@ from ee_counter_client.testing.gate import AFTER, BEFORE
 from tests.browser.bank import DAY, RATE, USER, Bank, Front
 from tests.browser.gate import Relay
 from tests.clients.conftest import NewPage
+from tests.conftest import at_once
 
 pytest.importorskip("selenium")
 from tests.browser.page import EARLIER, VALUES, Page, dollars
@@ -86,16 +85,11 @@ def test_two_desks(bank: Bank, page: Page, new_page: NewPage) -> None:
     pages = [page, new_page(6, day=DAY)]
     for one in pages:
         one.chooses(7, "L7EE")
-    paying = [threading.Thread(target=one.pay) for one in pages]
-    for thread in paying:
-        thread.start()
-    for thread in paying:
-        thread.join()
+    at_once(lambda number: pages[number].pay(), 2)
     already = "was paid already, on ticket 1"
     for one in pages:
-        one.until(
-            lambda: "Ticket 1 is paid." in one.text() or already in one.text(), "an answer comes"
-        )
+        is_answered = lambda: "Ticket 1 is paid." in one.text() or already in one.text()
+        one.until(is_answered, "an answer comes")
     assert sorted(already in one.text() for one in pages) == [False, True]
     other = next(one for one in pages if already in one.text())
     other.press("#notices button")

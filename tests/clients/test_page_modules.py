@@ -1,55 +1,40 @@
 """What the page's modules make of texts, in Node: the words of each code and reason, sheets, answers, doubts, and amounts in words."""
 
-from __future__ import annotations
-
+import itertools
 import json
 import re
+import string
 import subprocess
+import tomllib
 from email.utils import parsedate_to_datetime
+from pathlib import Path
 from typing import Any
 
 import pytest
 
 from tests.browser.bank import OLDEST, PAGE, TOO_YOUNG, UNISSUED, Bank, released_in
+from tests.clients.scripts import scripts
 from tests.conftest import TOP
 
 pytestmark = pytest.mark.needs("node")
-#: Loads modules of the page, for which anything that they ask of a document is there; and prints what a function of them returns.
-AROUND = """
-    const anything = new Proxy(function () {}, { get: (_, name) => (name === Symbol.toPrimitive ? () => "" : anything), apply: () => anything });
-    globalThis.document = anything;
-    globalThis.location = { origin: "https://counter.test", hash: "" };
-    globalThis.addEventListener = () => {};
-    // Node 20 lacks it.
-    Map.groupBy ??= (rows, key) => rows.reduce((found, row) => found.set(key(row), [...(found.get(key(row)) ?? []), row]), new Map());
-    const page = Object.assign({}, ...(await Promise.all(%s.map((name) => import(`%s/${name}.js`)))));
-    const given = JSON.parse(process.argv[1]);
-    console.log(JSON.stringify((() => {%s})()));
-"""
+SCRIPTS = scripts("page_scripts.js")
 MODULES = ["words", "answers", "sheet", "spelling", "doubts", "papers"]
 
 
 def in_node(script: str, *given: object) -> Any:
     """What a script returns, which has all that the modules export as `page`, and `given`."""
-    text = AROUND % (json.dumps(MODULES), PAGE, script)
-    words = "node --no-warnings -e".split()
-    ran = subprocess.run(
-        [*words, text, json.dumps(given)], capture_output=True, text=True, timeout=60
-    )
+    text = json.dumps([str(PAGE), MODULES, script, given])
+    words = ["node", "--no-warnings", str(Path(__file__).parent / "page_modules.mjs"), text]
+    ran = subprocess.run(words, capture_output=True, text=True, timeout=60)
     assert ran.returncode == 0, ran.stderr
     return json.loads(ran.stdout)
 
 
 # ---- words
 
+REFUSALS = tomllib.loads((TOP / "tests/documents/refusals.toml").read_text())["refusal"]
 NAMES = {
-    "refused": {
-        **{10: "NumberReused", 11: "Empty", 12: "TooMany", 13: "Repeated", 14: "SameCoowner"},
-        **{20: "NotAnnouncementMonth", 21: "RateConflict", 22: "RateUnsettled", 30: "NoRate"},
-        **{31: "SerialConflict", 40: "DayOpen", 41: "DayNotLater", 42: "NoOpenDay"},
-        **{43: "DayIsOther", 44: "DayFull", 50: "UnknownSerial", 51: "NotPayee"},
-        **{52: "AlreadyPaid", 53: "NotIssued", 54: "NotEligible"},
-    },
+    "refused": {row["code"]: name for name, row in REFUSALS.items()},
     "fault": {
         **{60: "BadHead", 61: "HeadTooLong", 62: "BodyTooLong", 63: "BadLength", 64: "BadJson"},
         **{65: "BadField", 66: "NoRoute", 67: "BadMethod", 68: "Truncated", 69: "NotFound"},
@@ -70,16 +55,13 @@ def test_words_of_codes() -> None:
     known = {**NAMES["refused"], **NAMES["fault"]}
     assert {code: name for code, name in documented.items() if code < 70} == known
     more = {"serial": "L7EE", "ticket": 12, "field": "payee"}
+    months = {
+        code: 300 if code == 22 else "2012-05" for code in (*NAMES["refused"], *NAMES["fault"])
+    }
     answers = [
-        {
-            "kind": kind,
-            "code": code,
-            "name": name,
-            "month": "2012-05" if code != 22 else 300,
-            **more,
-        }
-        for kind, names_of_kind in NAMES.items()
-        for code, name in names_of_kind.items()
+        {"kind": kind, "code": code, "name": name, "month": months.get(code), **more}
+        for kind, names in NAMES.items()
+        for code, name in names.items()
     ]
     found = in_node(SENTENCES, answers)
     for says, advises in found:
@@ -100,20 +82,16 @@ READ_ANSWERS = "return given[0].map(([status, text]) => page.readAnswer(status, 
 
 def test_words_of_nginx() -> None:
     """Each answer of nginx and of others is read as what it is, and each reason of nginx has a sentence."""
-    wanted: list[tuple[int, str, list[str]]] = [
-        (status, json.dumps({"forbidden": why}), ["forbidden", why]) for why, status in REASONS
-    ]
+    wanted: list[tuple[int, str, list[str]]] = []
+    wanted += [(status, json.dumps({"forbidden": w}), ["forbidden", w]) for w, status in REASONS]
     said = '{"forbidden":"certificate","message":"No certificate."}'
     wanted.append((400, said, ["forbidden", "certificate"]))
-    wanted += [(429, json.dumps({"forbidden": x}), ["none", "busy"]) for x in ("rate", "repeated")]
-    unavailable = '{"unavailable":"counter"}'
-    wanted += [(status, unavailable, ["none", "unavailable"]) for status in (502, 503, 504)]
+    wanted += [(429, json.dumps({"forbidden": w}), ["none", "busy"]) for w in ("rate", "repeated")]
+    gone = '{"unavailable":"counter"}'
+    wanted += [(status, gone, ["none", "unavailable"]) for status in (502, 503, 504)]
     texts = ('{"forbidden":"x"}', '{"forbidden":["group"]}', "{}", "", "null", "[]")
-    wanted += [(403, text, ["none", "status"]) for text in texts]
-    wanted += [
-        (200, '{"forbidden":"group"}', ["none", "status"]),
-        (404, unavailable, ["none", "status"]),
-    ]
+    others = [*((403, text) for text in texts), (200, '{"forbidden":"group"}'), (404, gone)]
+    wanted += [(*other, ["none", "status"]) for other in others]
     assert in_node(READ_ANSWERS, [row[:2] for row in wanted]) == [row[2] for row in wanted]
     script = "return given[0].map((why) => { const { says, advises } = page.forbiddenInWords(why, '/redeem'); return [says, advises]; });"
     sentences = in_node(script, [why for why, _ in REASONS])
@@ -121,15 +99,8 @@ def test_words_of_nginx() -> None:
     assert len({says for says, _ in sentences}) == len(dict(REASONS))
 
 
-#: What the page says of a first attempt without a certificate.
-FIRST = """
-    const request = { path: "/redeem", fields: { serials: ["L7EE"], payee: 7 }, sent: 1 };
-    return page.STEPS.pausing({ request, answer: { kind: "forbidden", why: "certificate" }, milliseconds: 500 });
-"""
-
-
 def test_words_of_a_first_attempt() -> None:
-    says, why = in_node(FIRST)[:2]
+    says, why = in_node(SCRIPTS["first_attempt"])[:2]
     assert "This attempt did nothing." in says and "earlier" not in why
     assert "This browser sent no certificate of the staff, or it was revoked or has run out." in why
 
@@ -159,21 +130,15 @@ AMOUNTS = {
     100000000: "One million dollars and 00/100",
     1234567890: "Twelve million three hundred forty-five thousand six hundred seventy-eight dollars and 90/100",
 }
-TIMES = """
-    const times = [[0, 5], [9, 30], [12, 0], [23, 59]].map(([hour, minute]) => page.timeInWords(new Date(2012, 1, 6, hour, minute).getTime()));
-    return [...times, page.dayInWords("2012-12-31")];
-"""
 
 
 def test_amounts_and_times() -> None:
-    found = in_node(
-        "return given[0].map((cents) => page.amountInWords(BigInt(cents)));", [*AMOUNTS]
-    )
+    words = "return given[0].map((cents) => page.amountInWords(BigInt(cents)));"
+    found = in_node(words, [*AMOUNTS])
     assert dict(zip(AMOUNTS, found)) == AMOUNTS
-    times = [
-        f"February 6, 2012, {time}" for time in ("12:05 AM", "9:30 AM", "12:00 PM", "11:59 PM")
-    ]
-    assert in_node(TIMES) == [*times, "December 31, 2012"]
+    times = ("12:05 AM", "9:30 AM", "12:00 PM", "11:59 PM")
+    wanted = [*(f"February 6, 2012, {time}" for time in times), "December 31, 2012"]
+    assert in_node(SCRIPTS["times"]) == wanted
 
 
 def test_rows_of_sheets() -> None:
@@ -193,9 +158,7 @@ DOUBTS = "return given[0].map((bonds) => page.doubtsOf(bonds.map(([serial, denom
 
 def test_doubts() -> None:
     """Each letter with each denomination, and issue months around the last of paper."""
-    pairs = [
-        (letter, denom) for letter in "ABCDEFGHIJKLMNOPQRSTUVWXYZ" for denom in LETTERS.values()
-    ]
+    pairs = list(itertools.product(string.ascii_uppercase, LETTERS.values()))
     bonds = [[(f"{letter}1EE", denom, "05/2010")] for letter, denom in pairs]
     doubts = dict(zip(pairs, in_node(DOUBTS, bonds)))
     for (letter, denom), said in doubts.items():
@@ -227,21 +190,6 @@ def dated(changelog: str) -> str:
 
 # ---- sheets
 
-SHEETS = r"""
-    const text = given[0];
-    const whole = page.readSheet(text);
-    const places = [...text].map((_, at) => at);
-    const other = (at) => text.slice(0, at) + (text[at] === "9" ? "8" : "9") + text.slice(at + 1);
-    const damaged = [
-        ...places.map((at) => text.slice(0, at) + text.slice(at + 1)),
-        ...places.map((at) => text.slice(0, at) + text[at] + text.slice(at)),
-        ...places.map((at) => text.slice(0, at)),
-        ...[...text.matchAll(/\.[0-9]{2}(?!%)/g)].map((found) => other(found.index + 1)),
-    ];
-    const rows = whole.rows.map((row) => [row.serial, row.note, Number(row.value)]);
-    return [rows, Number(whole.totals.value), damaged.length, damaged.filter((one) => page.readSheet(one) !== null).length];
-"""
-
 
 def test_sheets(bank: Bank) -> None:
     """Sheets of the true counter are read; with a byte less, a byte twice, cut, or other money they are none."""
@@ -249,11 +197,10 @@ def test_sheets(bank: Bank) -> None:
     bank.registers(TOO_YOUNG, UNISSUED, OLDEST)
     for month in ("2005-05", "2010-12", "2012-02", "2025-06", "2041-02", "2199-12"):
         text = bank.ask("GET", f"/inventory/7/{month}")[1]
-        rows, total, tried, read = in_node(SHEETS, text)
-        wanted = [
-            [line.split()[0], "".join(re.findall("(?:NI|NE|P5|MA)$", line))]
-            for line in text.splitlines()[1:-1]
-        ]
-        assert [row[:2] for row in rows] == wanted and len(wanted) == 6
+        rows, total, tried, read = in_node(SCRIPTS["sheets"], text)
+        lines = text.splitlines()[1:-1]
+        notes = ["".join(re.findall("(?:NI|NE|P5|MA)$", line)) for line in lines]
+        assert [row[:2] for row in rows] == [[x.split()[0], y] for x, y in zip(lines, notes)]
+        assert len(lines) == 6
         assert total == sum(value for *_, value in rows)
         assert tried > 3 * len(text) and read == 0

@@ -1,7 +1,5 @@
 """What is printed and saved: tickets and batches as PDF on Letter and A4, read by Debian's pdftotext, with all that a bank, a payee and the tax form need; and interest as CSV. Nothing is guessed."""
 
-from __future__ import annotations
-
 import re
 import subprocess
 import time
@@ -13,11 +11,13 @@ import pytest
 
 from tests.browser.bank import BANK, BRANCH, DAY, USER, Bank, bonds_of
 from tests.clients.conftest import NewPage
+from tests.clients.scripts import scripts
 
 pytest.importorskip("selenium")
 from tests.browser.page import VALUES, Page, dollars
 
 pytestmark = [pytest.mark.browser, pytest.mark.nginx, pytest.mark.needs("pdftotext")]
+SCRIPTS = scripts("page_scripts.js")
 L, K, M = VALUES["L"], VALUES["K"], VALUES["M"]
 PAPERS = {"Letter": (8.5, 11.0), "A4": (8.27, 11.69)}
 #: Of each kind of bond, by docs/FIRST_DAY.md: denomination, issue month, price, interest and value in February 2012.
@@ -29,16 +29,14 @@ FACTS = {
 LACKS = "Without denominations, issue months, prices and interest"
 
 
-def sheets(
-    page: Page, paper: str = "Letter", pictures: Path | None = None, name: str = ""
-) -> list[str]:
+def sheets(page: Page, paper: str = "Letter", to: Path | None = None, name: str = "") -> list[str]:
     """The texts of a print's sheets."""
     path = page.profile / "printed.pdf"
     path.write_bytes(page.engine.pdf(*PAPERS[paper]))
-    if pictures is not None:
-        pictures.mkdir(parents=True, exist_ok=True)
-        target = str(pictures / f"{name}-{page.name}")
-        subprocess.run(["pdftoppm", "-r", "60", "-png", str(path), target], check=True)
+    if to is not None:
+        to.mkdir(parents=True, exist_ok=True)
+        words = ["pdftoppm", "-r", "60", "-png", str(path), str(to / f"{name}-{page.name}")]
+        subprocess.run(words, check=True)
     words = ["pdftotext", "-layout", str(path), "-"]
     text = subprocess.run(words, capture_output=True, text=True, check=True).stdout
     return unicodedata.normalize("NFKC", text).split("\f")[:-1]
@@ -80,25 +78,16 @@ def test_hundred_bonds(bank: Bank, page: Page, pictures: Path | None) -> None:
     numbers = [int(number) for number in re.findall(r"\bS(\d+)EE", whole)]
     assert sorted(numbers) == list(range(1, 101))
     number = page.journal()["paid"]["tickets"][0]["number"]
-    for words in (
-        *(BANK, BRANCH, "Desk 5", f"Teller {USER}", "Server's time", "Paid to customer 60"),
-        f"desk 5, number {number}",
-    ):
-        assert words in flat(first[0])
-    for words in (
-        "Two thousand five hundred sixteen dollars and 00/100",
-        "Received by: the payee's name",
-        "Signature",
-    ):
-        assert words in first[-1]
+    heads = (BANK, BRANCH, "Desk 5", f"Teller {USER}", "Server's time", "Paid to customer 60")
+    assert all(words in flat(first[0]) for words in (*heads, f"desk 5, number {number}"))
+    ends = ("Two thousand five hundred sixteen dollars and 00/100", "Received by: the payee's name")
+    assert all(words in first[-1] for words in (*ends, "Signature"))
     page.until(lambda: "COPY" in page.text("#ticket h2"), "it was printed")
     again = sheets(page, "A4", pictures, "copy")
     has_heads(again, title)
     assert len(again) == 4 and all("COPY" in text for text in again) and "Printed" in again[0]
     assert "\n".join(again).count(total) == 1
-    page.run(
-        "for (const leaf of document.querySelectorAll('#ticket .leaf table')) { const foot = document.createElement('tfoot'); foot.innerHTML = '<tr><td></td><th>Total</th><td>$2,516.00</td></tr>'; leaf.append(foot); }"
-    )
+    page.run(SCRIPTS["total_in_each_foot"])
     assert "\n".join(sheets(page, "A4")).count(total) > 1, "control: a total in each foot"
     page.reload()
     page.go("tickets")
@@ -124,9 +113,7 @@ def test_originals(bank: Bank, page: Page) -> None:
     other = sheets(page)[0]
     assert "COPY" in other and "Teller" not in other and "Request" not in other
     # The browser's own printing is counted.
-    page.run(
-        "window.prints = []; window.print = () => window.prints.push(document.querySelector('#ticket .copy') !== null)"
-    )
+    page.run(SCRIPTS["prints"])
     page.pays(3, 7, "L7EE")
     page.press("#ticket .print")
     page.until(lambda: page.run("return window.prints") == [False], "it prints, and no copy")
@@ -167,9 +154,8 @@ def test_receipt(bank: Bank, page: Page, pictures: Path | None) -> None:
     page.run("Date.now = () => 0")
     before = time.time()
     kinds = bonds_of(60)
-    twelve = [
-        {**kinds[n % 3], "serial": f"{kinds[n % 3]['serial'][0]}{600 + n}EE"} for n in range(12)
-    ]
+    serials = [f"{kinds[n % 3]['serial'][0]}{600 + n}EE" for n in range(12)]
+    twelve = [{**kinds[n % 3], "serial": serial} for n, serial in enumerate(serials)]
     bank.registers(*twelve)
     page.show_sheet(60)
     page.press("#choose-all")
@@ -184,11 +170,14 @@ def test_receipt(bank: Bank, page: Page, pictures: Path | None) -> None:
         (text,) = sheets(page, paper, pictures, f"receipt_{paper}")
         assert sorted(lines_of(text)) == wanted
         assert sums in [line.split() for line in text.splitlines()]
-        for fact in (
-            *(SERIES, "Ticket 1", "Business day February 6, 2012", "Paid to customer 60"),
-            *("Desk 5", f"Teller {USER}"),
-        ):
-            assert fact in flat(text)
+        facts = (
+            SERIES,
+            "Ticket 1",
+            "Business day February 6, 2012",
+            "Paid to customer 60",
+            "Desk 5",
+        )
+        assert all(fact in flat(text) for fact in (*facts, f"Teller {USER}"))
         zone = r"Server's time [A-Z][a-z]+ \d{1,2}, 20\d\d, \d{1,2}:\d\d [AP]M [A-Z]{3}"
         assert re.search(zone, flat(text)) and "1970" not in text
     assert len(page.all("#ticket .paper tbody tr")) == 12
@@ -207,10 +196,9 @@ def test_receipt_after_reload(bank: Bank, page: Page) -> None:
     bank.gate.faults = ["lost answer", "lost request", "lost request"]
     page.sends(7, "K7EE", "L7EE")
     page.waits_for("no reply yet", "#progress")
-    assert page.journal()["open"]["bonds"] == [
-        {"serial": "K7EE", "denom": 75, "issued": "2010-10", "price": "3750"},
-        {"serial": "L7EE", "denom": 50, "issued": "2010-11", "price": "2500"},
-    ], "what its ticket won't tell"
+    kept_of = {"serial": "K7EE", "denom": 75, "issued": "2010-10", "price": "3750"}
+    other = {"serial": "L7EE", "denom": 50, "issued": "2010-11", "price": "2500"}
+    assert page.journal()["open"]["bonds"] == [kept_of, other], "what its ticket won't tell"
     page.reload()
     page.is_paid(1, K, L)
     wanted = [["K7EE", *FACTS["K"]], ["L7EE", *FACTS["L"]]]
@@ -231,11 +219,11 @@ def test_receipt_after_reload(bank: Bank, page: Page) -> None:
 
 
 #: An open payment as an earlier version of the page stored it: without its bonds.
-EARLIER_OPEN = """(record) => ({
-    ...record,
-    next: record.next + 1,
-    open: { number: record.next, step: 1, sent: 0, path: "/redeem", fields: { day: "2012-02-06", payee: 7, serials: ["L7EE"] }, shown: "2516" },
-})"""
+FIELDS = '{ day: "2012-02-06", payee: 7, serials: ["L7EE"] }'
+OPEN = (
+    f'{{ number: record.next, step: 1, sent: 0, path: "/redeem", fields: {FIELDS}, shown: "2516" }}'
+)
+EARLIER_OPEN = f"(record) => ({{ ...record, next: record.next + 1, open: {OPEN} }})"
 
 
 def test_receipt_unknown(bank: Bank, page: Page, pictures: Path | None) -> None:
@@ -363,29 +351,6 @@ def test_interest_of_a_long_span(bank: Bank, page: Page, pictures: Path | None) 
 
 # ---- records that are deleted
 
-#: The deletion of the second record after this fails.
-DELETING = """
-    const real = window.realDelete = IDBCursor.prototype.delete;
-    let skipped = 1;
-    IDBCursor.prototype.delete = function () {
-        if (skipped-- === 0) throw new DOMException("the browser's own words", "UnknownError");
-        return real.call(this);
-    };
-"""
-#: What a question is like as it opens, however long this test then takes to look: whether its button rests, and what has the keyboard.
-AT_FIRST = """
-    const real = HTMLDialogElement.prototype.showModal;
-    HTMLDialogElement.prototype.showModal = function () {
-        real.call(this);
-        setTimeout(() => { window.at_first = [document.getElementById("confirm-yes").getAttribute("aria-disabled"), document.activeElement.id]; }, 0);
-    };
-"""
-#: The pixels between a notice's edges and its button Close: above and below.
-ROOM = """
-    const [notice, close] = ["#notices .notice", "#notices .close"].map((which) => document.querySelector(which).getBoundingClientRect());
-    return [close.top - notice.top, notice.bottom - close.bottom];
-"""
-
 
 def kept(page: Page) -> list[int]:
     return [one["ticket"] for one in page.receipts()]
@@ -406,7 +371,7 @@ def test_records_deleted(bank: Bank, page: Page, pictures: Path | None) -> None:
     page.press("#delete-records button")
     used = "Enter a day before February 7, 2012: the records of that day are in use"
     assert page.text("#records-to-error").endswith(used) and not page.is_shown("#confirm")
-    page.run(AT_FIRST)
+    page.run(SCRIPTS["at_first"])
     page.type("#records-to", DAY)
     page.press("#delete-records button")
     page.asks()
@@ -416,7 +381,7 @@ def test_records_deleted(bank: Bank, page: Page, pictures: Path | None) -> None:
     page.pictured(pictures, "records_question")
     page.press("#confirm-no")
     assert kept(page) == [1, 2, 3]
-    page.run(DELETING)
+    page.run(SCRIPTS["deleting"])
     page.press("#delete-records button")
     page.press("#confirm-yes")
     page.waits_for("nothing was changed", "#notices")
@@ -425,10 +390,10 @@ def test_records_deleted(bank: Bank, page: Page, pictures: Path | None) -> None:
     page.press("#delete-records button")
     page.press("#confirm-yes")
     page.waits_for("2 records are deleted.", "#notices")
-    above, below = page.run(ROOM)
+    above, below = page.run(SCRIPTS["room"])
     assert above >= 4 and abs(above - below) <= 1, "as much room below Close as above it"
     page.run("document.querySelector('#notices .notice').style.minHeight = 0")
-    above, below = page.run(ROOM)
+    above, below = page.run(SCRIPTS["room"])
     assert below < above - 1, "control: without the least height of a notice"
     page.waits_for("1 record is kept.", "#records-kept")
     assert kept(page) == [3]

@@ -1,22 +1,20 @@
 """No money moves by a press that was meant for something else, and what is confirmed is what is paid: questions that rest, sums, bonds that were paid meanwhile, the next customer, refusals."""
 
-from __future__ import annotations
-
 import pytest
 from ee_counter_client.testing.gate import response
 
 from tests.browser.bank import DAY, TOO_YOUNG, UNISSUED, Bank, bond
 from tests.clients.conftest import NewPage
+from tests.clients.scripts import scripts
 
 pytest.importorskip("selenium")
 from tests.browser.browser import Keys
 from tests.browser.page import DOUBT, EARLIER, VALUES, Page, dollars
 
 pytestmark = [pytest.mark.browser, pytest.mark.nginx]
+SCRIPTS = scripts("page_scripts.js")
 L, K, M = VALUES["L"], VALUES["K"], VALUES["M"]
-ROW = (
-    "return document.querySelector(`input[data-serial='${arguments[0]}']`).closest('tr').innerText"
-)
+ROW = "return document.querySelector(`[data-serial='${arguments[0]}']`).closest('tr').innerText"
 
 
 # ---- double clicks
@@ -36,41 +34,6 @@ def windows() -> list[tuple[int, int]]:
     """Each size in pixels of the page once."""
     zoomed = {(round(x / zoom), round(y / zoom)) for x, y in WINDOWS for zoom in ZOOMS}
     return sorted({(x, y) for x, y in zoomed if x >= 300 and y >= 250} | set(LOW))
-
-
-#: Opens the question with the pointer far away, and then at nine places of each box in which its button lay so far; at which of them the button is less than 16 pixels away, and how many there were.
-NEAR = """
-    const yes = document.getElementById("confirm-yes");
-    const box = (x, y) => {
-        dispatchEvent(new PointerEvent("pointermove", { clientX: x, clientY: y }));
-        document.getElementById("pay-bonds").requestSubmit();
-        const { left, right, top, bottom } = yes.getBoundingClientRect();
-        document.getElementById("confirm").close("no");
-        return { left, right, top, bottom };
-    };
-    const name = (one) => JSON.stringify(Object.values(one).map(Math.round));
-    const boxes = new Map([box(-99, -99)].map((one) => [name(one), one]));
-    const near = [];
-    let count = 0;
-    for (const { left, right, top, bottom } of boxes.values()) {
-        for (const x of [left - 12, (left + right) / 2, right + 12]) {
-            for (const y of [top - 12, (top + bottom) / 2, bottom + 12]) {
-                const other = box(x, y);
-                if (x >= other.left - 16 && x <= other.right + 16 && y >= other.top - 16 && y <= other.bottom + 16) near.push([Math.round(x), Math.round(y), name(other)]);
-                boxes.set(name(other), other);
-                count += 1;
-            }
-        }
-    }
-    return [near, count];
-"""
-#: By the page's own clock, so that a busy machine puts off the presses and the rest alike.
-PRESSES = """
-    for (let count = 0; count < 8; count += 1) {
-        document.getElementById("confirm-yes").click();
-        await new Promise((resolve) => setTimeout(resolve, 400));
-    }
-"""
 
 
 def has_lists(bank: Bank) -> None:
@@ -97,7 +60,7 @@ def test_double_clicks(bank: Bank, new_page: NewPage) -> None:
         choose_all(page, count)
         for width, height in windows():
             page.resize(width, height)
-            near, tried = page.run(NEAR)
+            near, tried = page.run(SCRIPTS["near"])
             assert near == [] and tried > 0, (count, width, height)
             page.double_click("#pay-button")
             page.asks()
@@ -111,7 +74,7 @@ def test_presses_of_a_resting_button(bank: Bank, page: Page) -> None:
     """Eight presses, one each 0.4 seconds, confirm nothing: each starts the rest anew. After its rest it pays."""
     page.chooses(7, "L7EE")
     page.ask_to_pay()
-    page.run_module(PRESSES)
+    page.run_module(SCRIPTS["presses"])
     assert page.is_shown("#confirm") and bank.gate.bodies == []
     page.press("#confirm-yes")
     page.is_paid(1, L)
@@ -128,9 +91,8 @@ def test_an_unguarded_double_click_is_found(bank: Bank, new_page: NewPage) -> No
         ('yes.setAttribute("aria-disabled", "true");', ""),
     )
     page = new_page(day=DAY)
-    for count, width, height in (
-        *((60, 360, 480), (60, 360, 568), (12, 683, 384), (12, 720, 450), (60, 720, 450)),
-    ):
+    sizes = ((60, 360, 480), (60, 360, 568), (12, 683, 384), (12, 720, 450), (60, 720, 450))
+    for count, width, height in sizes:
         choose_all(page, count)
         page.resize(width, height)
         page.double_click("#pay-button")
@@ -184,12 +146,11 @@ def test_bonds_added(bank: Bank, page: Page) -> None:
     page.add(9, "K9EE")
     page.shows_sum(2, 2 * K)
     assert f"K9EE, owner 9: {dollars(K)}" in page.text("#others")
-    for serial, owner, words in (
-        ("K9EE", 9, "Bond K9EE is already chosen."),
-        ("L11EE", 9, "Bond L11EE isn't among the unpaid bonds that customer 9 owns."),
-        ("C12EE", 9, "Bond C12EE isn't among the unpaid bonds that customer 9 owns."),
-        ("N7EE", 7, "Bond N7EE can't be paid in February 2012: it is less than 12 months old."),
-    ):
+    none = "isn't among the unpaid bonds that customer 9 owns."
+    wrong = [("K9EE", "is already chosen."), ("L11EE", none), ("C12EE", none)]
+    young = ("N7EE", "can't be paid in February 2012: it is less than 12 months old.")
+    for serial, why in [*wrong, young]:
+        words, owner = f"Bond {serial} {why}", 7 if serial == "N7EE" else 9
         page.ask_to_add(owner, serial)
         page.waits_for(words, "#notices")
         assert len(page.all("#others li")) == 1
@@ -280,15 +241,10 @@ def test_paid_meanwhile(bank: Bank, page: Page) -> None:
 
 
 def awaited(bank: Bank, page: Page) -> None:
-    """Pays; the reply is lost, and no later sending gets through until `replied`."""
+    """Pays; the reply is lost, and no later sending gets through while there are faults."""
     bank.gate.faults = ["lost answer", *["lost request"] * 20]
     page.pay()
     page.waits_for("sent again in 4 seconds", "#progress")
-
-
-def replied(bank: Bank, page: Page, words: str) -> None:
-    bank.gate.faults = []
-    page.refuses(words)
 
 
 def test_next_customer(bank: Bank, page: Page) -> None:
@@ -297,7 +253,8 @@ def test_next_customer(bank: Bank, page: Page) -> None:
     awaited(bank, page)
     page.chooses(9, "K9EE", "M9EE")
     page.type("#serial", "L-11")
-    replied(bank, page, "Ticket 1 is paid.")
+    bank.gate.faults = []
+    page.refuses("Ticket 1 is paid.")
     assert [page.value(field) for field in ("#customer", "#payee", "#serial")] == ["9", "9", "L-11"]
     assert page.is_shown("#pay") and page.focused() == "serial"
     page.shows_sum(2, K + M)
@@ -313,7 +270,8 @@ def test_next_customer(bank: Bank, page: Page) -> None:
     page.chooses(11, "L11EE")
     awaited(bank, page)
     page.choose("K11EE")
-    replied(bank, page, "Ticket 3 is paid.")
+    bank.gate.faults = []
+    page.refuses("Ticket 3 is paid.")
     page.shows_sum(1, K)
     assert "Paid, ticket 3" in page.run(ROW, "L11EE").replace("\n", " ")
 
@@ -331,12 +289,9 @@ def test_doubts_asked(bank: Bank, new_page: NewPage) -> None:
     page.watch_rests()
     page.press("#pay-button")
     page.asks()
-    for words in (
-        DOUBT,
-        "M7EE: the letter M means $1,000, and the denomination here is $10,000.",
-        "R7EE: issued 05/2012, and paper was sold only until 12/2011.",
-    ):
-        assert words in page.question()
+    letter = "M7EE: the letter M means $1,000, and the denomination here is $10,000."
+    late = "R7EE: issued 05/2012, and paper was sold only until 12/2011."
+    assert all(words in page.question() for words in (DOUBT, letter, late))
     assert "L7EE" not in page.question()
     page.has_rested()
     page.press("#confirm-no")
@@ -366,6 +321,13 @@ def titles(page: Page) -> list[str]:
     return found
 
 
+def walks_in(page: Page) -> None:
+    page.go("walkin")
+    page.add_walk_in("X21EE", "10,000", "02/2011")
+    page.type("#walkin-owner", "21")
+    page.press("#walkin-button")
+
+
 def test_right_day_and_sum(bank: Bank, new_page: NewPage) -> None:
     """On a day that isn't of today's month, joining, a payment and a walk-in are asked about, and so is a sum above the bank's; else neither is."""
     bank.begin([7])
@@ -387,18 +349,12 @@ def test_right_day_and_sum(bank: Bank, new_page: NewPage) -> None:
     page.press("#pay-button")
     asked = [day, DOUBT, f"Is {dollars(L + M)} right?", f"Pay {dollars(L + M)} to customer 7?"]
     assert titles(page) == asked
-    page.go("walkin")
-    page.add_walk_in("X21EE", "10,000", "02/2011")
-    page.type("#walkin-owner", "21")
-    page.press("#walkin-button")
+    walks_in(page)
     last = f"Register 1 bond, and pay {dollars(M)} to customer 21?"
     assert titles(page) == [day, f"Is {dollars(M)} right?", last]
     bank.write_own(ask_above=10_000)
     page.reload()
-    page.go("walkin")
-    page.add_walk_in("X21EE", "10,000", "02/2011")
-    page.type("#walkin-owner", "21")
-    page.press("#walkin-button")
+    walks_in(page)
     assert titles(page) == [last], "control: of this month, and not above the sum"
 
 

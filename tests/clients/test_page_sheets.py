@@ -1,7 +1,5 @@
 """The bonds in a teller's hand, and their sheet: one field takes serial numbers, typed or scanned; the way to Pay by the keyboard; long sheets, which stop nothing; the filter; what is heard."""
 
-from __future__ import annotations
-
 import os
 from typing import Callable
 
@@ -9,6 +7,7 @@ import pytest
 
 from tests.browser.bank import DAY, TOO_YOUNG, Bank
 from tests.clients.conftest import NewPage
+from tests.clients.scripts import scripts
 
 pytest.importorskip("selenium")
 from tests.browser.browser import Keys
@@ -16,6 +15,7 @@ from tests.browser.measures import headings, scroll
 from tests.browser.page import VALUES, Page, dollars
 
 pytestmark = [pytest.mark.browser, pytest.mark.nginx]
+SCRIPTS = scripts("page_scripts.js")
 L, K, M = VALUES["L"], VALUES["K"], VALUES["M"]
 SCANNED = ("L{}EE", "l{}ee", "L {} EE", "L-{}-EE", "L{:010}EE")
 
@@ -129,9 +129,7 @@ def test_headings_seen(bank: Bank, page: Page) -> None:
     for _ in range(20):
         page.tab(back=True)
         assert not page.run(under), "what has the keyboard is under the headings"
-    page.run(
-        "document.querySelectorAll('#sheet thead').forEach((e) => { e.style.position = 'static'; })"
-    )
+    page.run("document.querySelector('#sheet thead').style.position = 'static'")
     scroll(page, 0.5)
     assert headings(page) == 0, "control: if they didn't stick"
 
@@ -140,32 +138,7 @@ def test_headings_seen(bank: Bank, page: Page) -> None:
 
 #: Nothing may stop the page longer than this, in milliseconds, on a machine whose processors have nothing else to do.
 LIMIT = 200
-#: Has the page note the longest time in which no timer of its own came.
-WATCH = """
-    window.longest = 0;
-    let last = performance.now();
-    clearInterval(window.watch);
-    window.watch = setInterval(() => {
-        const now = performance.now();
-        window.longest = Math.max(window.longest, now - last);
-        last = now;
-    }, 4);
-"""
-#: By the page's own events: the driver's way to type and to read a text stops the page itself.
-TYPE = """
-    const field = document.querySelector(arguments[0]);
-    field.value = arguments[1];
-    field.dispatchEvent(new Event("input", { bubbles: true }));
-    if (arguments[2]) field.form.requestSubmit();
-"""
 IS_WRITTEN = "return document.querySelector('table.sheet')?.ariaBusy === 'false' && document.querySelector('table.sheet').caption.textContent.includes(arguments[0])"
-#: The rows that are there, whether each knows its place among all, and how many the table says it has.
-ROWS = """
-    const table = document.querySelector("table.sheet");
-    const rows = [...table.querySelectorAll("tbody tr")];
-    const are_placed = [...table.querySelectorAll("tr")].every((row, at) => Number(row.getAttribute("aria-rowindex")) === at + 1);
-    return [rows.length, are_placed, Number(table.getAttribute("aria-rowcount"))];
-"""
 
 
 def long_sheet(text: bytes) -> bytes:
@@ -189,7 +162,7 @@ def longest_stop(page: Page, act: Callable[[], object]) -> float:
     """The longest stop of the page in milliseconds while it does `act`: the least of some tries, since other work has the machine's processors too."""
     found: list[float] = []
     while len(found) < 3 and (not found or found[-1] >= limit()):
-        page.run(WATCH)
+        page.run(SCRIPTS["watch"])
         act()
         found.append(page.run("return window.longest"))
     return min(found)
@@ -201,18 +174,18 @@ def written(page: Page, owner: int) -> None:
 
 def shows(page: Page, owner: int) -> None:
     page.run("document.getElementById('sheet').replaceChildren()")
-    page.run(TYPE, "#customer", str(owner), True)
+    page.run(SCRIPTS["type"], "#customer", str(owner), True)
     written(page, owner)
 
 
 def filters(page: Page, owner: int) -> None:
     for text in ("11/2010", "S9", "S99", ""):
-        page.run(TYPE, "#filter", text, False)
+        page.run(SCRIPTS["type"], "#filter", text, False)
         written(page, owner)
 
 
 def chooses(page: Page, owner: int) -> None:
-    page.run(TYPE, "#in-hand", "S999EE", True)
+    page.run(SCRIPTS["type"], "#in-hand", "S999EE", True)
     page.sleep(0.3)
 
 
@@ -233,22 +206,23 @@ def test_sheet_of_a_thousand(bank: Bank, page: Page) -> None:
     page.press("#in-hand")
     page.scan("S998EE")
     page.shows_sum(1, L)
-    assert page.run(ROWS) == [1000, True, 1002]
+    assert page.run(SCRIPTS["rows"]) == [1000, True, 1002]
     given = page.engine.rows()
     assert given is None or 52 <= given <= 1002, "a screen reader is given"
     assert page.box("S998EE").is_selected()
     scroll(page, 0.7)
     assert headings(page) == 6
     page.run("document.querySelector('input[data-serial=S998EE]').focus()")
-    for key, serial in (
-        (Keys.ARROW_DOWN, "S999EE"),
-        (Keys.ARROW_UP, "S998EE"),
-        (Keys.PAGE_UP, "S978EE"),
-        (Keys.HOME, "S1EE"),
-        (Keys.END, "S1000EE"),
-    ):
+    keys = {
+        Keys.ARROW_DOWN: 999,
+        Keys.ARROW_UP: 998,
+        Keys.PAGE_UP: 978,
+        Keys.HOME: 1,
+        Keys.END: 1000,
+    }
+    for key, place in keys.items():
         page.keys(key)
-        assert page.run("return document.activeElement.dataset.serial") == serial
+        assert page.run("return document.activeElement.dataset.serial") == f"S{place}EE"
     page.keys(Keys.SPACE)
     page.shows_sum(2, 2 * L)
     page.keys(Keys.ENTER)

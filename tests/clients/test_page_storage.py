@@ -1,58 +1,39 @@
 """The browser's storage, and what the page is made of: writings that fail, a database that is gone, storage that isn't kept, a browser that is too old, files that don't come."""
 
-from __future__ import annotations
-
 import pytest
 
 from tests.browser.bank import DAY, Bank
 from tests.clients.conftest import NewPage
+from tests.clients.scripts import scripts
 
 pytest.importorskip("selenium")
 from tests.browser.page import EARLIER, VALUES, Page, dollars
 
 pytestmark = [pytest.mark.browser, pytest.mark.nginx]
+SCRIPTS = scripts("page_scripts.js")
 L, K = VALUES["L"], VALUES["K"]
 
 # ---- writings that fail
 
-#: The next `count` writings of a store after `skipped` ones fail, as in a browser without room.
-FAILING = """
-    const real = window.realPut ??= IDBObjectStore.prototype.put;
-    let [skipped, count, name, store] = arguments;
-    IDBObjectStore.prototype.put = function (...given) {
-        if (this.name !== (store ?? this.name)) return real.apply(this, given);
-        if (skipped > 0) skipped -= 1;
-        else if (count > 0) {
-            count -= 1;
-            throw new DOMException("the browser's own words", name);
-        }
-        return real.apply(this, given);
-    };
-"""
-UNHANDLED = """
-    window.unhandled = [];
-    addEventListener("unhandledrejection", (event) => window.unhandled.push(String(event.reason)));
-    addEventListener("error", (event) => window.unhandled.push(event.message));
-"""
 QUOTA = "This browser has no room left for the journal of this page."
 UNWRITTEN = "This browser couldn't write the journal of this page."
 
 
 def test_storage_fails(bank: Bank, page: Page) -> None:
     """Before a sending, between two, after the reply: what the page says is true, the page goes on by itself, and the bond is paid once."""
-    page.run(UNHANDLED)
-    page.run(FAILING, 0, 1, "QuotaExceededError")
+    page.run(SCRIPTS["unhandled"])
+    page.run(SCRIPTS["failing"], 0, 1, "QuotaExceededError")
     page.sends(7, "L7EE")
     page.refuses(f"{QUOTA} Nothing was sent, and nothing was changed.")
     assert bank.gate.bodies == [] and page.text("#sum") == dollars(L)
     assert all(button.is_enabled() for button in page.all("fieldset.acts button"))
-    page.run(FAILING, 1, 5, "QuotaExceededError")
+    page.run(SCRIPTS["failing"], 1, 5, "QuotaExceededError")
     page.pay()
     page.waits_for("the request is open. It wasn't sent.", "#progress")
     assert QUOTA in page.text("#progress") and bank.gate.bodies == []
     page.is_paid(1, L)
     assert len(bank.gate.bodies) == 1 and EARLIER not in page.text("#notices")
-    page.run(FAILING, 2, 5, "UnknownError")
+    page.run(SCRIPTS["failing"], 2, 5, "UnknownError")
     page.sends(7, "K7EE")
     page.waits_for("the reply has come.", "#progress")
     assert UNWRITTEN in page.text("#progress")
@@ -61,7 +42,7 @@ def test_storage_fails(bank: Bank, page: Page) -> None:
     assert len(bank.gate.bodies) == 2 and page.journal()["last"] == 2, "and sent no more"
     page.chooses(9, "L9EE")
     bank.gate.faults = ["lost answer"]
-    page.run(FAILING, 2, 5, "QuotaExceededError")
+    page.run(SCRIPTS["failing"], 2, 5, "QuotaExceededError")
     page.pay()
     may = "Nothing may be paid out yet. The payment may have been made already."
     page.waits_for(f"the request is open. {may}", "#progress")
@@ -74,7 +55,7 @@ def test_storage_fails(bank: Bank, page: Page) -> None:
 
 def test_receipt_unstored(bank: Bank, page: Page) -> None:
     """The browser can't write the record of a payment: the page says that the reply has come, and keeps the request until the record is written."""
-    page.run(FAILING, 0, 2, "QuotaExceededError", "payments")
+    page.run(SCRIPTS["failing"], 0, 2, "QuotaExceededError", "payments")
     page.sends(7, "L7EE")
     page.waits_for("the reply has come.", "#progress")
     assert page.journal()["open"] is not None and page.receipts() == []
@@ -87,7 +68,7 @@ def test_not_done_unstored(bank: Bank, page: Page) -> None:
     """That nothing was done is shown once the request is dropped from the journal: a page that is killed before sends it again."""
     page.chooses(7, "L7EE")
     bank.gate.faults = ["forbidden"]
-    page.run(FAILING, 2, 3, "QuotaExceededError")
+    page.run(SCRIPTS["failing"], 2, 3, "QuotaExceededError")
     page.pay()
     page.waits_for("the reply has come.", "#progress")
     assert page.journal()["open"] is not None and "Nothing was done" not in page.text()
@@ -114,22 +95,10 @@ def test_no_numbers_left(bank: Bank, page: Page) -> None:
     assert bank.gate.posts() == ["/bonds"] and page.journal()["open"] is None
 
 
-CLOSING = """
-    const real = IDBDatabase.prototype.transaction;
-    IDBDatabase.prototype.transaction = function (...given) {
-        if (!window.is_closed) {
-            window.is_closed = true;
-            this.close();
-        }
-        return real.apply(this, given);
-    };
-"""
-
-
 def test_storage_closed(bank: Bank, page: Page) -> None:
     """The browser closes the journal's database while the page works: it is opened again, and the payment goes on."""
     before = page.journal()
-    page.run(CLOSING)
+    page.run(SCRIPTS["closing"])
     page.pays(1, 7, "L7EE")
     after = page.journal()
     assert page.run("return window.is_closed")
@@ -137,17 +106,9 @@ def test_storage_closed(bank: Bank, page: Page) -> None:
     assert len(bank.books().tickets()) == 1
 
 
-CHANGES = """
-    const { Journal } = await import(new URL("/teller/journal.js", location.origin));
-    const journal = await Journal.open();
-    await Promise.all([journal.change({ day: "2012-02-06" }), journal.change({ last: 5 }), journal.change({ day: "2012-02-07" })]);
-    return (await Journal.open()).record;
-"""
-
-
 def test_changes_at_once(new_page: NewPage) -> None:
     """Changes of the journal that overlap are all kept, in their order."""
-    record = new_page().run_module(CHANGES)
+    record = new_page().run_module(SCRIPTS["changes"])
     assert (record["desk"], record["day"], record["last"]) == (5, "2012-02-07", 5)
 
 
@@ -164,9 +125,7 @@ STORAGES = {
 }
 KEEPS = "StorageManager.prototype.persist = StorageManager.prototype.persisted = async () => true;"
 ASKS = "StorageManager.prototype.persisted = async () => false; StorageManager.prototype.persist = () => new Promise((resolve) => { window.allow = resolve; });"
-BLOCKED = (
-    "IDBFactory.prototype.open = function () { throw new DOMException('no', 'SecurityError'); };"
-)
+BLOCKED = "IDBFactory.prototype.open = () => { throw new DOMException('no', 'SecurityError'); };"
 OLD = '<script src="old.js"'
 
 

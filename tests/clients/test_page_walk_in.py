@@ -1,7 +1,5 @@
 """A customer who walks in with bonds that aren't registered: typed from the paper, registered and paid in one go, once, whatever happens between."""
 
-from __future__ import annotations
-
 import json
 import time
 from pathlib import Path
@@ -70,11 +68,8 @@ def test_walk_in(bank: Bank, page: Page) -> None:
     page.is_paid(1, SUM)
     assert keys + 6 < 120 and bank.gate.posts() == ["/bonds", "/redeem"]
     assert "5 bonds were registered." in page.text("#notices") and EARLIER not in page.text()
-    lines = [
-        [cell.text for cell in row.find_elements("css selector", "th, td")]
-        for row in page.all("#ticket .paper tbody tr")
-    ]
-    assert len(lines) == 5 and "C1EE" in lines[0] and "$100" in lines[0] and "11/2010" in lines[0]
+    lines = [row.text.split() for row in page.all("#ticket .paper tbody tr")]
+    assert len(lines) == 5 and {"C1EE", "$100", "11/2010"} <= {*lines[0]}
     page.go("walkin")
     assert page.text("#walkin-bonds") == "" and not page.is_shown("#pay-walkin")
     books = bank.books()
@@ -193,20 +188,14 @@ def test_walk_in_refused(bank: Bank, page: Page) -> None:
     bank.pays(9, "L9EE")
     walk_in(page, 7)
     page.press("#confirm-yes")
-    page.refuses(
-        "Bond L9EE is registered with a different denomination, issue month, owner or coowner.",
-        "No bond was registered, and nothing was paid.",
-        "SerialConflict, code 31. Nothing was changed.",
-    )
+    other = "Bond L9EE is registered with a different denomination, issue month, owner or coowner."
+    nothing = "No bond was registered, and nothing was paid."
+    page.refuses(other, nothing, "SerialConflict, code 31. Nothing was changed.")
     assert bank.gate.posts() == ["/bonds"] and len(page.all("#walkin-bonds li")) == 3
     page.press("#walkin-bonds li:nth-child(3) button")
     bank.gate.faults = ["forbidden"]
     confirm(page)
-    page.refuses(
-        "This user may not register bonds. Nothing was done.",
-        "Ask a registrar.",
-        "No bond was registered, and nothing was paid.",
-    )
+    page.refuses("This user may not register bonds. Nothing was done.", "Ask a registrar.", nothing)
     bank.gate.passes, bank.gate.faults = 1, ["forbidden"]
     confirm(page)
     two = "2 bonds were registered. None of them was paid."
@@ -233,20 +222,16 @@ def test_walk_in_offered(bank: Bank, new_page: NewPage, pictures: Path | None) -
     """A walk-in is offered to a user of both groups that it takes, and to all if the proxy doesn't tell the groups. nginx still decides."""
     bank.begin([7])
     page = new_page()
-    for groups in (
-        *("teller supervisor registrar", "teller supervisor office", "registrar", ""),
-        "registrar teller",
-    ):
+    some = ("teller supervisor registrar", "teller supervisor office", "registrar", "")
+    for groups in (*some, "registrar teller"):
         bank.nginx.regroup(USER, groups)
         page.reload()
         # Once the page knows the groups, by the order of the day's buttons.
         first = [["Open the day" if "supervisor" in groups else "Join the day", True]]
         offers = {"teller", "registrar"} <= set(groups.split())
-        page.until(
-            lambda: page.run(DAY_BUTTONS)[:1] == first
-            and page.is_shown("nav a[href='#walkin']") == offers,
-            f"{groups or 'no group'}: a walk-in is offered, or isn't",
-        )
+        page.until(lambda: page.run(DAY_BUTTONS)[:1] == first, f"{groups}: the page knows them")
+        link = "nav a[href='#walkin']"
+        page.until(lambda: page.is_shown(link) == offers, f"{groups}: it is offered, or isn't")
     page.joins()
     type_two(page, 7)
     bank.nginx.regroup(USER, "teller")
@@ -289,9 +274,8 @@ def test_walk_in_typed(bank: Bank, page: Page) -> None:
     for serial, issued, words in NOT_HERE:
         page.type_walk_in(serial, "100", issued)
         assert words in page.text("#add-walkin") and "FS Form 1522" in page.text("#add-walkin")
-    assert "POD is a beneficiary: leave it empty" in str(
-        page.find("#walkin-customer-help").get_attribute("textContent")
-    )
+    said = page.find("#walkin-customer-help").get_attribute("textContent")
+    assert "POD is a beneficiary: leave it empty" in str(said)
     type_two(page, 7)
     page.type_walk_in("C7EE", "100", "11/2010")
     page.waits_for("Bond C7EE is already in the list.", "#notices")
@@ -316,10 +300,8 @@ def test_walk_in_typed(bank: Bank, page: Page) -> None:
     page.press("#confirm-yes")
     page.is_paid(1, TWO)
     assert "customer 8" in page.text("#ticket dl")
-    assert json.loads(bank.gate.bodies[0])["bonds"] == [
-        bond("C7EE", 100, "2010-11", 7, coowner=8),
-        bond("D7EE", 500, "2010-11", 7, coowner=8),
-    ]
+    wanted = [bond(s, d, "2010-11", 7, coowner=8) for s, d in (("C7EE", 100), ("D7EE", 500))]
+    assert json.loads(bank.gate.bodies[0])["bonds"] == wanted
     page.closes()
     page.go("walkin")
     assert page.is_shown("#walkin-no-day") and not page.is_shown("#add-walkin")

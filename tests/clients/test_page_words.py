@@ -1,49 +1,20 @@
 """The page's words: all in one file, over which the bank's own lie; and dates as an American bank writes them."""
 
-from __future__ import annotations
-
 import re
+import shutil
+from pathlib import Path
 
 import pytest
 
 from tests.browser.bank import DAY, TOO_YOUNG, Bank
 from tests.clients.conftest import NewPage
+from tests.clients.scripts import scripts
 
 pytest.importorskip("selenium")
 from tests.browser.page import Page
 
 pytestmark = [pytest.mark.browser, pytest.mark.nginx]
-#: A bank's file that says each word of words.js otherwise: in brackets. Functions, lists and tables of texts too. The name of a code isn't a word.
-OTHER_LANGUAGE = """
-import { OURS } from "./words_first.js";
-const wrap = (value) => {
-    if (typeof value === "string") return `\\u27e6${value}\\u27e7`;
-    if (typeof value === "function") return (...given) => wrap(value(...given));
-    if (Array.isArray(value)) return value.map(wrap);
-    if (value !== null && typeof value === "object") return Object.fromEntries(Object.entries(value).map(([name, one]) => [name, wrap(one)]));
-    return value;
-};
-export const BANK = "First Bank of Testing";
-export const BRANCHES = [{ name: "Main Street", from: 1, to: 9 }];
-export const WORDS = { ...wrap(OURS), FORMATS: { ...wrap(OURS.FORMATS), language: "xx" } };
-for (const kind of ["REFUSALS", "FAULTS", "UNSERVED"]) {
-    for (const [code, [name]] of Object.entries(OURS[kind])) WORDS[kind][code][0] = name;
-}
-"""
-LOOSE = """
-    const loose = [];
-    const walk = document.createTreeWalker(document.body, NodeFilter.SHOW_TEXT);
-    while (walk.nextNode()) {
-        const at = walk.currentNode.parentElement;
-        if (at.closest("noscript, #starting, #too-old, #unreadable, #incomplete") === null) loose.push(walk.currentNode.data);
-    }
-    const labels = [...document.querySelectorAll("[aria-label]")].map((e) => e.getAttribute("aria-label"));
-    return [...loose, ...labels, document.title];
-"""
-UNKNOWN = """
-    const { unknownWords } = await import(new URL("/teller/words.js", location.origin));
-    return unknownWords();
-"""
+SCRIPTS = scripts("page_scripts.js")
 #: What stands outside of brackets and is no word: serial numbers, badges, the user, the bank, log entries.
 NO_WORDS = r"\b(?:[A-Z]\d+EE|P5|NE|NI|MA|nora|First Bank of Testing|Main Street|[0-9a-f]{32})\b"
 
@@ -59,12 +30,9 @@ def test_words_in_one_file(bank: Bank, new_page: NewPage) -> None:
     """With each word of words.js in brackets, by bank.js alone, no word of the page stands outside of them."""
     first = (bank.teller / "words.js").read_text()
     (bank.teller / "words_first.js").write_text(first)
-    bank.change_page(
-        "words_first.js",
-        ('import * as bank from "./bank.js";', "const bank = {};"),
-        ("const OURS = ", "export const OURS = "),
-    )
-    (bank.teller / "bank.js").write_text(OTHER_LANGUAGE)
+    alone = ('import * as bank from "./bank.js";', "const bank = {};")
+    bank.change_page("words_first.js", alone, ("const OURS = ", "export const OURS = "))
+    shutil.copy(Path(__file__).parent / "other_language.js", bank.teller / "bank.js")
     bank.begin([7, 9])
     bank.registers(TOO_YOUNG)
     page = new_page(None)
@@ -73,7 +41,7 @@ def test_words_in_one_file(bank: Bank, new_page: NewPage) -> None:
     press = page.press
 
     def looks_and_presses(selector: str) -> None:
-        found.extend(page.run(LOOSE))
+        found.extend(page.run(SCRIPTS["loose"]))
         press(selector)
 
     setattr(page, "press", looks_and_presses)
@@ -87,7 +55,7 @@ def test_words_in_one_file(bank: Bank, new_page: NewPage) -> None:
     bank.gate.faults = ["lost request"] * 3
     page.press("#confirm-yes")
     page.waits_for("no reply yet", "#progress")
-    found += page.run(LOOSE)
+    found += page.run(SCRIPTS["loose"])
     page.waits_for("neither the owner", "#notices")
     page.go("walkin")
     page.type_walk_in("D12EE", "50", "11/2010")
@@ -111,10 +79,10 @@ def test_words_in_one_file(bank: Bank, new_page: NewPage) -> None:
     page.type("#interest-day", DAY)
     page.press("#ask-interest-day button")
     page.until(lambda: page.all("#interest-of table") != [], "the interest of the day")
-    found += page.run(LOOSE)
+    found += page.run(SCRIPTS["loose"])
     assert sorted({text.strip() for text in found if outside(text)}) == [] and len(found) > 300
     assert page.run("return document.documentElement.lang") == "xx"
-    assert page.run_module(UNKNOWN) == [], "the page knows each of the bank's words"
+    assert page.run_module(SCRIPTS["unknown"]) == [], "the page knows each of the bank's words"
 
 
 def test_a_loose_word_is_found() -> None:
@@ -130,18 +98,17 @@ def test_words_of_bank(bank: Bank, new_page: NewPage) -> None:
     page = new_page()
     assert page.text(".name") == "Bond window"
     assert page.text("nav a[href='#pay']") == "Pay", "the page's own beside it"
-    named = page.run_module(UNKNOWN)
-    assert sorted(named) == sorted(
-        ["WORDS.TEXTS.pays", "WORDS.PAY.paid", "WORDS.FORMATS.months", "WORDS.SHEET.notes.XX"]
-        + ["WORDS.OTHER", "WORDS.NOTICES"]
-    )
+    named = page.run_module(SCRIPTS["unknown"])
+    wanted = "TEXTS.pays PAY.paid FORMATS.months SHEET.notes.XX OTHER NOTICES".split()
+    assert sorted(named) == sorted(f"WORDS.{name}" for name in wanted)
     if page.name == "chromium":
         told = page.complaints()
         assert all(any(name in line for line in told) for name in named), "in the console too"
     bank.write_own(None)
     page.reload()
     page.waits_for("Desk 5,", "#state")
-    assert page.text(".name") == "Savings bond counter" and page.run_module(UNKNOWN) == []
+    assert page.text(".name") == "Savings bond counter"
+    assert page.run_module(SCRIPTS["unknown"]) == []
 
 
 MONTHS = "January|February|March|April|May|June|July|August|September|October|November|December"

@@ -1,7 +1,5 @@
 """A call of the Python client ends: limits before the journal, a wrong set-up at once, the patience as a deadline, each fault of the way, and requests that are given up."""
 
-from __future__ import annotations
-
 import json
 import os
 import random

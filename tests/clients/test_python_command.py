@@ -1,12 +1,13 @@
 """The Python client's command and its fake counter: help, statuses, a day through nginx with a certificate, and the program's bytes."""
 
-from __future__ import annotations
-
 import http.client
 import json
 import re
+import shlex
+import sys
+import tomllib
 from pathlib import Path
-from typing import Any, ContextManager, Iterator
+from typing import Any, Callable, ContextManager, Iterator
 from unittest import mock
 
 import pytest
@@ -16,10 +17,12 @@ import ee_counter_client.errors as errors
 from ee_counter_client.command import ACTS, LOOK_UPS, second_of
 from ee_counter_client.testing import FakeCounter, Gate, fake as fake_module
 from tests.clients.calculator_data import INVENTORY, SHIPPED, Store
-from tests.clients.desk import DAY, Desk, TrueCounter, bonds_csv, command, controls, holds_not
+from tests.clients.desk import DAY, Desk, TrueCounter, bonds_csv, command, controls, holds_not, ran
 from tests.conftest import TOP
+from tests.fence.conftest import Counter, MakeSite, counter, site
 from tests.fence.site import Site
 
+__all__ = ["counter", "site"]
 Part = ContextManager[object] | None
 
 
@@ -59,10 +62,9 @@ def test_statuses(desk: Desk) -> None:
     own = ("--journal", desk.journal, "--desk", "3", *at)
     refused = '{"code":43,"refused":"DayIsOther"}\n'
     found = command(*own, "redeem", "2012-02-07", "7", "L1EE")
-    told = (
-        "name the day that is open; nothing was changed, and a corrected request gets a new number"
-    )
-    assert found == (1, refused, f"refused: DayIsOther (code 43)\n{told}\n")
+    then = "nothing was changed, and a corrected request gets a new number"
+    told = f"refused: DayIsOther (code 43)\nname the day that is open; {then}\n"
+    assert found == (1, refused, told)
     desk.gate.faults = ["forbidden"]
     told = "this user may not do this (/day/close); nothing was done\n"
     assert command(*own, "close", DAY) == (1, "", told)
@@ -82,51 +84,13 @@ def test_each_refusal_has_a_second_line() -> None:
     assert second_of(unknown) == "nothing was changed, and a corrected request gets a new number"
 
 
+WRONG: dict[str, Any] = tomllib.loads((TOP / "tests/clients/wrong_files.toml").read_text())
 HEAD = "serial,denom,issued,owner,coowner\n"
-NOT_PAID = "this counter can't pay such a bond; send it to Treasury with FS Form 1522"
-OTHER_HEAD = "row 1: the header isn't serial,denom,issued,owner,coowner"
-AS_CSV = "save it as CSV, in UTF-8 and with commas"
 #: Files that are no inventory, and paper that isn't paid here: what they have, and what is said.
-WRONG_FILES: list[tuple[bytes, str]] = [
-    (b"", OTHER_HEAD),
-    (HEAD.replace(",", ";").encode(), f"{OTHER_HEAD}: its fields are separated by semicolons"),
-    (HEAD.replace(",", "\t").encode(), f"{OTHER_HEAD}: its fields are separated by tabs"),
-    (
-        HEAD.encode() + b"L1EE;50;2010-11;7;\n",
-        "row 2: it has 1 fields, and not 5: its fields are separated by semicolons",
-    ),
-    (
-        HEAD.encode() + b"L1EE\t50\t2010-11\t7\t\n",
-        "row 2: it has 1 fields, and not 5: its fields are separated by tabs",
-    ),
-    (HEAD.encode() + b"L1EE,50,2010-11\n", "row 2: it has 3 fields, and not 5"),
-    *(
-        (HEAD.encode(code), f"row 1: it is UTF-16: {AS_CSV}")
-        for code in ("utf-16", "utf-16-le", "utf-16-be")
-    ),
-    (b"PK\x03\x04", f"row 1: it is a zip, or a workbook as .xlsx and .ods: {AS_CSV}"),
-    (b"\xd0\xcf\x11\xe0", f"row 1: it is a workbook as .xls: {AS_CSV}"),
-    (b"\x1f\x8b\x08", f"row 1: it is compressed by gzip: {AS_CSV}"),
-    (b"%PDF-1.7", f"row 1: it is a PDF: {AS_CSV}"),
-    (b"SQLite format 3\0", f"row 1: it is a database: {AS_CSV}"),
-    (b"<!DOCTYPE html>", f"row 1: it is HTML or XML: {AS_CSV}"),
-    *(
-        (
-            f"{HEAD}{serial},50,2010-11,7,\n".encode(),
-            f"row 2: {serial!r} is of another series than EE: {NOT_PAID}",
-        )
-        for serial in ("L1E", "L-123-I", "M1HH", "M1234567890H")
-    ),
-    (HEAD.encode() + b"L0,50,2010-11,7,\n", "row 2: 'L0EE' is no serial number, as C12EE"),
-    *(
-        (f"{HEAD}L1EE,50,{month},7,\n".encode(), f"row 2: {month!r} is before May 2005: {NOT_PAID}")
-        for month in ("2005-04", "2004-11", "04/2005", "1980-01", "1941-05")
-    ),
-    (
-        HEAD.encode() + b"L1EE,50,2005-13,7,\n",
-        "row 2: '2005-13' is no month from 2005-05 to 2099-12",
-    ),
-]
+WRONG_FILES = [(text.encode("latin-1"), said) for text, said in WRONG["file"].items()]
+WRONG_FILES += [((HEAD + row).encode(), said) for row, said in WRONG["row"].items()]
+UTF_16 = "row 1: it is UTF-16: save it as CSV, in UTF-8 and with commas"
+WRONG_FILES += [(HEAD.encode(code), UTF_16) for code in ("utf-16", "utf-16-le", "utf-16-be")]
 
 
 @pytest.mark.parametrize("content, said", WRONG_FILES, ids=[said for _, said in WRONG_FILES])
@@ -277,12 +241,12 @@ def answer(port: int, message: Message) -> tuple[int, str | None, str]:
     return found
 
 
-@controls(
-    a_cent_more=mock.patch.object(
-        fake_module, "printed", lambda cents: f"{(cents + 1) // 100}.{(cents + 1) % 100:02}"
-    ),
-    another_order_of_refusals=mock.patch.object(fake_module, "first_twice", lambda serials: None),
-)
+TRUE = fake_module.printed
+MORE = mock.patch.object(fake_module, "printed", lambda cents: TRUE(cents + 1))
+ORDERLESS = mock.patch.object(fake_module, "first_twice", lambda serials: None)
+
+
+@controls(a_cent_more=MORE, another_order_of_refusals=ORDERLESS)
 def test_fake_counter(true: TrueCounter, part: Part) -> None:
     """The fake counter and the program give the same bytes; each refusal has its class, with what it names."""
     codes = set()
@@ -324,3 +288,112 @@ def test_values_and_refusals_of_a_test(desk: Desk) -> None:
         assert fake.values["L1EE"] == 2516
     with pytest.raises(client.BadValue):
         FakeCounter(values={"L1EE": "25"})
+
+
+# ---- names that a user guesses
+
+#: What takes the seconds of a call.
+TIMED: dict[str, Callable[..., Any]] = {
+    "Counter": lambda folder, **more: client.Counter(folder / "a.journal", desk=3, **more),
+    "Lookups": lambda folder, **more: client.Lookups(**more),
+    "Pool": lambda folder, **more: client.Pool(folder, desks=[3], **more),
+}
+
+
+@pytest.mark.parametrize("name", TIMED)
+def test_timeout_and_its_earlier_name(folder: Path, name: str) -> None:
+    given: list[tuple[dict[str, Any], float]] = [({}, 300.0)]
+    for more, seconds in [*given, ({"timeout": 5}, 5.0), ({"patience": 6}, 6.0)]:
+        made = TIMED[name](folder, **more)
+        found = made._patience if name == "Pool" else made.patience
+        assert found == seconds
+        if name != "Lookups":
+            made.close()
+    with pytest.raises(client.BadValue, match="two names"):
+        TIMED[name](folder, timeout=5, patience=6)
+    for wrong in (-1, "5", float("nan")):
+        with pytest.raises(client.BadValue):
+            TIMED[name](folder, timeout=wrong)
+
+
+@pytest.mark.nginx
+def test_errors_name_the_log_entry(site: MakeSite, counter: Counter, folder: Path) -> None:
+    """A refusal, a request of another group, and an answer of nginx alone: each error has the entry of nginx's log."""
+    front = site()
+
+    def desk(user: str) -> client.Counter:
+        certificate = front.staff.certificate(user)
+        ca, journal = front.folder / "certificate.pem", folder / f"{user}.journal"
+        address = f"https://{front.name}:{front.port}"
+        more = {"certificate": certificate, "ca": ca, "timeout": 2}
+        return client.Counter(journal, address, desk=len(user), **more)  # type: ignore[arg-type]
+
+    with desk("anna") as anna:
+        with pytest.raises(client.NoOpenDay) as refused:
+            anna.redeem("2012-02-06", 7, ["L1EE"])
+        with pytest.raises(client.Forbidden) as forbidden:
+            anna.open_day("2012-02-06", even_so=True)
+        counter.end()
+        with pytest.raises(client.NoReply) as unanswered:
+            anna.redeem("2012-02-06", 7, ["L1EE"])
+    entries = [row["entry"] for row in front.log()]
+    found = [one.value.request_id for one in (refused, forbidden, unanswered)]
+    assert None not in found and len(set(found)) == 3
+    assert set(found) <= set(entries)
+    assert found[:2] == entries[:2]
+
+
+def test_errors_without_a_proxy_name_no_entry(folder: Path) -> None:
+    with FakeCounter() as fake, client.Counter(folder / "a", fake.address, desk=3) as desk:
+        with pytest.raises(client.NoOpenDay) as refusal:
+            desk.redeem("2012-02-06", 7, ["L1EE"])
+    assert refusal.value.request_id is None
+
+
+def in_shell(desk: Desk, *words: str) -> tuple[int, str, str]:
+    """The command as it is installed, beside the samples."""
+    return ran(sys.executable, TOP / "packaging/client/counter-client", *words, cwd=desk.place)
+
+
+def examples(desk: Desk, *words: str) -> list[list[str]]:
+    """The words of the examples in a help."""
+    text = in_shell(desk, *words, "--help")[1].partition("example:\n")[2].partition("\n\n")[0]
+    found = [shlex.split(line) for line in text.splitlines()]
+    assert found and all(line[0] == "counter-client" for line in found), text
+    return [["--at", desk.gate.address, "--timeout", "5", *line[1:]] for line in found]
+
+
+@pytest.fixture
+def shell(folder: Path) -> Iterator[Desk]:
+    """A desk at an empty counter, in whose folder the samples are."""
+    (folder / "samples").symlink_to(TOP / "samples")
+    with FakeCounter() as fake, Gate(fake) as gate:
+        yield Desk(folder, fake, gate, is_empty=True)
+
+
+#: The commands in the order of a day. Two need an open request.
+ORDER = ["rates", "register", "open", "sheet", "value", "redeem", "ticket", "finish", "close"]
+ORDER += ["batch", "interest-ticket", "interest-day", "settlement", "interest-payee", "abandon"]
+
+
+def test_examples_end_with_0(shell: Desk) -> None:
+    """Each example of each help, one after the other, from an empty counter on."""
+    assert sorted(ORDER) == sorted(name for name, *_ in COMMANDS)
+    lines = [("the command", line) for line in examples(shell)]
+    lines += [(name, line) for name in ORDER for line in examples(shell, name)]
+    for name, line in lines:
+        if name in ("finish", "abandon"):
+            shell.gate.faults = ["lost request"] * 99
+            more = ["--journal", "desk3.journal", "--timeout", "0.2"]
+            left = ["--at", shell.gate.address, *more, "redeem", "2012-02-06", "7", "X3EE"]
+            assert in_shell(shell, *left)[0] == 3
+            shell.gate.faults = []
+        done = in_shell(shell, *line)
+        assert done[0] == 0, (line, done)
+
+
+def test_an_example_of_a_day_that_is_over_is_found(shell: Desk) -> None:
+    """Control: the example without --even-so ends with 2."""
+    (line,) = examples(shell, "open")
+    line.remove("--even-so")
+    assert in_shell(shell, "--desk", "3", *line)[0] == 2

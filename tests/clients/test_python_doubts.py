@@ -1,7 +1,5 @@
 """Implausible values, which the counter would take, are questioned before they are sent: letters, issue months, and days to open."""
 
-from __future__ import annotations
-
 import contextlib
 import datetime
 import json

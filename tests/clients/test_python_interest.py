@@ -1,12 +1,11 @@
 """The interest of paid bonds as CSV: over the program, beside arithmetic of the tests' own, and with each thing missing in turn."""
 
-from __future__ import annotations
-
 import csv
 import datetime
 import hashlib
 import itertools
 import json
+import re
 from decimal import Decimal
 from pathlib import Path
 from typing import Any, Callable, ContextManager, Iterable, Iterator
@@ -114,12 +113,8 @@ def same(found: client.Interest, is_wanted: Callable[[str, int, int], bool]) -> 
     assert found.price + found.interest == found.value and found.missing == ()
 
 
-SPANS = [
-    *(("2012-01-01", "2012-12-31"), ("2012-02-06", "2013-01-02"), ("2013-01-01", "2026-11-26")),
-    *(("2012-02-07", "2012-12-30"), ("2005-05-01", "2012-02-05")),
-]
-
-
+SPANS = [("2012-01-01", "2012-12-31"), ("2012-02-06", "2013-01-02"), ("2013-01-01", "2026-11-26")]
+SPANS += [("2012-02-07", "2012-12-30"), ("2005-05-01", "2012-02-05")]
 FIRST = mock.patch.object(interest_module, "Month", lambda year, month: client.Month(year, 1))
 SECOND = mock.patch.object(interest_module.Question, "first_of", lambda question, day: 2)
 
@@ -167,9 +162,14 @@ def test_command(books: Books) -> None:
     wanted: dict[tuple[object, ...], Callable[[str, int, int], bool]] = {
         ("ticket", "4", books.whole): lambda day, ticket, payee: ticket == 4,
         ("day", "2013-01-02", books.archive): lambda day, ticket, payee: day == "2013-01-02",
-        ("payee", "7", "2012-01-01", "2013-12-31", books.half, books.archive): (
-            lambda day, ticket, payee: payee == 7 and day < "2014"
-        ),
+        (
+            "payee",
+            "7",
+            "2012-01-01",
+            "2013-12-31",
+            books.half,
+            books.archive,
+        ): lambda day, _, payee: (payee == 7 and day < "2014"),
     }
     for (kind, *words), is_wanted in wanted.items():
         assert command(*at, f"interest-{kind}", *words) == (0, expected(is_wanted)[0], "")
@@ -178,21 +178,54 @@ def test_command(books: Books) -> None:
     whole = expected(lambda day, ticket, payee: ticket == 4)[0].splitlines()
     assert out.splitlines()[:2] == whole[:2]
     assert out.splitlines()[2] == f"2013-01-02,4,7,X1EE,,,,,{whole[2].split(',')[-1]}"
-    for kind, word, text in (
-        ("ticket", "99", "there is no ticket 99"),
-        ("day", "2012-02-08", "2012-02-08 isn't closed"),
-        ("day", OPEN, f"{OPEN} isn't closed"),
-    ):
+    lacks = [("day", day, f"{day} isn't closed") for day in ("2012-02-08", OPEN)]
+    for kind, word, text in [("ticket", "99", "there is no ticket 99"), *lacks]:
         status, out, told = command(*at, f"interest-{kind}", word, books.whole)
         assert status == 1 and told.startswith(f"missing: {text}") and out.startswith(HEADER)
-    for line in (
-        ("interest-ticket", "4"),
-        ("interest-ticket", "0", books.whole),
-        ("interest-ticket", "4", books.place / "none.csv"),
-        ("interest-payee", "7", "2013-01-01", "2012-01-01", books.whole),
-        ("interest-day", "2012-02-30", books.whole),
+    for what, *more in (
+        *(("ticket", "4"), ("ticket", "0", books.whole), ("ticket", "4", books.place / "none.csv")),
+        ("payee", "7", "2013-01-01", "2012-01-01", books.whole),
+        ("day", "2012-02-30", books.whole),
     ):
-        assert command(*at, *line)[:2] == (2, ""), line
+        assert command(*at, f"interest-{what}", *more)[:2] == (2, ""), more
+
+
+def settles(books: Books, day: str, *sources: Path) -> tuple[int, str, str]:
+    words = ("settlement", "--page", books.place / "page.html", day, *sources)
+    return command("--at", books.true.address, *words)
+
+
+def test_settlement(books: Books) -> None:
+    """The bonds of a closed day for the cash letter. The store's archive has those that no inventory has; without it they are named, and what was paid is there all the same."""
+    books.archive_store()
+    whole, (*_, value) = expected(lambda on, *_: on == "2013-01-02")
+    said = f"The batch has 3 tickets, 4 bonds, ${value:,}\n"
+    assert settles(books, "2013-01-02", books.of_store) == (0, whole, said)
+    page = (books.place / "page.html").read_text()
+    assert "4 bonds" in page and page.count("<tr>") == 6 and "Not whole" not in page
+    rows = [line.split(",") for line in whole.splitlines(keepends=True)]
+    for row in rows:
+        row[4:8] = [""] * 4 if row[3] in ("X1EE", "M1EE") else row[4:8]
+    status, out, told = settles(books, "2013-01-02", books.half)
+    assert (status, out) == (1, "".join(map(",".join, rows)))
+    assert "missing: X1EE, on ticket 4, is in none of the files" in told
+    assert "Not whole" in (books.place / "page.html").read_text()
+    other = books.place / "other.csv"
+    other.write_text(books.whole.read_text().replace("C1EE,100,", "C1EE,50,"))
+    status, _, told = settles(books, "2013-01-02", other)
+    assert status == 1 and f"C1EE, on ticket 4: {rows[1][8].strip()} was paid" in told
+    status, _, told = settles(books, OPEN, books.of_store)
+    assert status == 1 and f"{OPEN} isn't closed" in told
+
+
+@pytest.mark.browser
+def test_settlement_prints(books: Books) -> None:
+    """One sheet of paper, with its heads."""
+    settles(books, "2013-01-02", books.whole)
+    paper = books.place / "page.pdf"
+    words = ["--headless", "--no-sandbox", "--disable-gpu", f"--print-to-pdf={paper}"]
+    assert ran("chromium", *words, books.place / "page.html", env=None)[0] == 0
+    assert len(re.findall(rb"/Type\s*/Page\b", paper.read_bytes())) == 1
 
 
 class FakeBooks:
@@ -279,11 +312,10 @@ def test_full_disk(fake_books: FakeBooks, folder: Path, bond: str) -> None:
     assert command(*words)[0] == (0 if bond else 1), "control: with room"
 
 
-@controls(
-    chain_is_not_looked_at=mock.patch.object(
-        hashlib, "sha256", lambda line: mock.Mock(hexdigest=lambda: mock.ANY)
-    )
-)
+ANY_SUM = mock.patch.object(hashlib, "sha256", lambda line: mock.Mock(hexdigest=lambda: mock.ANY))
+
+
+@controls(chain_is_not_looked_at=ANY_SUM)
 def test_sources(desk: Desk, part: Part) -> None:
     """Inventories and archives: what is refused, and what isn't taken."""
     two = [client.Bond("L1EE", 50, "2010-11", 7), client.Bond("K1EE", 75, "10/2010", 7, 8)]
@@ -292,9 +324,7 @@ def test_sources(desk: Desk, part: Part) -> None:
         with desk.counter(archive=archive) as counter:
             counter.add_bonds(two)
             with pytest.raises(client.SerialConflict):
-                counter.add_bonds(
-                    [client.Bond("L1EE", 50, "2010-10", 7), client.Bond("L9EE", 50, "2010-11", 7)]
-                )
+                counter.add_bonds([client.Bond(s, 50, "2010-10", 7) for s in ("L1EE", "L9EE")])
             counter.patience, desk.gate.faults = 0.3, ["lost request"] * 9
             with pytest.raises(client.NoReply):
                 counter.add_bonds([client.Bond("L8EE", 50, "2010-11", 7)])

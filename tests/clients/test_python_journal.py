@@ -1,7 +1,5 @@
 """Journals, keys and desks of the Python client: threads, processes, paths, files that are damaged or fail, and Ctrl-C at any moment."""
 
-from __future__ import annotations
-
 import contextlib
 import errno
 import hashlib
@@ -29,26 +27,11 @@ from tests.clients.interruptions import Failing, Interrupt, moments_of
 Part = ContextManager[object] | None
 
 
-class NoLock:
-    """A lock that keeps nobody out."""
-
-    def acquire(self, timeout: float = -1) -> bool:
-        return True
-
-    def release(self) -> None:
-        pass
-
-    __enter__ = acquire
-
-    def __exit__(self, *_: object) -> None:
-        pass
+#: Locks that keep nobody out.
+LOCKLESS = types.SimpleNamespace(RLock=mock.MagicMock)
 
 
-@controls(
-    without_its_lock=mock.patch.object(
-        counter_module, "threading", types.SimpleNamespace(RLock=NoLock)
-    )
-)
+@controls(without_its_lock=mock.patch.object(counter_module, "threading", LOCKLESS))
 def test_threads(desk: Desk, part: Part) -> None:
     """Threads that share a Counter wait for one another: each request is done once, one at a time, and each thread gets its own ticket."""
     serials = [f"A{number}EE" for number in range(1, 31)]
@@ -192,11 +175,10 @@ def test_earlier_journal(desk: Desk) -> None:
         assert ticket.request and ticket.request.sent == 2 and counter.bookmark == 4
 
 
-@controls(
-    without_its_file=mock.patch.object(
-        Keys, "read", lambda keys, keyed: setattr(keys, "size", keyed)
-    )
-)
+FILELESS = mock.patch.object(Keys, "read", lambda keys, keyed: setattr(keys, "size", keyed))
+
+
+@controls(without_its_file=FILELESS)
 def test_keys(desk: Desk, part: Part) -> None:
     """The same call with the same key has the same reply, in the same run and in a later one, and sends nothing."""
     with desk.counter() as counter:

@@ -1,7 +1,5 @@
 """The Python client over the program, with real kills: of a pool, of the documented program at its calls, of a registration, and of client and counter at random."""
 
-from __future__ import annotations
-
 import collections
 import contextlib
 import datetime
@@ -23,10 +21,13 @@ from ee_counter_client.archive import Archive
 from ee_counter_client.testing import AFTER, BEFORE, Gate
 from tests.clients.desk import DAY, OWN, TrueCounter, ran
 from tests.clients.interruptions import Failing, Interrupt
-from tests.clients.worker import BONDS, act_at, is_expected, kept_act
+from tests.clients.worker import act_at
 from tests.conftest import TOP
+from tests.shared.hostile import commands, desk, store, talk
+from tests.shared.hostile import counter as rules
 
 STOPPED = (errno.EIO, errno.ENOSPC)
+RATES = TOP / "crates/published_values/data/rates.csv"
 
 
 @pytest.fixture
@@ -38,7 +39,7 @@ def gate(true: TrueCounter) -> Iterator[Gate]:
 def begin(address: str, place: Path, bonds: int = 0) -> None:
     """By desk 1: the rates, bonds A1EE, A2EE .. of customer 7, and an open day if there are any."""
     with client.Counter(place / "other.journal", address, desk=1) as counter:
-        counter.add_rates(client.rates_in(TOP / "crates/published_values/data/rates.csv"))
+        counter.add_rates(client.rates_in(RATES))
         rows = [client.Bond(f"A{n}EE", 50, "2010-11", 7) for n in range(1, bonds + 1)]
         if rows:
             counter.add_bonds(rows, even_so=True)
@@ -222,10 +223,9 @@ def test_killed_pool(true: TrueCounter, gate: Gate, folder: Path, dice: random.R
     gate.faults = []
     status, out, told = ran(*line)
     lines = [text.split() for text in out.splitlines()]
-    assert status == 0 and [serial for _, serial in lines] == [
-        f"A{n}EE" for n in range(1, count + 1)
-    ]
-    assert sorted(int(number) for number, _ in lines) == list(range(1, count + 1)), told
+    jobs = range(1, count + 1)
+    assert status == 0 and [serial for _, serial in lines] == [f"A{n}EE" for n in jobs]
+    assert sorted(int(number) for number, _ in lines) == list(jobs), told
     assert kills >= 6, "kills that came while it worked"
     with client.Counter(folder / "other.journal", true.address) as counter:
         batch = counter.close_day(DAY)
@@ -264,13 +264,16 @@ def test_random_kills(
     for place, reply in map(json.loads, (folder / "replies").read_text().splitlines()):
         assert given.setdefault(place, reply) == reply
     assert sorted(given) == list(range(len(given))) and len(given) > kills
-    kept = rows_of(true, "SELECT act, reply FROM answers WHERE desk = 3 ORDER BY number")
-    assert [act for act, _ in kept] == [kept_act(place) for place in range(len(given))]
+    books = desk.Books()
+    books.deliver((1, 1), ("rates", commands.rates_rows(RATES.read_bytes())))
+    for place in range(len(given)):
+        path, fields = act_at(place)
+        body = desk.compact({"desk": 3, "number": place + 1, **fields})
+        rules.connection(books, talk.message(f"POST {path} {body}"))
+    wanted = desk.rows_of(books)
+    kept = [row[2:] for row in wanted["answers"] if row[0] == 3]
     assert [json.loads(reply) for _, reply in kept] == [given[place] for place in sorted(given)]
-    assert [place for place, reply in given.items() if not is_expected(place, reply)] == []
-    for bonds, distinct in rows_of(
-        true, "SELECT count(*), count(DISTINCT letter || number) FROM paid"
-    ):
-        assert bonds == distinct
-    days = sum(act_at(place)[0] == "/bonds" for place in given)
-    assert rows_of(true, "SELECT count(*) FROM bonds") == [(BONDS * days,)]
+    answers = "SELECT act, reply FROM answers WHERE desk = 3 ORDER BY number"
+    assert rows_of(true, answers) == kept
+    for table in ("bonds", "tickets", "paid"):
+        assert rows_of(true, store.ORDERS[table]) == wanted[table]

@@ -1,7 +1,5 @@
 """The package of the Python client: built offline, the same bytes twice; the programs of docs/PYTHON_CLIENT.md as written in a new venv without a network; and its types."""
 
-from __future__ import annotations
-
 import os
 import re
 import shutil
@@ -15,6 +13,7 @@ import pytest
 
 from tests.clients.desk import ran
 from tests.conftest import TOP
+from tests.shared.counter_calls import end, serve
 
 SOURCE = TOP / "clients/python"
 DOCUMENT = (TOP / "docs/PYTHON_CLIENT.md").read_text()
@@ -92,9 +91,7 @@ class Venv:
             words = ("import", what, file, "--db", store, "--number", number)
             status, _, told = self.run(program, *words)
             assert status == 0, told
-        serve = [*self.inside, str(program), "serve", "--db", str(store), "--port", "8377"]
-        self.server = subprocess.Popen(serve, stdout=subprocess.DEVNULL)
-        time.sleep(2)
+        self.server = serve(program, store, 8377, before=self.inside)
         pip = (self.python, "-m", "pip", "install", "--quiet", "--no-index", wheel)
         status, _, told = self.run(*pip)
         assert status == 0, told
@@ -103,9 +100,8 @@ class Venv:
         return ran(*self.inside, *words, cwd=self.place, env={**PLAIN, **env})
 
     def end(self) -> None:
-        for process in (self.server, self.holder):
-            process.kill()
-            process.wait()
+        end(self.server)
+        end(self.holder)
 
 
 @pytest.fixture
@@ -182,20 +178,9 @@ async def pay(counter: AsyncCounter) -> int:
 
 
 USES = [("", ""), ("total: Decimal", "total: float"), ("refusal.ticket", "refusal.tickets")]
-USES += [
-    ("certificate=", "certificat="),
-    ("patience=60", 'patience="60"'),
-    ("list(KEYS)", '"L1EE"'),
-]
-USES += [
-    ("list(KEYS)", "KEYS"),
-    ("list(KEYS)", "frozenset(KEYS)"),
-    ("(many.values())", "(set(many))"),
-]
-USES += [
-    ('key="a"', 'keys="a"'),
-    ("pay(counter: AsyncCounter) -> int", "pay(counter: AsyncCounter) -> str"),
-]
+USES += [("certificate=", "certificat="), ("patience=60", 'patience="60"'), ('key="a"', 'keys="a"')]
+USES += [("list(KEYS)", text) for text in ('"L1EE"', "KEYS", "frozenset(KEYS)")]
+USES += [("(many.values())", "(set(many))"), ("AsyncCounter) -> int", "AsyncCounter) -> str")]
 
 
 @pytest.mark.needs("mypy")

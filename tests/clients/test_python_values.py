@@ -1,7 +1,6 @@
 """What the Python client takes and gives: every bad argument and every junk response is one of its own errors, and results and errors are what they say."""
 
-from __future__ import annotations
-
+import collections
 import concurrent.futures
 import copy
 import dataclasses
@@ -24,7 +23,7 @@ import ee_counter_client.counter as counter_module
 import ee_counter_client.errors as errors
 import ee_counter_client.lookups as lookups_module
 import ee_counter_client.way as way
-from tests.clients.desk import DAY, Desk, controls, holds_not, listening, ran
+from tests.clients.desk import DAY, OWN, Desk, controls, holds_not, listening, ran
 
 Part = ContextManager[object] | None
 CLASSES = [one for name in client.__all__ if isinstance(one := getattr(client, name), type)]
@@ -65,11 +64,10 @@ GOOD: dict[str, list[Any]] = {"a reason": ["x" * 300, "\0", "\x1b[2J\r", "caf\u0
 GOOD["a ticket"] = [10**30]
 
 
-@controls(
-    spelling_that_asks_for_a_method=mock.patch.multiple(
-        counter_module, serial_of=str.upper, bond_of=lambda bond: bond
-    )
-)
+LOOSE = mock.patch.multiple(counter_module, serial_of=str.upper, bond_of=lambda bond: bond)
+
+
+@controls(spelling_that_asks_for_a_method=LOOSE)
 def test_junk_arguments(desk: Desk, part: Part) -> None:
     """Each kind of junk in each place of each call is refused, and nothing is sent."""
     with holds_not(part), desk.known() as counter, desk.untouched():
@@ -105,6 +103,13 @@ MISSPELT: dict[str, Callable[[client.Counter], object]] = {
     "201011 is no month": lambda c: c.add_bonds([{**BOND, "issued": 201011}]),
     "1.0 is no rate": lambda c: c.add_rates([{**RATE, "rate": 1.0}]),
 }
+#: Their order is another one in each run of a program, so under a key it would be another request.
+UNORDERED: dict[str, Callable[[client.Counter], object]] = {
+    "a set of serial numbers": lambda c: c.redeem(DAY, 7, {"L1EE"}),  # type: ignore[arg-type]
+    "a frozenset": lambda c: c.redeem(DAY, 7, frozenset({"L1EE"})),  # type: ignore[arg-type]
+    "a set of bonds": lambda c: c.add_bonds({client.Bond("L9EE", 50, "2010-11", 7)}),  # type: ignore[arg-type]
+    "a set of rates": lambda c: c.add_rates({client.Rates("2010-11", "0.60")}),  # type: ignore[arg-type]
+}
 
 
 @pytest.mark.parametrize("text", MISSPELT)
@@ -113,6 +118,57 @@ def test_misspelt(desk: Desk, text: str) -> None:
     with desk.counter() as counter, desk.untouched():
         with pytest.raises(client.BadValue, match=text):
             MISSPELT[text](counter)
+
+
+@pytest.mark.parametrize("what", UNORDERED)
+def test_sets_are_refused(desk: Desk, what: str) -> None:
+    with desk.counter() as counter, desk.untouched():
+        with pytest.raises(client.BadValue, match="are a list, and not"):
+            UNORDERED[what](counter)
+
+
+ORDERED: list[Callable[[list[str]], Any]] = [list, iter, tuple, collections.deque]
+ORDERED += [lambda serials: dict.fromkeys(serials).keys()]
+ORDERED += [lambda serials: dict(enumerate(serials)).values()]
+
+
+@pytest.mark.parametrize("form", ORDERED)
+def test_what_has_an_order_is_taken(desk: Desk, form: Callable[[list[str]], Any]) -> None:
+    """The desks of a pool need none."""
+    serials = ["L1EE", "L2EE", "L3EE"]
+    with desk.counter() as counter:
+        ticket = counter.redeem(DAY, 7, form(serials))
+    assert [line.serial for line in ticket.lines] == serials
+    with client.Pool(desk.place, desk.fake.address, desks={4, 5}) as pool:
+        assert pool.desks == (4, 5)
+
+
+#: A job that a bank runs each night: the same call under the same key.
+JOB = """
+import sys
+import ee_counter_client as client
+from ee_counter_client import counter
+
+if sys.argv[3] == "unguarded":
+    counter.list_of = lambda values, most, name: list(values)
+with client.Counter(sys.argv[1], sys.argv[2], desk=3) as desk:
+    print(desk.redeem("2012-02-06", 7, {"L1EE", "L2EE", "L3EE"}, key="invoice 1").number)
+"""
+
+
+def run_job(desk: Desk, guard: str, seed: int) -> str:
+    """The last line of a run of the job, which has an order of its own for sets."""
+    words = (sys.executable, "-c", JOB, desk.journal, desk.fake.address, guard)
+    _, out, told = ran(*words, env={**OWN, "PYTHONHASHSEED": str(seed)})
+    return (out + told).splitlines()[-1]
+
+
+def test_a_keyed_job_over_a_set(desk: Desk) -> None:
+    """It pays nothing. Control: without the guard the money is paid, and a run with another order is refused."""
+    assert "BadValue" in run_job(desk, "guarded", 1) and desk.fake.tickets == []
+    assert run_job(desk, "unguarded", 1) == "1"
+    said = [run_job(desk, "unguarded", seed) for seed in range(2, 8)]
+    assert len(desk.fake.tickets) == 1 and any("KeyReused" in line for line in said), said
 
 
 def test_spellings(desk: Desk) -> None:
@@ -261,10 +317,8 @@ def test_branches() -> None:
             assert sum(issubclass(kind, branch) for branch in BRANCHES) == 1 and kind.__doc__
     flags = {branch.__name__: (branch.retryable, branch.may_be_done) for branch in BRANCHES}
     no = (False, False)
-    assert flags == {
-        **{"BadCall": no, "WrongSetup": no, "Refused": no},
-        **{"Retryable": (True, False), "UnknownOutcome": (True, True)},
-    }
+    yes = {"Retryable": (True, False), "UnknownOutcome": (True, True)}
+    assert flags == {"BadCall": no, "WrongSetup": no, "Refused": no, **yes}
     public: list[Any] = [getattr(client, name) for name in client.__all__]
     for kind in (client.Counter, client.Pool):
         public += [getattr(kind, name) for name in vars(kind) if not name.startswith("_")]

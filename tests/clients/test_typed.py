@@ -1,7 +1,5 @@
 """typed.toml: what the page, the calculator and the Python client read of what people type from a bond's paper."""
 
-from __future__ import annotations
-
 import json
 import shutil
 import subprocess
@@ -16,24 +14,13 @@ from ee_counter_client import BadValue
 from tests.conftest import TOP
 
 TABLE: dict[str, dict[str, list[str]]] = tomllib.loads(
-    (TOP / "tests/clients/typed.toml").read_text(encoding="utf-8")
+    (TOP / "tests/clients/typed.toml").read_text()
 )
 #: Every kind with a text, and what it is read as.
 ROWS = [
     (kind, text, found) for kind, texts in TABLE.items() for found in texts for text in texts[found]
 ]
 REFUSED = ("series", "early", "unclear", "none")
-PAGE = """
-    const page = await import(`${top}/teller/typed.js`);
-    const readers = { serial: page.typedSerial, denomination: page.typedDenomination, issue: page.typedIssue, month: page.typedMonth };
-    return rows.map(([kind, text]) => readers[kind](text)).map(({ value, why }) => String(value ?? why));
-"""
-CALCULATOR = """
-    const [loose, spelling] = await Promise.all(["loose", "spelling"].map((name) => import(`${top}/calculator/${name}.js`)));
-    const months = (read) => (text) => ((month) => (month === null ? null : spelling.monthText(month)))(read(text));
-    const readers = { serial: loose.looseSerial, denomination: loose.looseDenom, issue: months(loose.looseIssue), month: months(loose.looseMonth) };
-    return rows.map(([kind, text]) => readers[kind](text)).map((value) => (value === null ? null : String(value)));
-"""
 LISTS = {
     "S1EE S2EE S3EE": ["S1EE", "S2EE", "S3EE"],
     "s1ee,s2ee;s3ee": ["S1EE", "S2EE", "S3EE"],
@@ -47,15 +34,11 @@ LISTS = {
     "": [],
     " ,": [None],
 }
-IN_LISTS = "const page = await import(`${top}/teller/typed.js`); return rows.map((text) => page.serialsIn(text).map(page.readSerial));"
 #: A line of typed.js, and what stands there in a wrong one.
 WRONG = {
     "a serial number needs its EE": ('series === "" || ', ""),
     "a bond of another series is none": ("/^(?:E|F|G|H|HH|I|J|K)$/", "/^$/"),
-    "a year of two digits is always of this century": (
-        "FIRST_SERIES_E = 41",
-        "FIRST_SERIES_E = 100",
-    ),
+    "a year of two digits is of this century": ("FIRST_SERIES_E = 41", "FIRST_SERIES_E = 100"),
     "the day may be any": ("!== 1) return refused", "< 1) return refused"),
     "a month before May 2005 is none": ('refused("early")', 'refused("none")'),
     "a comma is left out anywhere": ("(?:[, ][0-9]{3})+", "(?:[, ]?[0-9])+"),
@@ -63,18 +46,14 @@ WRONG = {
 pytestmark = pytest.mark.needs("node")
 
 
-def in_node(script: str, rows: object, clients: Path = TOP / "clients") -> list[object]:
-    """What a script returns of rows, over the modules of a folder of clients."""
-    around = "const [top, rows] = JSON.parse(process.argv[1]); (async () => { %s })().then((found) => console.log(JSON.stringify(found)));"
-    words = ["node", "--no-warnings", "-e", around % script, json.dumps([str(clients), rows])]
+def in_node(reader: str, rows: object = ROWS, clients: Path = TOP / "clients") -> list[object]:
+    """What a reader of typed.mjs makes of rows, over the modules of a folder of clients."""
+    given = json.dumps([str(clients), reader, rows])
+    words = ["node", "--no-warnings", str(Path(__file__).parent / "typed.mjs"), given]
     done = subprocess.run(words, capture_output=True, text=True, timeout=60)
     assert done.returncode == 0, done.stderr
     found: list[object] = json.loads(done.stdout)
     return found
-
-
-def by_page(clients: Path = TOP / "clients") -> list[object]:
-    return in_node(PAGE, ROWS, clients)
 
 
 def by_python() -> list[object]:
@@ -93,11 +72,11 @@ def by_python() -> list[object]:
 def test_typed() -> None:
     """Each text is read as the table says by all three, and a list of serial numbers as its parts."""
     wanted = [found for *_, found in ROWS]
-    assert list(zip(ROWS, by_page())) == list(zip(ROWS, wanted))
+    assert list(zip(ROWS, in_node("page"))) == list(zip(ROWS, wanted))
     assert list(zip(ROWS, by_python())) == list(zip(ROWS, wanted))
     values = [None if found in REFUSED else found for found in wanted]
-    assert list(zip(ROWS, in_node(CALCULATOR, ROWS))) == list(zip(ROWS, values))
-    assert dict(zip(LISTS, in_node(IN_LISTS, list(LISTS)))) == LISTS
+    assert list(zip(ROWS, in_node("calculator"))) == list(zip(ROWS, values))
+    assert dict(zip(LISTS, in_node("lists", list(LISTS)))) == LISTS
 
 
 @pytest.mark.parametrize("what", WRONG)
@@ -110,7 +89,7 @@ def test_a_wrong_reader_is_found(what: str, tmp_path: Path) -> None:
     text = file.read_text()
     assert text.count(old) == 1
     file.write_text(text.replace(old, new))
-    assert by_page(tmp_path) != [found for *_, found in ROWS]
+    assert in_node("page", clients=tmp_path) != [found for *_, found in ROWS]
 
 
 def test_a_wrong_python_reader_is_found() -> None:

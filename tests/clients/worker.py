@@ -1,7 +1,4 @@
-"""A client that works for days without an end, and may be killed at any moment and started again. Each act is known by its place: bonds are registered, a day is opened,
-bonds are paid, the first of each two is asked for again, and the day is closed."""
-
-from __future__ import annotations
+"""A client that works for days, and may be killed at any moment and started again: bonds are registered, a day is opened, bonds are paid, the first of each two is asked for again, and the day is closed."""
 
 import datetime
 import json
@@ -17,7 +14,7 @@ FIRST_DAY = datetime.date(2012, 2, 6)
 BONDS = 24
 PAYMENTS = BONDS // 2
 ACTS = 2 + 2 * PAYMENTS + 1
-TERMS = {"L": (50, "2010-11"), "K": (75, "2010-10")}
+TERMS = {"L": {"denom": 50, "issued": "2010-11"}, "K": {"denom": 75, "issued": "2010-10"}}
 
 
 def act_at(place: int) -> tuple[str, dict[str, Any]]:
@@ -26,51 +23,14 @@ def act_at(place: int) -> tuple[str, dict[str, Any]]:
     day: dict[str, Any] = {"day": (FIRST_DAY + datetime.timedelta(days=turn)).isoformat()}
     serials = [f"{'LK'[at % 2]}{turn * BONDS + at + 1}EE" for at in range(BONDS)]
     if step == 0:
-        people: dict[str, Any] = {"owner": turn + 1, "coowner": 900_000}
-        kinds = [TERMS[serial[0]] for serial in serials]
-        bonds = [
-            {"serial": serial, "denom": denom, "issued": issued, **people}
-            for serial, (denom, issued) in zip(serials, kinds)
-        ]
-        return "/bonds", {"bonds": bonds}
+        people = {"owner": turn + 1, "coowner": 900_000}
+        return "/bonds", {"bonds": [{"serial": one, **TERMS[one[0]], **people} for one in serials]}
     if step in (1, ACTS - 1):
         return "/day/open" if step == 1 else "/day/close", day
     payment, is_again = divmod(step - 2, 2)
     pair = serials[2 * payment : 2 * payment + 2]
     payee = 900_000 if payment % 3 == 0 else turn + 1
     return "/redeem", {**day, "payee": payee, "serials": pair[:1] if is_again else pair}
-
-
-def kept_act(place: int) -> str:
-    """The text of an act as the store keeps it (docs/FORMATS.md)."""
-    path, fields = act_at(place)
-    name = path.split("/")[-1]
-    return json.dumps({"act": name, **fields}, separators=(",", ":"), sort_keys=True)
-
-
-def is_expected(place: int, reply: dict[str, Any]) -> bool:
-    """Whether the reply is what the rules give, the values apart."""
-    path, fields = act_at(place)
-    turn, step = divmod(place, ACTS)
-    payment, is_again = divmod(step - 2, 2)
-    ticket = turn * PAYMENTS + payment + 1
-    wanted: dict[str, Any]
-    if path == "/bonds":
-        wanted = {"new": BONDS, "same": 0}
-    elif path == "/day/open":
-        wanted = {"opened": fields["day"]}
-    elif path == "/day/close":
-        wanted = {"bonds": BONDS, "day": fields["day"], "tickets": PAYMENTS}
-    elif is_again:
-        wanted = {"code": 52, "refused": "AlreadyPaid", "serial": fields["serials"][0]}
-        wanted["ticket"] = ticket
-    else:
-        wanted = {"day": fields["day"], "payee": fields["payee"], "ticket": ticket}
-        if [line["serial"] for line in reply["lines"]] != fields["serials"]:
-            return False
-    more = {"total", "lines"} if "ticket" in wanted and not is_again else set()
-    more |= {"total"} if path == "/day/close" else set()
-    return {key: reply[key] for key in reply if key not in more} == wanted
 
 
 def done(counter: Counter, place: int) -> Result:

@@ -1,16 +1,6 @@
-"""Reads a document, runs its commands as they are written, and compares what they print.
-
-A block between lines of three backticks is one of commands if a line of it begins with `$ `: a
-command, which goes on below if it ends with a backslash or the next lines begin with `> `. The
-lines up to the next command are what it prints on both outputs; a line of three points stands for
-any lines. All commands of a document go to one bash, in a copy of the repository without its
-crates, with the program as ./ee_cli. After a command with an option `--port` that is left running,
-nothing is done until something listens there. A block whose lines begin with `>>> ` is a session of
-Python. A text in a line as `./ee_cli WORDS` prints `TEXT` is run too.
-
-A block behind a comment `<!-- not run: REASON -->` isn't run; one behind `<!-- quoted from FILE
--->` has to stand in that file. Before a block behind `<!-- goes on from FILE -->` the commands
-of that document are run in the same shell."""
+"""Reads a document, runs its commands (`$ `) in one bash and its sessions of Python (`>>> `) as they
+are written, and compares what they print; `...` stands for any lines. A comment `<!-- not run: REASON
+-->`, `<!-- quoted from FILE -->` or `<!-- goes on from FILE -->` before a block does as it says."""
 
 import contextlib
 import functools
@@ -97,42 +87,30 @@ def prose_of(text: str) -> str:
     return re.sub(r"^ *```.*?^ *```", "", text, flags=re.S | re.M)
 
 
-def slug(heading: str) -> str:
-    return re.sub(r"[^\w\- ]", "", heading.strip().lower()).replace(" ", "-")
-
-
-def check_links(path: Path, text: str) -> None:
-    for target in LINK.findall(prose_of(text)):
-        if re.match(r"\w+:", target):
-            continue
+def check_prose(path: Path, text: str) -> None:
+    """Links, their headings and named files are there. Prose is wrapped; tables and comments aren't."""
+    prose = prose_of(text)
+    for target in LINK.findall(prose):
         name, _, place = target.partition("#")
         file = path.parent / name if name else path
+        if re.match(r"\w+:", target):
+            continue
         assert file.exists(), f"the link to {target}: there is no such file"
-        if place:
-            headings = re.findall(r"^#+ (.*)$", prose_of(file.read_text()), re.M)
-            known = [slug(heading) for heading in headings]
-            assert place in known, f"the link to {target}: there is no such heading"
-
-
-def check_names(text: str) -> None:
-    for name in NAMED.findall(prose_of(text)):
-        if "/out" not in name and "NAME" not in name:
-            assert (TOP / name).exists(), f"there is no {name}"
-
-
-def check_width(text: str) -> None:
-    """Prose is wrapped; rows of tables, blocks and comments aren't."""
-    for line in prose_of(text).split("\n"):
-        if not line.startswith(("|", "<!--")):
-            assert len(line) <= COLUMNS, f"a line has {len(line)} columns: {line}"
+        headings = re.findall(r"^#+ *(.*?) *$", prose_of(file.read_text()) if place else "", re.M)
+        known = [re.sub(r"[^\w\- ]", "", one.lower()).replace(" ", "-") for one in headings]
+        assert place in ("", *known), f"the link to {target}: there is no such heading"
+    for name in NAMED.findall(prose):
+        assert "/out" in name or "NAME" in name or (TOP / name).exists(), f"there is no {name}"
+    for line in prose.split("\n"):
+        wide = 0 if line.startswith(("|", "<!--")) else len(line)
+        assert wide <= COLUMNS, f"a line has {wide} columns: {line}"
 
 
 @functools.cache
 def has_networks() -> bool:
     """Whether this user may make a network, and has `ip` for it."""
     words = ["unshare", "--net", "ip", "link", "set", "lo", "up"]
-    both = shutil.which("unshare") and shutil.which("ip")
-    return bool(both) and subprocess.run(words, capture_output=True).returncode == 0
+    return all(map(shutil.which, ("unshare", "ip"))) and run(*words).returncode == 0
 
 
 class Shell:
@@ -149,12 +127,10 @@ class Shell:
         )
         self.stdin, self.stdout = piped(self.process.stdin), piped(self.process.stdout)
 
-    def is_served(self, port: int) -> bool:
-        return is_listening(port, self.process.pid)
-
     def run(self, command: str) -> str:
         port = int((re.search(r"--port (\d+)", command) or ["", "0"])[1])
-        assert not port or not self.is_served(port), f"something listens on port {port} already"
+        listens = functools.partial(is_listening, port, self.process.pid)
+        assert not port or not listens(), f"something listens on port {port} already"
         with tempfile.NamedTemporaryFile("w", suffix=".sh") as script:
             script.write(command + "\n")
             script.flush()
@@ -162,7 +138,7 @@ class Shell:
             self.stdin.flush()
             text = self.read()
         if port and "&" in command:
-            until(lambda: self.is_served(port), f"nothing listens on port {port}", SECONDS)
+            until(listens, f"nothing listens on port {port}", SECONDS)
         return text
 
     def read(self) -> str:
@@ -207,19 +183,12 @@ def run_shell(shell: Shell, block: Block) -> int:
     return len(commands)
 
 
-def run_before(shell: Shell, document: str) -> None:
-    for block in blocks_of((TOP / document).read_text()):
-        if block.begins("$ ") and not block.kind:
-            run_shell(shell, block)
-
-
 def run_python(folder: Path, block: Block) -> None:
     """A session of Python, by Python's own module for it."""
     (folder / "session.txt").write_text("\n".join(block.lines) + "\n")
     words = "-m doctest -o NORMALIZE_WHITESPACE -o ELLIPSIS session.txt".split()
     places = {"EE_VALUE_LIBRARY": str(LIBRARY), "PYTHONPATH": str(TOP / "clients/value")}
-    env = {**os.environ, **places}
-    ran = run(sys.executable, *words, cwd=folder, env=env)
+    ran = run(sys.executable, *words, cwd=folder, env={**os.environ, **places})
     assert ran.returncode == 0, f"line {block.line}: the session of Python\n{ran.stdout}"
 
 
@@ -228,22 +197,16 @@ def check_quoted(block: Block) -> None:
     assert "\n".join(block.lines) in text, f"line {block.line} doesn't stand so in {block.words}"
 
 
-def copy_of_repository(folder: Path, program: Path) -> None:
-    shutil.copytree(TOP, folder, symlinks=True, ignore=LEFT_OUT_OF_COPIES)
-    (folder / "ee_cli").symlink_to(program)
-
-
 def run_document(path: Path, folder: Path, program: Path) -> int:
     """How many commands ran. The blocks that don't are printed."""
     text, ran = path.read_text(), 0
-    check_links(path, text)
-    check_names(text)
-    check_width(text)
+    check_prose(path, text)
     blocks, claims = blocks_of(text), PRINTS.findall(prose_of(text))
     if not claims and not any(block.begins("$ ") or block.begins(">>> ") for block in blocks):
         blocks_are_marked(blocks)
         return 0
-    copy_of_repository(folder, program)
+    shutil.copytree(TOP, folder, symlinks=True, ignore=LEFT_OUT_OF_COPIES)
+    (folder / "ee_cli").symlink_to(program)
     shell = Shell(folder)
     try:
         for block in blocks:
@@ -253,7 +216,9 @@ def run_document(path: Path, folder: Path, program: Path) -> int:
                 check_quoted(block)
             elif block.begins("$ "):
                 if block.kind == "goes on from":
-                    run_before(shell, block.words)
+                    for one in blocks_of((TOP / block.words).read_text()):
+                        if one.begins("$ ") and not one.kind:
+                            run_shell(shell, one)
                 ran += run_shell(shell, block)
             elif block.begins(">>> "):
                 run_python(folder, block)

@@ -1,10 +1,6 @@
 """Every rate and every bond in a document, a help text, a description or a picture is one that a
-bank could meet: Treasury announced the rate for that issue month, and the page for tellers wouldn't
-doubt the bond. A rate of extended maturity, which nobody has announced, is called invented there.
-
-`samples/audit/announced-rates.csv` has the announcements."""
-
-from __future__ import annotations
+bank could meet: Treasury announced the rate for that issue month (announced-rates.csv), and the page
+for tellers wouldn't doubt the bond. A rate of extended maturity is called invented there."""
 
 import csv
 import re
@@ -70,12 +66,8 @@ def of_month(text: str) -> str:
     return f"{text[3:]}-{text[:2]}" if "/" in text else f"{text[:4]}-{text[-2:]}"
 
 
-def of_rate(text: str) -> str:
-    return f"{float(text):.2f}"
-
-
 with open(TOP / "samples/audit/announced-rates.csv", encoding="utf-8") as announced:
-    ANNOUNCED = {row["from"]: of_rate(row["rate"]) for row in csv.DictReader(announced)}
+    ANNOUNCED = {row["from"]: f"{float(row['rate']):.2f}" for row in csv.DictReader(announced)}
 
 
 def announced_for(month: str) -> str | None:
@@ -89,28 +81,23 @@ def doubts(found: dict[str, str | None], text: str) -> Iterator[str]:
     rate, serial, denom = (found.get(key) for key in ("rate", "serial", "denom"))
     if found.get("hundredths"):
         rate = f"{int(found['hundredths'] or 0) / 100:.2f}"
-    if rate and of_rate(rate) != announced_for(month):
+    if rate and f"{float(rate):.2f}" != announced_for(month):
         yield f"{rate} % wasn't announced for {month}: {announced_for(month)} % was"
     if found.get("extension") and "invented" not in text:
         yield f"the extension of {found['extension']} % isn't called invented"
-    if (
-        serial
-        and serial not in UNISSUED
-        and (LETTERS.get(int(denom or 0)) != serial[0] or month > LAST_PAPER)
-    ):
+    is_paper = LETTERS.get(int(denom or 0)) == (serial or "")[:1] and month <= LAST_PAPER
+    if serial and serial not in UNISSUED and not is_paper:
         yield f"{serial} of {denom} dollars, issued in {month}, isn't as paper has it"
 
 
-def read(text: str) -> Iterator[dict[str, str | None]]:
-    for form in FORMS:
-        for found in form.finditer(text):
-            yield found.groupdict()
+def read(text: str) -> list[dict[str, str | None]]:
+    return [found.groupdict() for form in FORMS for found in form.finditer(text)]
 
 
 def lone(text: str) -> Iterator[str]:
     """Rates and serial numbers that no announcement and no paper bond has, wherever they stand."""
     for rate in re.findall(r"(?<![\d.,])(\d{1,2}\.\d{1,2}) ?%", text):
-        is_known = of_rate(rate) in {*ANNOUNCED.values(), *OTHERS}
+        is_known = f"{float(rate):.2f}" in {*ANNOUNCED.values(), *OTHERS}
         if not is_known and "invented" not in text:
             yield f"{rate} % is no announced rate"
     for serial in re.findall(rf"\b{SERIAL}\b", text):
@@ -118,20 +105,22 @@ def lone(text: str) -> Iterator[str]:
             yield f"{serial} has a letter that no denomination has"
 
 
-@pytest.mark.parametrize("name, text", list(texts()), ids=[name for name, _ in texts()])
-def test_announced(name: str, text: str) -> None:
-    found = [doubt for one in read(text) for doubt in doubts(one, text)]
-    assert [*found, *lone(text)] == []
+def faults(text: str) -> list[str]:
+    return [*(doubt for one in read(text) for doubt in doubts(one, text)), *lone(text)]
+
+
+@pytest.mark.parametrize("text", [pytest.param(text, id=name) for name, text in texts()])
+def test_announced(text: str) -> None:
+    assert faults(text) == []
 
 
 def test_all_are_read() -> None:
     """Many are found, each form among them. They are printed with their announcement."""
-    read_of = {name: list(read(text)) for name, text in texts()}
-    for name, rows in read_of.items():
-        for row in rows:
-            if row.get("rate"):
-                print(name, row["month"], row["rate"], announced_for(of_month(row["month"] or "")))
-    assert sum(len(rows) for rows in read_of.values()) > 100
+    rows = [(name, row) for name, text in texts() for row in read(text)]
+    for name, row in rows:
+        if row.get("rate"):
+            print(name, row["month"], row["rate"], announced_for(of_month(row["month"] or "")))
+    assert len(rows) > 100
     for form in FORMS:
         assert any(form.search(text) for _, text in texts()), form.pattern
 
@@ -150,4 +139,4 @@ WRONG = {
 
 @pytest.mark.parametrize("text", WRONG.values(), ids=WRONG)
 def test_wrong_ones_are_named(text: str) -> None:
-    assert [*(doubt for one in read(text) for doubt in doubts(one, text)), *lone(text)] != []
+    assert faults(text) != []

@@ -1,8 +1,5 @@
-"""The program answers as docs/openapi.json describes it, byte for byte.
-
-The schemas are right, every example is one of its schema, and every code has an example or says
-why there is none. The examples are sent in their order (`x-step`) to a store, and the status,
-the headers and every byte of the body compared."""
+"""The program answers as docs/openapi.json describes it, byte for byte: its examples are sent in their
+order (`x-step`) to a store. The schemas are right, and every code has an example or a reason for none."""
 
 import functools
 import json
@@ -19,7 +16,7 @@ import pytest
 from tests.conftest import TOP
 from tests.fence.wire import everything
 from tests.samples.load import copied
-from tests.shared.counter_calls import connected, free_port, matched, serve
+from tests.shared.counter_calls import connected, end, free_port, matched, serve, served
 
 DESCRIPTION: dict[str, Any] = json.loads((TOP / "docs/openapi.json").read_text())
 COMPONENTS: dict[str, Any] = DESCRIPTION["components"]
@@ -101,14 +98,14 @@ def lacking(found: list[Step]) -> list[str]:
     """Codes and fields of BadField without an example, and without a reason why there is none."""
     values = [step.example["value"] for step in found if isinstance(step.example["value"], dict)]
     shown = {(value.get("code"), value.get("field")) for value in values}
-    produced = {n: one for n, one in COMPONENTS["schemas"].items() if "x-not-produced" not in one}
-    codes = {
-        n: one.get("properties", {}).get("code", {}).get("const") for n, one in produced.items()
-    }
+    schemas = COMPONENTS["schemas"].items()
+    produced = {name: one for name, one in schemas if "x-not-produced" not in one}
+    fields = {name: one.get("properties", {}) for name, one in produced.items()}
+    codes = {name: of.get("code", {}).get("const") for name, of in fields.items()}
     there = {None, *(code for code, _ in shown)}
     lacks = [f"{code} {name}" for name, code in codes.items() if code not in there]
-    fields = COMPONENTS["schemas"]["BadField"]["properties"]["field"]["enum"]
-    return lacks + [f"65 {field}" for field in fields if (65, field) not in shown]
+    named = COMPONENTS["schemas"]["BadField"]["properties"]["field"]["enum"]
+    return lacks + [f"65 {field}" for field in named if (65, field) not in shown]
 
 
 @pytest.mark.parametrize("name", COMPONENTS["schemas"])
@@ -135,21 +132,12 @@ def test_other_value_is_none_of_the_schema() -> None:
         check({"$ref": "#/components/schemas/BadField"}, {"code": 1, "fault": "BadField"}, "it")
 
 
-class Server:
-    def __init__(self, program: Path, store: Path, *before: str) -> None:
-        self.port = free_port()
-        self.process = serve(program, store, self.port, before=before)
-
-    def ask(self, stream: bytes) -> bytes:
-        """All that is answered to a stream after which nothing is sent."""
-        with connected(self.port, SECONDS) as client:
-            client.sendall(stream)
-            client.shutdown(socket.SHUT_WR)
-            return everything(client)
-
-    def end(self) -> None:
-        self.process.kill()
-        self.process.communicate()
+def ask(port: int, stream: bytes) -> bytes:
+    """All that a server answers to a stream after which nothing is sent."""
+    with connected(port, SECONDS) as client:
+        client.sendall(stream)
+        client.shutdown(socket.SHUT_WR)
+        return everything(client)
 
 
 def message(method: str, target: str, body: str | None = None, headers: str = "") -> bytes:
@@ -180,16 +168,16 @@ def compare(step: Step, text: bytes, closes: bool) -> None:
     assert body == step.body(), step.name
 
 
-def fill_a_day(server: Server) -> None:
+def fill_a_day(port: int) -> None:
     """A day that is open, with its 1,000 tickets."""
     bond: dict[str, Any] = {"denom": 50, "issued": "2010-11", "owner": 7}
     bonds = [{**bond, "serial": f"A{n}EE"} for n in range(1, 1001)]
     begun: list[tuple[str, Any]] = [("/day/open", {"number": 100, "day": "2012-02-07"})]
     begun += [("/bonds", {"number": 101 + at, "bonds": bonds[500 * at :][:500]}) for at in range(2)]
-    server.ask(b"".join(message("POST", path, json.dumps(value)) for path, value in begun))
+    ask(port, b"".join(message("POST", path, json.dumps(value)) for path, value in begun))
     ticket: dict[str, Any] = {"day": "2012-02-07", "payee": 7}
     acts = [{**ticket, "number": 1000 + n, "serials": [f"A{n}EE"]} for n in range(1, 1001)]
-    paid = server.ask(b"".join(message("POST", "/redeem", json.dumps(act)) for act in acts))
+    paid = ask(port, b"".join(message("POST", "/redeem", json.dumps(act)) for act in acts))
     assert paid.count(b"HTTP/1.1 200 OK") == 1000
 
 
@@ -197,12 +185,13 @@ def without_memory(program: Path, store: Path, step: Step) -> bytes:
     """The answer of a process whose memory ends while it reads what the message asks for, which
     is tried."""
     for more in range(0, 64 << 20, 256 << 10):
-        server = Server(program, store)
-        status = Path(f"/proc/{server.process.pid}/status").read_text()
+        port = free_port()
+        server = serve(program, store, port)
+        status = Path(f"/proc/{server.pid}/status").read_text()
         most = int(matched(r"VmSize:\s*(\d+) kB", status)[1]) * 1024 + more
-        resource.prlimit(server.process.pid, resource.RLIMIT_AS, (most, most))
-        text = server.ask(bytes_of(step.sent))
-        server.end()
+        resource.prlimit(server.pid, resource.RLIMIT_AS, (most, most))
+        text = ask(port, bytes_of(step.sent))
+        end(server)
         if text.startswith(b"HTTP/1.1 503"):
             return text
     raise AssertionError("no amount of memory brings about an answer 503")
@@ -210,17 +199,17 @@ def without_memory(program: Path, store: Path, step: Step) -> bytes:
 
 def with_failing_syncs(program: Path, store: Path, step: Step) -> bytes:
     """The answer of a server whose syncs fail once its store is open."""
-    calls, trace = f"{store}.calls", ["strace", "-f", "-qq"]
+    calls, trace, port = f"{store}.calls", ["strace", "-f", "-qq"], free_port()
     traced = [*trace, "-e", "trace=fdatasync,write", "-o", calls]
     for before in (traced[:0], traced):
         words = [*before, str(program), "apply", "--db", str(store)]
         subprocess.run(words, input=message("GET", "/ticket/1"), capture_output=True, check=True)
     first = Path(calls).read_text().split("write(1,")[0].count("fdatasync(") + 1
     inject = f"-e trace=fdatasync -e inject=fdatasync:error=EIO:when={first}+ -o /dev/null"
-    server = Server(program, store, *trace, *inject.split())
-    text = server.ask(bytes_of(step.sent))
-    _, said = server.process.communicate(timeout=SECONDS)
-    assert (server.process.returncode, said.splitlines()[-1]) == (3, "store: StoreFailed")
+    server = serve(program, store, port, before=[*trace, *inject.split()])
+    text = ask(port, bytes_of(step.sent))
+    _, said = server.communicate(timeout=SECONDS)
+    assert (server.returncode, said.splitlines()[-1]) == (3, "store: StoreFailed")
     return text
 
 
@@ -234,29 +223,25 @@ BEFORE = {
 def test_examples_in_their_order(program: Path, folder: Path) -> None:
     store, found = folder / "api.db", steps()
     assert len(found) > 50
-    server = Server(program, store)
-    try:
+    with served(program, store) as port:
         for step in found:
             before = step.example.get("x-before")
             if before == "a full day":
-                fill_a_day(server)
+                fill_a_day(port)
             if before in BEFORE:
                 text = BEFORE[before](program, copied(store, folder / step.name), step)
             else:
-                text = server.ask(bytes_of(step.sent))
+                text = ask(port, bytes_of(step.sent))
             compare(step, text, step.example.get("x-closes", False))
             if "bytes" not in step.sent and step.sent["method"] == "GET":
-                compare(step, server.ask(bytes_of(step.sent, "Connection: close\r\n")), True)
-    finally:
-        server.end()
+                compare(step, ask(port, bytes_of(step.sent, "Connection: close\r\n")), True)
 
 
 def test_other_answer_is_found(program: Path, folder: Path) -> None:
     """Control: another status, header or byte of a body than the first example's."""
     step = steps()[0]
-    server = Server(program, folder / "api.db")
-    text = server.ask(bytes_of(step.sent))
-    server.end()
+    with served(program, folder / "api.db") as port:
+        text = ask(port, bytes_of(step.sent))
     compare(step, text, False)
     changes = [(b" 200 ", b" 201 "), (b"\r\n", b"\r\nX: y\r\n"), (b"/json", b"/html"), (b"}", b" ")]
     for old, new in changes:

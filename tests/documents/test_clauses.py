@@ -1,7 +1,5 @@
-"""`.ci/clauses` finds every clause, definition and constant that changed, and nothing else.
-
-The changes and what is said of them are in clauses.toml: status 1 for a contract that may be
-weaker, 0 for comments, spaces, bodies and added `ensures`, 2 for what can't be read."""
+"""`.ci/clauses` finds every clause, definition and constant that changed, and nothing else: the changes
+and what is said of them are in clauses.toml. Status 1 is a contract that may be weaker."""
 
 import shutil
 import subprocess
@@ -12,6 +10,7 @@ from typing import Any
 import pytest
 
 from tests.conftest import TOP
+from tests.shared.counter_calls import run
 
 TABLE: dict[str, Any] = tomllib.loads((TOP / "tests/documents/clauses.toml").read_text())
 EDITS: list[dict[str, Any]] = TABLE["edit"]
@@ -30,7 +29,7 @@ def git(top: Path, *words: str) -> None:
 
 
 def compared(top: Path, *words: str) -> tuple[int, str]:
-    ran = subprocess.run([top / ".ci/clauses", *words], capture_output=True, text=True)
+    ran = run(top / ".ci/clauses", *words)
     return ran.returncode, ran.stdout
 
 

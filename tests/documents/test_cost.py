@@ -1,8 +1,5 @@
-"""`.ci/cost` gives every part of the gate and every crate its own processor time.
-
-A stub in the place of rt starts processes with the words and folders of rt's checks, each of
-which takes a known time of the processor. The tables are put between the marks of a page, and of
-nothing else."""
+"""`.ci/cost` gives every part of the gate and every crate its own processor time, and puts the tables
+between the marks of a page. A stub of rt starts processes, each of which takes a known time."""
 
 import re
 import sys

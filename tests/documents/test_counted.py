@@ -11,10 +11,8 @@ import pytest
 
 from tests.conftest import TOP
 
-ALERTS = (
-    "<!-- the alerts of samples/watch/alerts.yml: WRITE=1 pytest tests/documents/test_counted.py -->\n",
-    "<!-- the end of the alerts -->",
-)
+ALERTS = "<!-- the alerts of samples/watch/alerts.yml: WRITE=1 pytest tests/documents/test_counted.py -->\n"
+END_OF_ALERTS = "<!-- the end of the alerts -->"
 
 
 def text(path: str) -> str:
@@ -22,8 +20,7 @@ def text(path: str) -> str:
 
 
 def only(path: str, pattern: str) -> str:
-    (found,) = re.findall(pattern, text(path), re.M)[:1]
-    return str(found)
+    return str(re.findall(pattern, text(path), re.M)[0])
 
 
 def count(path: str, pattern: str) -> str:
@@ -101,20 +98,18 @@ def alert_table(rules: str) -> str:
     rows = ["", "| Alert | Severity | Says | After | Do |", "|---|---|---|---|---|"]
     for rule in re.split(r"^  - alert: ", rules, flags=re.M)[1:]:
         name = rule.split("\n")[0].removeprefix("Ladwenpik")
+        of = dict(re.findall(r'^ +(summary|action|for): "?(.*?)"?$', rule, re.M))
+        after = of["for"].replace("m", " min") if "for" in of else "at once"
         (severity,) = re.findall(r"severity: (\w+)", rule)[:1]
-        wait = re.findall(r"^    for: (\w+)", rule, re.M)
-        (summary,), (action,) = (
-            re.findall(rf'^      {key}: "(.*)"$', rule, re.M)[:1] for key in ("summary", "action")
-        )
-        after = wait[0].replace("m", " min") if wait else "at once"
-        rows.append(f"| {name} | {severity} | {plain(summary)} | {after} | {plain(action)} |")
+        says, do = plain(of["summary"]), plain(of["action"])
+        rows.append(f"| {name} | {severity} | {says} | {after} | {do} |")
     return "\n".join(rows) + "\n\n"
 
 
 def test_table_of_alerts() -> None:
     rules, page = text("samples/watch/alerts.yml"), text("docs/WATCHING.md")
-    before, mark, rest = page.partition(ALERTS[0])
-    table, end, after = rest.partition(ALERTS[1])
+    before, mark, rest = page.partition(ALERTS)
+    table, end, after = rest.partition(END_OF_ALERTS)
     assert mark and end
     if "WRITE" in os.environ:
         table = alert_table(rules)

@@ -1,9 +1,6 @@
-"""`./ee_cli` proves, builds and answers, through stops, faults and other toolchains, over a
-toolchain that proves nothing; and what a usual call costs.
-
-A case has a folder of its own, with `ee_cli`, crates.txt, sources in every crate, and a command
-`rt` that writes down how it is called and makes what the real one makes: libraries, and programs
-that print their words. If it is held, it waits in its first crate until the case lets it go."""
+"""`./ee_cli` proves, builds and answers, through stops, faults and other toolchains, over a command
+`rt` that proves nothing, writes down how it is called, and makes what the real one makes; and what a
+usual call costs. If it is held, it waits in its first crate until the case lets it go."""
 
 import contextlib
 import os
@@ -28,30 +25,6 @@ OTHER = "rattle-kit-12a logic 0123456789abcdef"
 WITHOUT_RT = "/usr/bin:/bin"
 VALUE = "value 50 2010-05 2015-05 3.50"
 SMALL, WHOLE = "ee_cli_value_alone", "ee_cli"
-RT = r"""#!/usr/bin/env bash
-set -u
-name=$(basename "$PWD")
-top=$PWD/../..
-echo "$name $*" >> "$top/calls"
-while [ -e "$top/held" ]; do sleep 0.05; done
-one() {
-  echo "== $1"
-  if [ -e "$top/crates/$1/fails" ]; then echo "error: $1 is not proved"; exit 1; fi
-  mkdir -p "$top/crates/$1/out/rlib"
-  touch "$top/crates/$1/out/rlib/stamp"
-}
-program() {
-  if [ -e fails ]; then echo "error: $name is not proved"; exit 1; fi
-  mkdir -p out
-  printf '#!/bin/bash\n[ %s = ee_cli ] || { [ "${1-}" = value ] && [ $# -lt 7 ]; } || exit 4\necho "%s $(cat "%s/src/source.rt"): $*"; exit 1\n' "$name" "$name" "$PWD" > out/"$name"
-  chmod +x out/"$name"
-}
-case $1 in
-  lib) one "$name" ;;
-  run) program ;;
-  all) for it in $CRATES; do one "$it"; done; program ;;
-esac
-"""
 
 
 class Call:
@@ -84,8 +57,7 @@ class Case:
             (top / "crates" / name / "specs/Old.antt").write_text("old")
             self.write(name, "first")
         (top / "bin").mkdir()
-        (top / "bin/rt").write_text(RT)
-        (top / "bin/rt").chmod(0o755)
+        shutil.copy(TOP / "tests/documents/rt", top / "bin")
         self.identify(WANTED)
 
     def identify(self, identity: str) -> None:
@@ -240,9 +212,7 @@ def test_crate_that_fails(case: Case) -> None:
     assert case.call(VALUE)[:2] == answer(SMALL, VALUE)
 
 
-@pytest.mark.parametrize(
-    "number, wanted", [(2, 130), (15, 130), (9, -9)], ids=["INT", "TERM", "KILL"]
-)
+@pytest.mark.parametrize("number, wanted", [(2, 130), (15, 130), (9, -9)])
 def test_stopped(case: Case, number: int, wanted: int) -> None:
     """A call that is stopped leaves no program, and the next one goes on."""
     call = case.begin_held("sheet")
@@ -303,13 +273,10 @@ def test_another_toolchain_is_named(built: Case) -> None:
 
 
 def test_a_program_of_an_earlier_toolchain_is_built_again(built: Case) -> None:
+    """And without a toolchain it answers."""
     kit = built.top / "crates/ee_cli/out/ee_cli.kit"
     kit.write_text(kit.read_text().replace(WANTED, OTHER))
     assert built.call("sheet")[:2] == answer(WHOLE, "sheet") and built.calls()
-    assert built.is_usual()
-
-
-def test_without_a_toolchain_a_built_program_answers(built: Case) -> None:
     built.path = WITHOUT_RT
     assert built.is_usual()
 

@@ -1,6 +1,5 @@
-"""What the gate's .ci/run stops on, and what it counts and names, with a toolchain that is played.
-
-It works on a small repository with the gate of this one and a few tests."""
+"""What the gate's .ci/run stops on, and what it counts and names, over a small repository with the gate of
+this one, a few tests, and a toolchain that is played."""
 
 import shutil
 import subprocess

@@ -3,7 +3,6 @@
 It proves a crate of five functions that it writes, a dozen times."""
 
 import shutil
-import subprocess
 import tomllib
 from pathlib import Path
 from typing import Any
@@ -11,6 +10,7 @@ from typing import Any
 import pytest
 
 from tests.conftest import TOP
+from tests.shared.counter_calls import run
 
 TABLE: dict[str, Any] = tomllib.loads((TOP / "tests/documents/plants.toml").read_text())
 pytestmark = [pytest.mark.needs("rt"), pytest.mark.slow]
@@ -37,7 +37,7 @@ def top(tmp_path: Path) -> Path:
 
 
 def planted(top: Path, *words: str) -> tuple[int, str]:
-    ran = subprocess.run([top / ".ci/plant", *words], capture_output=True, text=True)
+    ran = run(top / ".ci/plant", *words)
     return ran.returncode, ran.stdout
 
 

@@ -1,9 +1,5 @@
-"""HEADLINE's table names every premise of the law of command lines (`accounts`), and nothing else.
-
-They are read from the law itself: what `AccountsForLines` supposes, part by part. `RanLine`, that
-a line did what `run_line` says, stands for what the clause `line` of that function supposes."""
-
-from __future__ import annotations
+"""HEADLINE's table names every premise of the law of command lines, and nothing else: they are read from
+what `AccountsForLines` supposes, part by part. `RanLine` stands for what the clause `line` supposes."""
 
 import re
 from collections import defaultdict

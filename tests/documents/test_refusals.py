@@ -1,7 +1,5 @@
-"""Every place that lists the refusals has them all, with their codes: refusals.toml is the table.
-
-Every file that names ten or more of them has to be a place; proofs, wrong bodies and files that
-REST names are left out."""
+"""Every place that lists the refusals has them all, with their codes: refusals.toml is the table. A file
+that names ten or more of them is a place; proofs, wrong bodies and files that REST names are left out."""
 
 import re
 import tomllib

@@ -1,10 +1,6 @@
-"""The walks of CONTRIBUTING.md name just the files that a search of the repository finds.
-
-A walk is a table behind a comment `<!-- walk: WORDS -->`, where WORDS is a regular expression;
-`walk, with proofs` searches proofs too. `{blue_moon}` stands for that word in its spellings.
-Wrong bodies, proofs, CONTRIBUTING.md itself, and documents that record what was decided or
-measured are left out. A walk has a line that begins with `**Version:**`, and one with
-`**Limits:**`."""
+"""The walks of CONTRIBUTING.md name just the files that a search of the repository finds. A walk is a
+table behind a comment `<!-- walk: WORDS -->` (or `walk, with proofs`); WORDS is a regular expression, in
+which `{blue_moon}` is that word in its spellings. It has a line for its version and one for limits."""
 
 import re
 from typing import NamedTuple

@@ -1,8 +1,6 @@
 """The scenes over which calls fail: stores in every state that a file can be in, and the
 commands that meet them."""
 
-from __future__ import annotations
-
 import pytest
 
 from tests.shared.hostile import scenes as made

@@ -1,6 +1,5 @@
-"""Logs of stores: which of them docs/FORMATS.md calls damaged, logs made by hand, and what a disk does to one.
-
-The rule is written here again, apart from the program, so that both can be compared."""
+"""Logs of stores: which of them docs/FORMATS.md calls damaged, by the rule written again; logs made by
+hand; and what a disk does to one."""
 
 from __future__ import annotations
 
@@ -10,50 +9,40 @@ import struct
 from dataclasses import dataclass
 from typing import Callable
 
+from tests.shared import checksums
+from tests.shared.checksums import Sums, checksum
+
 #: The page number of a count, the version of a log's header, and the sizes that a page may have.
 COUNT_PAGE, VERSION = 0xFF000000, 3007000
 PAGE_SIZES = tuple(512 << n for n in range(8))
 #: The length of the log of a new store, and its count of checkpoints.
 NEW_LOG, MARK = 41, b"\xff" * 4
 SALT = b"\x01\x02\x03\x04\x05\x06\x07\x08"
-#: The two sums of a checksum.
-Sums = tuple[int, int]
+sums = functools.lru_cache(maxsize=1 << 16)(checksums.sums)
 
 
 def number(content: bytes, at: int) -> int:
     return int.from_bytes(content[at : at + 4], "big") if at + 4 <= len(content) else 0
 
 
-@functools.lru_cache(maxsize=1 << 16)
-def checksum(is_big: bool, sums: Sums, content: bytes) -> Sums:
-    first, second = sums
-    words = struct.unpack(f"{'>' if is_big else '<'}{len(content) // 4}I", content)
-    for one, other in zip(words[::2], words[1::2]):
-        first = (first + one + second) & 0xFFFFFFFF
-        second = (second + other + first) & 0xFFFFFFFF
-    return first, second
-
-
-def page_sum(page: bytes) -> bytes:
-    return struct.pack("<II", *checksum(False, (0, 0), page))
-
-
 class Log:
     """A log's header, and the numbers of the pages in the frames that recovery takes."""
 
     def __init__(self, content: bytes) -> None:
-        self.content = content
+        self.content, self.page_size = content, number(content, 8)
         self.is_log = len(content) >= 56 and content[0] == 0x37
         self.is_big = content[3:4] == b"\x83"
-        self.is_signed = (
-            self.is_log
-            and content[1:3] == b"\x7f\x06"
-            and content[3] in (0x82, 0x83)
-            and checksum(self.is_big, (0, 0), content[:24]) == self.sums_at(24)
-        )
-        self.page_size = number(content, 8)
+        is_named = self.is_log and content[1:4] in (b"\x7f\x06\x82", b"\x7f\x06\x83")
+        self.is_signed = is_named and self.after(content[:24], (0, 0)) == self.sums_at(24)
         self.is_known = number(content, 4) == VERSION and self.page_size in PAGE_SIZES
-        self.taken = self.taken_frames() if self.is_signed and self.is_known else []
+        frame = taken = 0
+        while self.is_signed and self.is_known and self.passes(frame):
+            frame += 1
+            taken = frame if self.size(frame - 1) else taken
+        self.taken = [self.page_number(one) for one in range(taken)]
+
+    def after(self, content: bytes, begun: Sums) -> Sums:
+        return sums(content, begun, self.is_big)
 
     def sums_at(self, at: int) -> Sums:
         return number(self.content, at), number(self.content, at + 4)
@@ -85,15 +74,8 @@ class Log:
             return False
         at = self.at(frame)
         before = self.sums_at(self.at(frame - 1) + 16 if frame else 24)
-        front = checksum(self.is_big, before, self.content[at : at + 8])
-        return checksum(self.is_big, front, self.page(frame)) == self.sums_at(at + 16)
-
-    def taken_frames(self) -> list[int]:
-        frame = taken = 0
-        while self.passes(frame):
-            frame += 1
-            taken = frame if self.size(frame - 1) else taken
-        return [self.page_number(one) for one in range(taken)]
+        front = self.after(self.content[at : at + 8], before)
+        return self.after(self.page(frame), front) == self.sums_at(at + 16)
 
     def ends(self) -> list[int]:
         """The frames that end the transactions that recovery takes."""
@@ -121,7 +103,7 @@ class Log:
     def lacks_sum(self) -> bool:
         newest = {page: frame for frame, page in enumerate(self.taken) if page != COUNT_PAGE}
         pages = (self.page(frame) for frame in newest.values())
-        return any(page[-8:] != page_sum(page[:-8]) for page in pages)
+        return any(page[-8:] != checksum(page) for page in pages)
 
 
 def is_refused(file: bytes, log: Log) -> bool:
@@ -156,13 +138,13 @@ class Transaction:
 
 def made_log(page_size: int, transactions: list[Transaction], salt: bytes = SALT) -> bytes:
     log = bytes.fromhex("377f0682") + struct.pack(">III", VERSION, page_size, 5) + salt
-    sums = checksum(False, (0, 0), log)
-    log += struct.pack(">II", *sums)
+    ends = sums(log)
+    log += struct.pack(">II", *ends)
     for one in transactions:
         for place, (page, content) in enumerate(one.pages, 1):
             front = struct.pack(">II", page, one.size if place == len(one.pages) else 0)
-            sums = checksum(False, checksum(False, sums, front), content)
-            log += front + salt + struct.pack(">II", *sums) + content
+            ends = sums(content, sums(front, ends))
+            log += front + salt + struct.pack(">II", *ends) + content
     return log
 
 
@@ -173,7 +155,7 @@ def with_bytes(content: bytes, at: int, new: bytes) -> bytes:
 def with_header(content: bytes, at: int, value: int) -> bytes:
     """The log with this number in its header, and the header's checksum made anew."""
     head = with_bytes(content[:24], at, struct.pack(">I", value))
-    return head + struct.pack(">II", *checksum(False, (0, 0), head)) + content[32:]
+    return head + struct.pack(">II", *sums(head)) + content[32:]
 
 
 def turned(content: bytes, at: int, bits: int = 1) -> bytes:
@@ -196,17 +178,9 @@ def in_sector(size: int, put: Callable[[int, int, bytes, random.Random], bytes])
     return harmed
 
 
-def other_byte(log: bytes, end: int, older: bytes, dice: random.Random) -> bytes:
-    return turned(log, dice.randrange(end), dice.randrange(1, 256))
-
-
-def turned_bit(log: bytes, end: int, older: bytes, dice: random.Random) -> bytes:
-    return turned(log, dice.randrange(end), 1 << dice.randrange(8))
-
-
 HARMS: dict[str, Harm] = {
-    "a turned bit": turned_bit,
-    "another byte": other_byte,
+    "a turned bit": lambda log, n, _, dice: turned(log, dice.randrange(n), 1 << dice.randrange(8)),
+    "another byte": lambda log, n, _, dice: turned(log, dice.randrange(n), dice.randrange(1, 256)),
     "512 zeros": in_sector(512, lambda at, size, older, dice: bytes(size)),
     "4096 zeros": in_sector(4096, lambda at, size, older, dice: bytes(size)),
     "4096 older bytes": in_sector(4096, lambda at, n, old, _: old[at : at + n].ljust(n, b"\0")),

@@ -1,29 +1,23 @@
-"""What a crash may leave of a store at every point between two calls opens rightly.
-
-Every write, change of length and sync of the two files is recorded while a day is worked in a new
-store, a store with a log is opened, and stores of version 1 are migrated. Of every point there are
-images in which the unsynced steps are lost, kept, or torn (tests/shared/hostile/disk.py). Those in
-which all is lost or kept are tried always, and IMAGES others by chance, 100 if it isn't set.
-
-An image is right if the program shows the books after just those requests that were answered
-before the point, or after one more; if the same requests then have their one reply each, byte
-for byte; and if the rows are those of the day. An answered number is also given to another act,
-which is refused."""
+"""What a crash may leave of a store at every point between two calls opens rightly: the books after the
+requests that were answered, or one more, each of which keeps its one reply. Images lose, keep or tear
+unsynced steps (tests/shared/hostile/disk.py); all lost or kept are tried always, IMAGES others by chance."""
 
 from __future__ import annotations
 
 import os
 import random
+from itertools import accumulate
 from pathlib import Path
 from typing import Iterator
 
 import pytest
 
-from tests.shared.hostile import commands, counter, decoding, desk, disk, framing
+from tests.shared.hostile import commands, counter, decoding, desk, disk
 from tests.shared.hostile import judging, scenes, store, talk
 from tests.shared.hostile.judging import Wrong
 from tests.shared.hostile.program import Program
 
+NAMES = ["new", "with a log", "version 1", "version 1 without extensions"]
 IMAGES, NESTED = int(os.environ.get("IMAGES", "100")), 2
 DAY = """POST /redeem {"number":4,"day":"2012-02-06","payee":7,"serials":["L1EE","M3EE"]}
 POST /redeem {"desk":1,"number":4,"day":"2012-02-06","payee":8,"serials":["K2EE"]}
@@ -40,7 +34,10 @@ class Run:
     def __init__(self, program: Program, base: disk.Image, starts: list[desk.Books], stream: bytes):
         self.program, self.base, self.starts, self.stream = program, base, starts, stream
         self.command = commands.Connection(stream)
-        self.chains = [list(chain_of(books, self.command.messages)) for books in starts]
+        #: The books after none of the messages, after the first, and so on, from each start.
+        after = lambda books, message: judging.delivered(books, message)[0]
+        messages = self.command.messages
+        self.chains = [list(accumulate(messages, after, initial=books)) for books in starts]
         self.steps: list[disk.Step] = []
 
     def record(self, plant: str = "") -> Run:
@@ -80,14 +77,6 @@ class Run:
         yield from dice.sample(more, min(len(more), most))
 
 
-def chain_of(books: desk.Books, messages: list[framing.Message]) -> Iterator[desk.Books]:
-    """The books after none of the messages, after the first, and so on."""
-    yield books
-    for message in messages:
-        books = judging.delivered(books, message)[0]
-        yield books
-
-
 def answers_in(said: bytes) -> int:
     """How many whole answers begin a text."""
     count = at = 0
@@ -109,12 +98,6 @@ def lay(path: str, image: disk.Image) -> None:
             Path(path + end).write_bytes(content)
 
 
-def clashes(messages: list[framing.Message]) -> bytes:
-    """Another act under the number of each act."""
-    keys = [decoding.call(message)[1] for message in messages if counter.is_act(message)]
-    return b"".join(talk.message(CLASH % key) for key in keys)
-
-
 def try_image(run: Run, image: disk.Image, answered: int, by_clashes: bool) -> None:
     """The next command shows books that may stand, and refuses other acts; then the stream
     again."""
@@ -122,7 +105,9 @@ def try_image(run: Run, image: disk.Image, answered: int, by_clashes: bool) -> N
     lay(path, image)
     many = judging.distinct(run.allowed(answered))
     if by_clashes:
-        again = commands.Connection(clashes(run.command.messages[:answered]) + run.stream)
+        acts = filter(counter.is_act, run.command.messages[:answered])
+        clashes = b"".join(talk.message(CLASH % decoding.call(act)[1]) for act in acts)
+        again = commands.Connection(clashes + run.stream)
     else:
         many = judging.exports_one(many, run.program.export(path), "the next command")
         many = judging.shows_books(many, store.rows(path), "after the next command")
@@ -154,20 +139,20 @@ def runs_of(program: Program) -> dict[str, Run]:
     }
     earlier, five = talk.texts("NAMED"), talk.texts("FIVE")["FIVE"]
     stream = talk.stream(five + earlier["NAMED"] + earlier["OTHER"])
-    for name, has_extensions in (("version 1", True), ("version 1 without extensions", False)):
-        path, books = scenes.first_version(program, "earlier", has_extensions)
+    for name in NAMES[2:]:
+        path, books = scenes.first_version(program, "earlier", name == "version 1")
         found[name] = Run(program, (contents(path)[0], None), [books], stream)
     return found
 
 
-@pytest.mark.parametrize("name", ["new", "with a log", "version 1", "version 1 without extensions"])
+@pytest.mark.parametrize("name", NAMES)
 def test_images(hostile: Program, name: str, dice: random.Random) -> None:
     run = runs_of(hostile)[name].record()
     assert sum(step.kind == disk.SYNC for step in run.steps) > 5, "control: syncs were recorded"
     assert try_images(run, dice, IMAGES) > IMAGES // 2
 
 
-@pytest.mark.parametrize("name", ["new", "with a log", "version 1"])
+@pytest.mark.parametrize("name", NAMES[:3])
 def test_crash_as_a_crash_is_mended(hostile: Program, name: str, dice: random.Random) -> None:
     """Images are opened by runs that are recorded, and crash in their turn."""
     run = runs_of(hostile)[name].record()

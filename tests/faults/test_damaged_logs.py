@@ -1,33 +1,28 @@
-"""A log that no stop leaves is refused, and every other is opened.
-
-A server is killed under load. Its log is harmed as disks harm a file, over and over (HARMS times of
-each kind, 100 if it isn't set), torn as a loss of power tears it, put beside an empty file, and made
-by hand. The rule of logs.py says which logs are refused, and the program's answer has to be the
-rule's. A refusal changes no file. If a store is opened, at most 3 of 100 harms may have lost more
-than the last reply without a word."""
-
-from __future__ import annotations
+"""A log that no stop leaves is refused, and every other is opened. A killed server's log is harmed as
+disks do it (HARMS times of each kind), torn as by a loss of power, put beside an empty file, and made
+by hand; the program's answer has to be the rule's of logs.py, and a refusal changes no file."""
 
 import os
 import random
 import sqlite3
 import subprocess
 import sys
-import tempfile
 import time
+from contextlib import closing
 from pathlib import Path
 from typing import Iterator
 
 import pytest
 
-from tests.conftest import MEMORY
+from tests.conftest import in_memory
 from tests.faults import logs
 from tests.faults.logs import HARMS, Log, Transaction, is_refused
 from tests.faults.logs import made_log, turned, with_bytes, with_header
-from tests.shared.counter_calls import ask, make_version_one, post, served
+from tests.shared.checksums import size_of_pages
+from tests.shared.counter_calls import answered, apply, make_version_one, post, served
 
 TURNS = int(os.environ.get("HARMS", "100"))
-BONDS, REDEMPTIONS, EARLIER = 250, 190, 140
+REDEMPTIONS, EARLIER = 190, 140
 DAY = "2012-02-06"
 
 
@@ -35,16 +30,10 @@ def contents(store: Path) -> tuple[bytes, bytes]:
     return store.read_bytes(), Path(f"{store}-wal").read_bytes()
 
 
-def answers_in(store: Path) -> set[int]:
+def answers_in(store: Path, how: str = "?mode=ro&immutable=1") -> set[int]:
     """The kept answers of a store at rest, whose log stays as it is."""
-    return answers_at(f"file:{store}?mode=ro&immutable=1")
-
-
-def answers_at(place: str) -> set[int]:
-    books = sqlite3.connect(place, uri=True)
-    found = {row[0] for row in books.execute("SELECT number FROM answers")}
-    books.close()
-    return found
+    with closing(sqlite3.connect(f"file:{store}{how}", uri=True)) as books:
+        return {number for (number,) in books.execute("SELECT number FROM answers")}
 
 
 class Place:
@@ -52,105 +41,87 @@ class Place:
 
     def __init__(self, program: Path, folder: Path) -> None:
         self.program, self.store = program, folder / "laid.db"
+        self.log = Path(f"{self.store}-wal")
+        self.words = [str(program), "export", "1", "--db", str(self.store)]
 
-    def words(self, store: Path) -> list[str]:
-        return [str(self.program), "export", "1", "--db", str(store)]
+    def run(self, *more: str) -> subprocess.CompletedProcess[str]:
+        words = [*self.words, *more]
+        return subprocess.run(words, capture_output=True, text=True, timeout=120)
 
-    def lay(self, file: bytes, log: bytes) -> Path:
-        for end in ("-shm", "-journal"):
-            Path(f"{self.store}{end}").unlink(missing_ok=True)
+    def lay(self, file: bytes, log: bytes | None) -> Path:
+        for path in self.store.parent.iterdir():
+            path.unlink()
         self.store.write_bytes(file)
-        Path(f"{self.store}-wal").write_bytes(log)
+        if log is not None:
+            self.log.write_bytes(log)
         return self.store
 
-    def opened(self, file: bytes, log: bytes) -> set[int] | None:
+    def opened(self, file: bytes, log: bytes | None) -> set[int] | None:
         """The kept answers once the store was opened; None if it was refused, with no file changed."""
-        store = self.lay(file, log)
-        ran = subprocess.run(self.words(store), capture_output=True, text=True, timeout=120)
+        self.lay(file, log)
+        ran = self.run()
         if ran.returncode == 0:
-            return answers_in(store)
+            return answers_in(self.store)
         assert (ran.returncode, ran.stdout, ran.stderr) == (3, "", "store: StoreFailed\n")
-        assert contents(store) == (file, log), "a refusal changes no file"
+        assert contents(self.store) == (file, log), "a refusal changes no file"
         return None
 
 
 @pytest.fixture(scope="module")
 def place(program: Path) -> Iterator[Place]:
-    with tempfile.TemporaryDirectory(prefix="ladwenpik.", dir=MEMORY) as folder:
-        yield Place(program, Path(folder))
+    with in_memory() as folder:
+        yield Place(program, folder)
 
 
 class Killed:
-    """The files of a server that was killed after its last answer, and its log at an earlier moment."""
+    """The files of a server that was killed after its last answer, and its log at an earlier moment;
+    the answers that it kept, and its files once it was opened and closed."""
 
-    def __init__(self, program: Path, folder: Path) -> None:
-        store = folder / "killed.db"
-        bonds = [
-            {"serial": f"A{n}EE", "denom": 50, "issued": "2010-11", "owner": 7}
-            for n in range(1, BONDS + 1)
-        ]
-        rates = [{"from": "2010-11", "rate": "3.50"}]
-        acts: dict[str, object] = {
-            "/rates": {"number": 1, "rates": rates},
-            "/bonds": {"number": 2, "bonds": bonds},
-            "/day/open": {"number": 3, "day": DAY},
-        }
-        for path, act in acts.items():
-            words = [str(program), "apply", "--db", str(store)]
-            subprocess.run(words, input=post(path, act), stdout=subprocess.DEVNULL, check=True)
-        with served(program, store) as port:
-            for n in range(1, REDEMPTIONS + 1):
-                act = {"number": 100 + n, "day": DAY, "payee": 7, "serials": [f"A{n}EE"]}
-                answer = ask(port, post("/redeem", act))
-                assert answer is not None and answer[0] == 200, answer
+    def __init__(self, place: Place, store: Path) -> None:
+        serials = [f"A{n}EE" for n in range(1, REDEMPTIONS + 1)]
+        bonds = [{"denom": 50, "issued": "2010-11", "owner": 7, "serial": one} for one in serials]
+        rates = {"number": 1, "rates": [{"from": "2010-11", "rate": "3.50"}]}
+        acts = [post("/rates", rates), post("/bonds", {"number": 2, "bonds": bonds})]
+        for message in (*acts, post("/day/open", {"number": 3, "day": DAY})):
+            assert apply(place.program, store, [message])[0][0] == 200
+        with served(place.program, store) as port:
+            for n, serial in enumerate(serials, 1):
+                act = {"number": 100 + n, "day": DAY, "payee": 7, "serials": [serial]}
+                assert answered(port, post("/redeem", act))[0] == 200
                 if n == EARLIER:
                     self.older = contents(store)[1]
         self.file, self.content = contents(store)
         self.log = Log(self.content)
+        assert len(self.log.ends()) > 50, "the log has many transactions"
+        self.kept = place.opened(self.file, self.content) or set()
+        assert len(self.kept) == REDEMPTIONS + 3
+        self.closed = contents(place.store)
 
     def harmed(self, kind: str, dice: random.Random) -> bytes:
-        """The log, harmed where its transactions are. A sector that was written once has no other older bytes."""
-        while True:
-            new = HARMS[kind](self.content, self.log.end(), self.older, dice)
-            if new != self.content:
-                return new
+        """The log, harmed where its transactions are. A sector that was written once has no other
+        older bytes."""
+        while (new := HARMS[kind](self.content, self.log.end(), self.older, dice)) == self.content:
+            pass
+        return new
 
 
 @pytest.fixture(scope="module")
-def killed(program: Path) -> Iterator[Killed]:
-    with tempfile.TemporaryDirectory(prefix="ladwenpik.", dir=MEMORY) as folder:
-        yield Killed(program, Path(folder))
-
-
-@pytest.fixture(scope="module")
-def kept(place: Place, killed: Killed) -> set[int]:
-    """The answers of the log as it was left."""
-    found = place.opened(killed.file, killed.content)
-    assert found is not None and len(found) == REDEMPTIONS + 3
-    assert len(killed.log.ends()) > 50, "the log has many transactions"
-    return found
-
-
-@pytest.fixture(scope="module")
-def file(place: Place, killed: Killed, kept: set[int]) -> bytes:
-    """The file of a store at rest."""
-    place.opened(killed.file, killed.content)
-    return contents(place.store)[0]
+def killed(place: Place) -> Iterator[Killed]:
+    with in_memory() as folder:
+        yield Killed(place, folder / "killed.db")
 
 
 # ---- harm
 
 
 @pytest.mark.parametrize("kind", HARMS)
-def test_harm_is_found(
-    kind: str, place: Place, killed: Killed, kept: set[int], dice: random.Random
-) -> None:
+def test_harm_is_found(kind: str, place: Place, killed: Killed, dice: random.Random) -> None:
     lost = []
     for _ in range(TURNS):
         log = killed.harmed(kind, dice)
         found = place.opened(killed.file, log)
         assert (found is None) == is_refused(killed.file, Log(log))
-        lost += [] if found is None else [len(kept - found)]
+        lost += [] if found is None else [len(killed.kept - found)]
     print(f"{kind}: {TURNS - len(lost)} of {TURNS} refused, the others lost {sorted(lost)} replies")
     assert TURNS - len(lost) > TURNS // 2
     assert sum(gone > 1 for gone in lost) * 100 <= 3 * TURNS
@@ -158,29 +129,27 @@ def test_harm_is_found(
 
 @pytest.mark.parametrize("kind", HARMS)
 def test_recovery_alone_loses_replies(
-    kind: str, place: Place, killed: Killed, kept: set[int], dice: random.Random
+    kind: str, place: Place, killed: Killed, dice: random.Random
 ) -> None:
     """Control: SQLite opens the same logs without a word, and more than the last reply is gone."""
     gone = 0
     for _ in range(20):
         store = place.lay(killed.file, killed.harmed(kind, dice))
-        gone += len(kept - answers_at(f"file:{store}")) > 1
+        gone += len(killed.kept - answers_in(store, "")) > 1
     assert gone > 10
 
 
-def test_a_turned_first_byte_is_unseen(place: Place, killed: Killed, kept: set[int]) -> None:
+def test_a_turned_first_byte_is_unseen(place: Place, killed: Killed) -> None:
     """Control: a stop in a checkpoint leaves such a header, so the log is dropped without a word."""
     found = place.opened(killed.file, turned(killed.content, 0))
-    assert found is not None and len(kept - found) > 50
+    assert found is not None and len(killed.kept - found) > 50
 
 
 # ---- what stops leave
 
 
 @pytest.mark.parametrize("way", ["cut", "half in zeros", "few zeros"])
-def test_torn_end_is_opened(
-    way: str, place: Place, killed: Killed, kept: set[int], dice: random.Random
-) -> None:
+def test_torn_end_is_opened(way: str, place: Place, killed: Killed, dice: random.Random) -> None:
     """The last transaction, torn: its bytes are 0 or new, or the file ends inside it."""
     log, first = killed.content, killed.log.at(killed.log.ends()[-2] + 1)
     end, whole = killed.log.end(), 0
@@ -190,24 +159,21 @@ def test_torn_end_is_opened(
         for at in range(first, end, step) if way != "cut" else ():
             if dice.random() < (0.5 if way == "half in zeros" else 0.05):
                 torn[at : min(at + step, end)] = bytes(min(at + step, end) - at)
-        found = place.opened(
-            killed.file, bytes(torn if way != "cut" else torn[: dice.randrange(first, end)])
-        )
-        assert found is not None and len(kept - found) <= 1
-        whole += found == kept
+        if way == "cut":
+            del torn[dice.randrange(first, end) :]
+        found = place.opened(killed.file, bytes(torn))
+        assert found is not None and len(killed.kept - found) <= 1
+        whole += found == killed.kept
     assert whole < TURNS
 
 
 def test_stop_in_a_large_transaction_is_opened(place: Place) -> None:
-    """A migration spills 2,000 pages at a time behind a gate that is shut, each time with a frame that ends a transaction: two of them are no damage."""
-    store, log = place.store, Path(f"{place.store}-wal")
-    place.lay(b"", b"")
-    log.unlink()
-    store.unlink()
-    make_version_one(store, 100_000, 60_000)
-    begun = store.read_bytes()
-    words = place.words(store)
-    with subprocess.Popen(words, stdout=subprocess.DEVNULL) as running:
+    """A migration spills 2,000 pages at a time behind a gate that is shut, each time with a frame
+    that ends a transaction: two of them are no damage."""
+    place.lay(b"", None).unlink()
+    make_version_one(place.store, 100_000, 60_000)
+    begun, log = place.store.read_bytes(), place.log
+    with subprocess.Popen(place.words, stdout=subprocess.DEVNULL) as running:
         while running.poll() is None and (not log.exists() or log.stat().st_size < 16_000_000):
             time.sleep(0.005)
         running.kill()
@@ -215,8 +181,7 @@ def test_stop_in_a_large_transaction_is_opened(place: Place) -> None:
     ends = [frame for frame in left.behind() if left.size(frame) and left.passes(frame)]
     assert left.taken == [] and len(ends) > 1, "two whole transactions stand behind a shut gate"
     assert not is_refused(begun, left)
-    subprocess.run(words, check=True, stdout=subprocess.DEVNULL)
-    assert len(answers_in(store)) == 60_000
+    assert place.run().returncode == 0 and len(answers_in(place.store)) == 60_000
 
 
 # ---- logs by hand
@@ -226,20 +191,27 @@ def single(file: bytes, size: int, at: int) -> Transaction:
     return Transaction([(at, file[(at - 1) * size : at * size])], len(file) // size)
 
 
-def test_logs_by_hand(place: Place, file: bytes) -> None:
+def test_logs_by_hand(place: Place, killed: Killed) -> None:
     """Each case: a log of transactions that write pages as they are, and whether it is refused."""
-    size = int.from_bytes(file[16:18], "big")
+    file = killed.closed[0]
+    size = size_of_pages(file)
     count = len(file) // size
     ones = [single(file, size, 1 + n % count) for n in range(5)]
     unsummed = Transaction([(2, ones[1].pages[0][1][: size - 8] + b"\1" * 8)], count)
     five = made_log(size, ones)
     threes = [Transaction([page for one in ones[:3] for page in one.pages], count)] * 3
     wide = made_log(size, threes)
-    counted = made_log(size, [ones[0], *(one.counted() for one in ones[1:])])
-    other_salt = b"\x01\x02\x03\x03abcd"
+    counts = [ones[0], *(one.counted() for one in ones[1:])]
+    counted = made_log(size, counts)
+    salt = b"\x01\x02\x03\x03abcd"
+    earlier, earlier_counts = made_log(size, ones[:4], salt), made_log(size, counts, salt)
+    unended = Transaction(unsummed.pages, 0)
 
     def frame(n: int) -> int:
         return 32 + n * (24 + size)
+
+    shut = turned(with_bytes(counted, frame(3) + 8, b"\0"), frame(5) + 500)
+    behind = made_log(size, ones[:1]) + earlier_counts[frame(1) :]
 
     cases = [
         ("whole", five, False),
@@ -253,11 +225,7 @@ def test_logs_by_hand(place: Place, file: bytes) -> None:
         ("a salt turned, one behind", turned(five, frame(3) + 12), False),
         ("a gate turned", turned(five, frame(1) + 8), False),
         ("five sectors of zeros", with_bytes(five, frame(1) - 20, bytes(2560)), False),
-        (
-            "frames of an earlier log behind",
-            five + made_log(size, ones[:4], other_salt)[32:],
-            False,
-        ),
+        ("frames of an earlier log behind", five + earlier[32:], False),
         ("the header turned", turned(five, 13), True),
         ("the header's first byte turned", turned(five, 0), False),
         ("the header's first byte 0", with_bytes(five, 0, b"\0"), False),
@@ -274,11 +242,7 @@ def test_logs_by_hand(place: Place, file: bytes) -> None:
         ("threes: the first page of the last turned", turned(wide, frame(6) + 500), False),
         ("a page without its checksum", made_log(size, [ones[0], unsummed]), True),
         ("the same page, written again", made_log(size, [unsummed, ones[1]]), False),
-        (
-            "the same page, uncommitted",
-            made_log(size, [ones[0], Transaction(unsummed.pages, 0)]),
-            False,
-        ),
+        ("the same page, uncommitted", made_log(size, [ones[0], unended]), False),
         ("counts: whole", counted, False),
         ("counts: the first gate shut", with_bytes(counted, frame(0) + 8, b"\0"), True),
         ("counts: the first frame of zeros", with_bytes(counted, frame(0), bytes(24 + size)), True),
@@ -286,21 +250,8 @@ def test_logs_by_hand(place: Place, file: bytes) -> None:
         ("counts: the last's gate shut", with_bytes(counted, frame(7) + 8, b"\0"), False),
         ("counts: the last's last page turned", turned(counted, frame(8) + 500), False),
         ("counts: all but the last of zeros", with_bytes(counted, 32, bytes(frame(7) - 32)), False),
-        (
-            "counts: a gate shut, and the later counts turned",
-            turned(
-                turned(with_bytes(counted, frame(3) + 8, b"\0"), frame(5) + 500), frame(7) + 500
-            ),
-            False,
-        ),
-        (
-            "counts of an earlier log behind a shut gate",
-            made_log(size, ones[:1])
-            + made_log(size, [ones[0], *(one.counted() for one in ones[1:])], other_salt)[
-                frame(1) :
-            ],
-            False,
-        ),
+        ("counts: a gate shut, the later turned", turned(shut, frame(7) + 500), False),
+        ("counts of an earlier log behind a shut gate", behind, False),
     ]
     for name, log, wanted in cases:
         assert is_refused(file, Log(log)) == wanted, f"the rule: {name}"
@@ -310,41 +261,31 @@ def test_logs_by_hand(place: Place, file: bytes) -> None:
 # ---- the file is gone
 
 
-@pytest.fixture(scope="module")
-def closed(place: Place, killed: Killed, kept: set[int]) -> tuple[bytes, bytes]:
-    """The files of a store that was closed."""
-    place.opened(killed.file, killed.content)
-    return contents(place.store)
-
-
-def test_log_of_a_missing_file_is_refused(place: Place, killed: Killed, kept: set[int]) -> None:
+def test_log_of_a_missing_file_is_refused(place: Place, killed: Killed) -> None:
     store = place.lay(killed.file, killed.content)
     moved = store.rename(f"{store}.moved")
-    words = [*place.words(store), "--explain"]
-    ran = subprocess.run(words, capture_output=True, text=True, timeout=120)
+    ran = place.run("--explain")
     cause = "it is missing or empty, and its log shows that it was there; put the file back next to its log"
     told = f"store: StoreFailed\n{store}: {cause}\n"
     assert (ran.returncode, ran.stdout, ran.stderr) == (3, "", told)
     assert contents(store) == (b"", killed.content)
     moved.rename(store)
-    assert place.opened(*contents(store)) == kept, "the file is put back, and every reply is there"
+    assert place.opened(*contents(store)) == killed.kept, "put back, it has every reply"
 
 
-def test_log_beside_an_empty_file(
-    place: Place, killed: Killed, closed: tuple[bytes, bytes], kept: set[int]
-) -> None:
+def test_log_beside_an_empty_file(place: Place, killed: Killed) -> None:
     content = killed.content
     assert place.opened(b"", content) is None
     for at in (0, 1, 13, 24, 40, 60, 32 + 24 + 500, len(content) - 1):
         assert place.opened(b"", turned(content, at)) is None, at
-    assert len(closed[1]) == logs.NEW_LOG and place.opened(b"", closed[1]) is None
-    assert place.opened(*closed) == kept, "control: beside its file the store is opened"
+    assert len(killed.closed[1]) == logs.NEW_LOG and place.opened(b"", killed.closed[1]) is None
+    assert place.opened(*killed.closed) == killed.kept, "control: beside its file it is opened"
     assert place.opened(b"", b"") == set(), "control: an empty file alone becomes a store"
 
 
-def test_logs_by_hand_beside_an_empty_file(place: Place, file: bytes) -> None:
-    size = int.from_bytes(file[16:18], "big")
-    one, two = single(file, size, 1), single(file, size, 2)
+def test_logs_by_hand_beside_an_empty_file(place: Place, killed: Killed) -> None:
+    size = size_of_pages(killed.closed[0])
+    one, two = single(killed.closed[0], size, 1), single(killed.closed[0], size, 2)
     whole = made_log(size, [Transaction(one.pages, 1), Transaction(two.pages, 2)])
     marked = with_header(whole, 12, 0xFFFFFFFF)
     cases = [
@@ -373,30 +314,25 @@ def test_logs_by_hand_beside_an_empty_file(place: Place, file: bytes) -> None:
 
 def test_store_without_checksums(place: Place) -> None:
     """Pages in the log of a store of an earlier version have none, and are taken."""
-    store = place.lay(b"", b"")
-    store.unlink()
-    Path(f"{store}-wal").unlink()
-    make_version_one(store, 20, 5)
-    content = store.read_bytes()
-    size = int.from_bytes(content[16:18], "big")
+    place.lay(b"", None).unlink()
+    make_version_one(place.store, 20, 5)
+    content = place.store.read_bytes()
+    size = size_of_pages(content)
     log = made_log(size, [single(content, size, n) for n in (1, 2, 3)])
-
-    def status(log: bytes) -> int:
-        words = place.words(place.lay(content, log))
-        return subprocess.run(words, capture_output=True, timeout=120).returncode
-
-    assert content[20] == 0 and status(log) == 0
-    assert status(turned(log, 32 + 500)) == 3, "one is turned, and two transactions stand behind it"
+    place.lay(content, log)
+    assert content[20] == 0 and place.run().returncode == 0
+    place.lay(content, turned(log, 32 + 500))
+    assert place.run().returncode == 3, "one is turned, and two transactions stand behind it"
 
 
-def test_log_of_another_program_is_refused(place: Place, file: bytes) -> None:
+def test_log_of_another_program_is_refused(place: Place, killed: Killed) -> None:
     """A `sqlite3` without the extension cksumvfs is killed, and its log stays."""
-    store = place.lay(file, b"")
-    Path(f"{store}-wal").unlink()
+    file = killed.closed[0]
+    store = place.lay(file, None)
     change = "UPDATE answers SET reply = replace(reply, '25.88', '52.88') WHERE number = 101"
     writer = "import os, sqlite3, sys; db = sqlite3.connect(sys.argv[1], isolation_level=None); db.execute('PRAGMA wal_autocheckpoint = 0'); db.execute(sys.argv[2]); os._exit(0)"
     subprocess.run([sys.executable, "-c", writer, store, change], check=True)
     log = contents(store)[1]
     assert len(Log(log).taken) > 0, "control: it leaves its change in the log"
     assert place.opened(file, log) is None
-    assert place.opened(file, b"") is not None, "without that log the store is opened"
+    assert place.opened(file, None) is not None, "without that log the store is opened"

@@ -1,10 +1,5 @@
-"""What the program says after a wrong use, by the texts of explained.toml and uses.py.
-
-Without --explain a line says its first line alone. With it a second one says where the fault
-arose, why, and what to do (docs/STATUSES.md); status and output stay the same. clap's own texts
-have more lines anyway."""
-
-from __future__ import annotations
+"""What the program says after a wrong use, by the texts of explained.toml and uses.py: its first line alone,
+and with --explain a second one that says where, why, and what to do; status and output stay the same."""
 
 import os
 import pty

@@ -1,11 +1,5 @@
-"""`serve` is killed at moments by chance while requests come, and started again: every reply
-stands.
-
-ROUNDS names how many kills come while it works, 20 if it isn't set. A store has 900 bonds and an
-open day. In each round new requests come among all of those before, in an order by chance, until
-the kill."""
-
-from __future__ import annotations
+"""`serve` is killed at moments by chance while requests come, new ones among all of those before, and
+started again: every reply stands. ROUNDS names how many kills come while it works."""
 
 import itertools
 import os

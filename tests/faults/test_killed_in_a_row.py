@@ -1,13 +1,8 @@
-"""Seven commands in a row, each killed at every call on the files of a store and run again: over no
-file, over a store of version 1, and over the two files of a killed server.
+"""Seven commands in a row, each killed at every call on the files of a store and run again, over no file, a
+store of version 1, and the files of a killed server: what is printed, and at last every row, is that of
+a row without kills."""
 
-They import rates and bonds, open a day, redeem, print a sheet and the unpaid bonds, and close the
-day. What a killed command had printed begins what it prints without a kill. What is printed after
-it, and at last every row, is that of a row without kills: each request acts once, and keeps its
-reply."""
-
-from __future__ import annotations
-
+import contextlib
 import shutil
 import signal
 import socket
@@ -17,16 +12,13 @@ from typing import Any, NamedTuple
 
 import pytest
 
-from tests.shared.counter_calls import free_port, make_version_one, piped, post, rows, served
-from tests.shared.counter_calls import ask as asked
+from tests.shared.counter_calls import answered, free_port, make_version_one, piped, post, rows
+from tests.shared.counter_calls import served
 
-CALLS = (
-    "openat pwrite64 write fsync fdatasync ftruncate fallocate unlink rename pread64 close".split()
-)
+CALLS = "openat pwrite64 write fsync fdatasync ftruncate fallocate unlink rename pread64 close"
 RATES = "from,rate\n2010-05,3.50\n2010-11,3.50\n"
-BONDS = "serial,denom,issued,owner,coowner\n" + "".join(
-    f"L{n}EE,50,2010-11,7,\n" for n in range(1, 41)
-)
+BONDS = "serial,denom,issued,owner,coowner\n"
+BONDS += "".join(f"L{n}EE,50,2010-11,7,\n" for n in range(1, 41))
 DAY = "2026-11-30"
 NUMBERS = (1, 2, 3, 4, 5)
 BEGINNINGS = ("no file", "version 1", "killed server")
@@ -63,21 +55,19 @@ def begin(program: Path, folder: Path, beginning: str) -> None:
     elif beginning == "killed server":
         with served(program, folder / "day.db") as port:
             rates = [{"from": "2010-05", "rate": "3.50"}]
-            assert asked(port, post("/rates", {"desk": 8, "number": 1, "rates": rates}))
+            answered(port, post("/rates", {"desk": 8, "number": 1, "rates": rates}))
         assert (folder / "day.db-wal").stat().st_size > 0
 
 
 def sent(process: subprocess.Popen[bytes], port: int, message: bytes) -> bytes:
     """What `serve` answers to a message, once it says that it listens, as far as it comes."""
     answer = b""
-    if piped(process.stderr).readline():
-        try:
+    with contextlib.suppress(OSError):
+        if piped(process.stderr).readline():
             with socket.create_connection(("127.0.0.1", port), 60) as client:
                 client.sendall(message)
                 while more := client.recv(65536):
                     answer += more
-        except OSError:
-            pass
     return answer
 
 
@@ -103,15 +93,10 @@ class Bench:
         shutil.rmtree(self.place / "case", ignore_errors=True)
         return Path(shutil.copytree(self.before[at], self.place / "case"))
 
-    def run(
-        self, folder: Path, command: Command, tracer: tuple[str, ...] = ()
-    ) -> tuple[int, bytes]:
+    def run(self, folder: Path, command: Command, *tracer: str) -> tuple[int, bytes]:
         """The status of a command, and what it answered and printed."""
-        words, pipe, answer = (
-            [*tracer, str(self.program), *command.words.split()],
-            subprocess.PIPE,
-            b"",
-        )
+        answer, pipe = b"", subprocess.PIPE
+        words = [*tracer, str(self.program), *command.words.split()]
         serves, port = command.words.startswith("serve"), free_port()
         words += [str(port)] if serves else []
         with subprocess.Popen(words, cwd=folder, stdin=pipe, stdout=pipe, stderr=pipe) as process:
@@ -126,20 +111,15 @@ class Bench:
         files = ["-P", str(folder / "day.db"), "-P", str(folder / "day.db-wal")]
         inject = f"--inject={call}:signal=SIGKILL:when={when}"
         traced = ["strace", "-f", "-qq", "-o", "/dev/null", f"--trace={call}", inject]
-        status, said = self.run(folder, self.row[at], (*traced, *files[: 0 if of_answer else 4]))
+        status, said = self.run(folder, self.row[at], *traced, *files[: 0 if of_answer else 4])
         if status == 0:
             assert said == self.printed[at]
             return False
         assert status == -signal.SIGKILL and self.printed[at].startswith(said), (status, said)
-        assert self.rest(folder, self.row, at) == self.printed[at:], (call, when)
+        rest = [self.run(folder, command) for command in self.row[at:]]
+        assert rest == [(0, said) for said in self.printed[at:]], (call, when)
         assert content(folder) == self.content, (call, when)
         return True
-
-    def rest(self, folder: Path, row: list[Command], at: int) -> list[bytes]:
-        """What the commands from one on print, which have to end well."""
-        ended = [self.run(folder, command) for command in row[at:]]
-        assert all(status == 0 for status, _ in ended), ended
-        return [said for _, said in ended]
 
 
 def content(folder: Path) -> list[object]:
@@ -160,7 +140,7 @@ def bench(request: pytest.FixtureRequest, program: Path, folder: Path) -> Bench:
 def test_every_kill(bench: Bench, every: int) -> None:
     for at, command in enumerate(bench.row):
         kills = 0
-        for call, of_answer in [*((call, False) for call in CALLS), ("write", True)]:
+        for call, of_answer in [*((call, False) for call in CALLS.split()), ("write", True)]:
             when = 1
             while bench.is_killed(at, call, of_answer, when):
                 kills, when = kills + 1, when + every
@@ -169,14 +149,12 @@ def test_every_kill(bench: Bench, every: int) -> None:
 
 
 @pytest.mark.parametrize("bench", BEGINNINGS[:1], indirect=True)
-@pytest.mark.parametrize(
-    "at, numbers",
-    [(0, (11, 2, 3, 4, 5)), (1, (1, 12, 3, 4, 5)), (3, (1, 2, 3, 14, 5)), (6, (1, 2, 3, 4, 15))],
-)
-def test_second_act_is_found(bench: Bench, at: int, numbers: tuple[int, ...]) -> None:
+@pytest.mark.parametrize("at, place", [(0, 0), (1, 1), (3, 3), (6, 4)])
+def test_second_act_is_found(bench: Bench, at: int, place: int) -> None:
     """Control: a request again under a new number gives other replies and rows."""
     folder = bench.case(at)
     bench.run(folder, bench.row[at])
+    numbers = tuple(10 * (n == place) + number for n, number in enumerate(NUMBERS))
     again = [commands(numbers)[at], *bench.row[at + 1 :]]
     said = [bench.run(folder, command)[1] for command in again]
     assert said != bench.printed[at:] and content(folder) != bench.content

@@ -1,14 +1,9 @@
-"""New stores are SQLite's, earlier ones keep their pages, and files that are no stores are refused.
-
-On a full disk a command is done, or refused and leaves what opens on a disk with room. A crash
-at each call while a file is created is tested by test_crash_images and by `a_stop_at_each_call`
-of store_tests."""
-
-from __future__ import annotations
+"""New stores are SQLite's, earlier ones keep their pages, and files that are no stores are refused. On a full
+disk a command is done, or refused and leaves what opens on a disk with room."""
 
 import shutil
 import subprocess
-from collections.abc import Callable, Iterator
+from collections.abc import Iterator
 from contextlib import contextmanager
 from pathlib import Path
 
@@ -63,12 +58,6 @@ def shown(store: Path) -> list[int]:
     """The page size and the version, of a file that SQLite finds whole."""
     assert rows(store, "PRAGMA integrity_check") == [("ok",)]
     return [rows(store, text)[0][0] for text in ("PRAGMA page_size", "SELECT version FROM desk")]
-
-
-def held(store: Path) -> list[bytes | None]:
-    """What the file and its log hold, None for one that is missing."""
-    files = [store, store.with_name(store.name + "-wal")]
-    return [file.read_bytes() if file.exists() else None for file in files]
 
 
 @pytest.fixture
@@ -127,11 +116,11 @@ NONE += [b"SQLite format 3\0" + b"\0" * (PAGE - 16)]
 @pytest.mark.parametrize("log", [None, b"", b"\0", b"\xff" * 15, b"\xff" * 12, "at rest"])
 def test_files_that_are_none(counter: Counter, store: Path, log: bytes | str | None) -> None:
     """They are refused twice, keep their bytes, and their log gets no other length."""
+    beside = store.with_name("day.db-wal")
     if log == "at rest":
         counter.export(store)
-        log = held(store)[1]
-        assert log is not None and len(log) == 41
-    beside = store.with_name("day.db-wal")
+        log = beside.read_bytes()
+        assert len(log) == 41
     for content in NONE:
         store.write_bytes(content)
         beside.unlink(missing_ok=True)
@@ -139,9 +128,8 @@ def test_files_that_are_none(counter: Counter, store: Path, log: bytes | str | N
             beside.write_bytes(log)
         for _ in range(2):
             assert counter.export(store) == (3, "", FAILED), content
-            file, found = held(store)
-            assert file == content, content
-            assert found is not None and len(found) in (0, 1, 12, 15, 41), content
+            assert store.read_bytes() == content
+            assert beside.stat().st_size in (0, 1, 12, 15, 41), content
 
 
 def test_empty_file_is_taken(counter: Counter, store: Path) -> None:
@@ -161,11 +149,11 @@ def disk(folder: Path, kib: int) -> Iterator[Path]:
         subprocess.run(["umount", small], check=True)
 
 
-def freed(store: Path, folder: Path) -> Path:
+def freed(store: Path) -> Path:
     """A copy of what a command left, on a disk with room."""
     for end in ("", "-wal"):
-        shutil.copy(f"{store}{end}", folder / f"freed.db{end}")
-    return folder / "freed.db"
+        shutil.copy(f"{store}{end}", store.parent.with_name(f"freed.db{end}"))
+    return store.parent.with_name("freed.db")
 
 
 @pytest.mark.root
@@ -177,38 +165,35 @@ def test_new_store_on_a_full_disk(counter: Counter, folder: Path) -> None:
             outcomes.add(ran[0])
             assert ran in ((0, EXPORTED, ""), (3, "", FAILED))
             if ran[0] == 3:
-                copy = freed(small / "new.db", folder)
+                copy = freed(small / "new.db")
                 assert counter.export(copy) == (0, EXPORTED, "") and shown(copy) == [PAGE, 2]
     assert outcomes == {0, 3}, "control: some disks are full, and some have room"
 
 
-def migrate(counter: Counter, store: Path) -> Ran:
-    return counter.export(store, 999_999_999)
-
-
-def open_day(counter: Counter, store: Path) -> Ran:
-    day = post("/day/open", {"number": 9, "day": "2099-05-04"}, b"")
-    status, _, fault = counter.run(f"apply --db {store}", day)
-    return status, "", fault
-
-
 @pytest.mark.root
-@pytest.mark.parametrize("command, done", [(migrate, (0, EXPORTED, "")), (open_day, (0, "", ""))])
-def test_command_on_a_full_disk(
-    counter: Counter, folder: Path, command: Callable[[Counter, Path], Ran], done: Ran
-) -> None:
+@pytest.mark.parametrize("migrates", [True, False])
+def test_command_on_a_full_disk(counter: Counter, folder: Path, migrates: bool) -> None:
     """It is done, or refused and leaves the file as it was, which opens on a disk with room."""
+
+    def run(store: Path) -> Ran:
+        if migrates:
+            return counter.export(store, 999_999_999)
+        day = post("/day/open", {"number": 9, "day": "2099-05-04"}, b"")
+        status, _, fault = counter.run(f"apply --db {store}", day)
+        return status, "", fault
+
+    done = (0, EXPORTED if migrates else "", "")
     base, outcomes = folder / "base.db", set()
-    if command is migrate:
+    if migrates:
         make_version_one(base, 2000, 300)
     else:
         counter.export(base)
     for room in (64, 128, 192, 248, 264, 320, 768):
         with disk(folder, -(-base.stat().st_size // 4096) * 4 + room) as small:
             store = Path(shutil.copy(base, small / "day.db"))
-            ran = command(counter, store)
+            ran = run(store)
             outcomes.add(ran[0])
             if ran != done:
-                assert (ran[0], ran[2]) == (3, FAILED) and held(store)[0] == held(base)[0], ran
-                assert command(counter, freed(store, folder)) == done
+                assert ran[::2] == (3, FAILED) and store.read_bytes() == base.read_bytes(), ran
+                assert run(freed(store)) == done
     assert outcomes == {0, 3}, "control: some disks are full, and some have room"

@@ -1,20 +1,7 @@
-"""Losses of power under a load, on the file systems of this machine's kernel: what each leaves
-opens.
-
-Requests are sent to `apply`, which ends, and to `serve`, which is killed, in turn, while another
-program writes and syncs. The disk, a file in memory, is served by FUSE, which records its writes
-and flushes in order. Whether a disk keeps what it was told to flush isn't tested.
-
-An image has all writes before the last flush; later ones are lost, kept, reordered or torn into
-sectors. For each fifth image power is lost again while it is mounted and opened. It is right if the
-next command shows the books after at least all acknowledged requests and at most those that were
-sent; and if all requests, sent again, get the responses of the undisturbed load byte for byte.
-
-IMAGES names how many are tried of each file system, REQUESTS how many are sent, and OPTIONS
-those of `mount`. ext4 and btrfs suppose that the disk doesn't tear their superblock; with TORN=1
-it is torn too, and what isn't mounted is repaired first."""
-
-from __future__ import annotations
+"""Losses of power under a load, on the file systems of this machine's kernel: what each leaves opens. A disk
+in memory, served by FUSE, records its writes and flushes; images lose, keep, reorder or tear those since
+the last flush. REQUESTS are sent, IMAGES are tried, OPTIONS are those of `mount`, and TORN=1 tears the
+superblock of ext4 and btrfs too, which suppose that a disk doesn't."""
 
 import ctypes
 import filecmp
@@ -69,10 +56,7 @@ class Case:
                 neighbour = day.Neighbour(self.mounted, Random(self.dice.random()))
                 try:
                     messages = day.requests(REQUESTS, self.dice)
-                    position = disk.position
-                    self.played = day.play(
-                        self.program, self.store, messages, position, self.dice, setup
-                    )
+                    self.played = day.play(self, messages, disk.position, setup)
                 finally:
                     neighbour.stop()
         finally:

@@ -1,12 +1,8 @@
-"""Requests for memory are refused in turn: to the built program, and to tests of the crates.
+"""Requests for memory are refused in turn: to the built program, and to tests of the crates. Every answer but
+503 NoMemory is that of a desk that got the served requests alone; the next command finds those books, and
+the same requests again have their one reply each. CHOSEN names how many of each kind are tried."""
 
-Every answer that isn't 503 NoMemory is byte for byte that of a desk that got the served requests
-alone; not more answers are NoMemory than requests were refused; the next command finds those books;
-and the same requests again have their one reply each. CHOSEN names how many of each kind are tried,
-25 if it isn't set."""
-
-from __future__ import annotations
-
+import itertools
 import os
 import random
 import re
@@ -23,6 +19,7 @@ from tests.shared.hostile.returning import come_back, put, shows_ample
 from tests.shared.hostile.scenes import CONNECTIONS, FILES, Scene
 
 CHOSEN = int(os.environ.get("CHOSEN", "10"))
+Scenes = dict[str, Scene]
 ENDINGS = {"", "no memory", "store: NotWrittenBack", "file: row 1 code 74"}
 
 
@@ -63,9 +60,7 @@ def asked_of(program: Program, scene: Scene) -> int:
 
 
 @pytest.mark.parametrize("name", [*CONNECTIONS, *FILES])
-def test_program(
-    hostile: Program, scenes: dict[str, Scene], name: str, dice: random.Random
-) -> None:
+def test_program(hostile: Program, scenes: Scenes, name: str, dice: random.Random) -> None:
     """One request is refused, or all from one on, or a pair; and one more than there are, which
     none meets."""
     scene, asked = scenes[name], asked_of(hostile, scenes[name])
@@ -78,9 +73,7 @@ def test_program(
     assert all(meets(hostile, scene, pair, 2) for pair in pairs)
 
 
-def test_wrong_program_is_found(
-    hostile: Program, scenes: dict[str, Scene], dice: random.Random
-) -> None:
+def test_wrong_program_is_found(hostile: Program, scenes: Scenes, dice: random.Random) -> None:
     """Control: a program that goes on answering that it lacks memory."""
     scene = scenes["at rest"]
     asked = asked_of(hostile, scene)
@@ -89,18 +82,10 @@ def test_wrong_program_is_found(
             meets(hostile, scene, f"{at} 1", 1, "stays_refused")
 
 
-OVER = [
-    f"{what}_over_{place}"
-    for what in ("a_day", "a_stream", "files", "one_list")
-    for place in ("a_list", "tables")
-]
-TESTS = {
-    "library_tests": ["framing", "calls", "wire", "files::written"],
-    "store_tests": [
-        "version_1_many_replies",
-        *(f"refused::refused_memory_in_{one}" for one in OVER),
-    ],
-}
+OVER = itertools.product(("a_day", "a_stream", "files", "one_list"), ("a_list", "tables"))
+TESTS = {"library_tests": ["framing", "calls", "wire", "files::written"]}
+TESTS["store_tests"] = ["version_1_many_replies"]
+TESTS["store_tests"] += [f"refused::refused_memory_in_{what}_over_{place}" for what, place in OVER]
 #: How a test says that memory was refused to its own preparation or comparison.
 LACKS = r"^error: .*(AllocFailed|AllocError|NoMemory|OutOfMemory|unserved)"
 LACKS += r"|: [A-Za-z]*[(]?(AllocFailed|AllocError|OutOfMemory)( \{ \.\. \})?[)]?$"

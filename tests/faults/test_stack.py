@@ -1,15 +1,10 @@
-"""The least stack with which every command does its work: large bodies, deep JSON, long lists, many
-bonds.
-
-What is said with 8,192 KiB is what the rules give, and half of that is enough. TABLE=1 measures
-the least stack of each, in KiB, for benchmarks/README.md."""
-
-from __future__ import annotations
+"""The least stack with which every command does its work: what is said with 8,192 KiB is what the rules
+give, and half of that is enough. TABLE=1 measures the least stack of each, for benchmarks/README.md."""
 
 import functools
 import os
 import resource
-from typing import Callable, NamedTuple
+from typing import NamedTuple
 
 import pytest
 
@@ -33,18 +28,15 @@ class Case(NamedTuple):
     wanted: bytes | None = None
 
 
-def limited(kib: int) -> Callable[[], None]:
-    most = resource.getrlimit(resource.RLIMIT_STACK)[1]
-    return lambda: resource.setrlimit(resource.RLIMIT_STACK, (kib << 10, most))
-
-
 def run(program: Program, case: Case, kib: int, plant: str = "") -> tuple[int, bytes, str]:
     path = program.place("stack")
     if case.base:
         store.copy(case.base, path)
-    words = case.words.replace("DB", path).split()
+    words, stack = case.words.replace("DB", path).split(), resource.RLIMIT_STACK
+    limits = (kib << 10, resource.getrlimit(stack)[1])
+    limited = lambda: resource.setrlimit(stack, limits)
     try:
-        ran = program.run(path, words, case.stream, bool(plant), limited(kib), plant=plant)
+        ran = program.run(path, words, case.stream, bool(plant), limited, plant=plant)
     except OSError as error:
         return -1, b"", str(error)
     return ran.status, ran.told, ran.faults
@@ -91,10 +83,8 @@ def bodies() -> dict[str, bytes]:
 def lists() -> dict[str, bytes]:
     """Lists over a begun store that are accepted, and as long as a body may be."""
     months = [f"{2005 + n // 2}-{(5, 11)[n % 2]:02}" for n in range(190)]
-    rates = [
-        {"from": month, "rate": f"{n % 20}.{n % 97:02}", "extension": f"{n % 19}.50"}
-        for n, month in enumerate(months)
-    ]
+    terms = [(month, f"{n % 20}.{n % 97:02}", f"{n % 19}.50") for n, month in enumerate(months)]
+    rates = [dict(zip(("from", "rate", "extension"), one)) for one in terms]
     one, day = {"from": "2010-11", "rate": "3.50"}, {"day": "2012-02-06", "payee": 7}
     serials = [f"A{n}EE" for n in range(1, 96_330)]
     hundred = posted("/bonds", {"number": 8, "bonds": bonds("A", 1, 100)})
@@ -109,11 +99,8 @@ def lists() -> dict[str, bytes]:
     }
 
 
-class Made(NamedTuple):
-    """A store and its books."""
-
-    path: str
-    books: desk.Books
+#: A store and its books.
+Made = tuple[str, desk.Books]
 
 
 @pytest.fixture(scope="module")
@@ -121,21 +108,19 @@ def begun(hostile: Program) -> Made:
     text = talk.texts("BEGUN")["BEGUN"]
     path = hostile.place("begun")
     hostile.apply(path, talk.stream(text), shimmed=False)
-    return Made(path, judging.start([text]))
+    return path, judging.start([text])
 
 
 @pytest.fixture(scope="module")
 def owned(hostile: Program, begun: Made) -> Made:
     """One customer has 17,000 bonds more."""
-    made = Made(hostile.place("owned"), begun.books.copy())
-    store.copy(begun.path, made.path)
-    stream = b"".join(
-        posted("/bonds", {"number": 100 + part, "bonds": bonds("B", part * 500 + 1, 500)})
-        for part in range(34)
-    )
-    wanted, _ = counter.connection(made.books, stream)
-    assert hostile.apply(made.path, stream, shimmed=False).told == wanted
-    return made
+    path, books = hostile.place("owned"), begun[1].copy()
+    store.copy(begun[0], path)
+    parts = [{"number": 100 + n, "bonds": bonds("B", n * 500 + 1, 500)} for n in range(34)]
+    stream = b"".join(posted("/bonds", part) for part in parts)
+    wanted, _ = counter.connection(books, stream)
+    assert hostile.apply(path, stream, shimmed=False).told == wanted
+    return path, books
 
 
 def right(program: Program, case: Case, name: str, plant: str = "") -> None:
@@ -158,18 +143,18 @@ def test_bodies(hostile: Program, name: str) -> None:
 @pytest.mark.parametrize("name", lists())
 def test_lists(hostile: Program, begun: Made, name: str) -> None:
     stream = lists()[name]
-    wanted, _ = counter.connection(begun.books.copy(), stream)
-    right(hostile, Case(APPLY, begun.path, stream, wanted), name)
+    wanted, _ = counter.connection(begun[1].copy(), stream)
+    right(hostile, Case(APPLY, begun[0], stream, wanted), name)
 
 
 def test_inventories(hostile: Program, owned: Made) -> None:
-    sheet = owned.books.ask_inventory(7, 12 * 2012 + 1).encode()
+    sheet = owned[1].ask_inventory(7, 12 * 2012 + 1).encode()
     asked = talk.message("GET /inventory/7/2012-02")
-    wanted, _ = counter.connection(owned.books, asked)
-    right(hostile, Case(APPLY, owned.path, asked, wanted), "an inventory of 17,003 bonds")
-    exported = owned.books.export(7).encode()
-    right(hostile, Case("export 7 --db DB", owned.path, b"", exported), "`export` of 17,003 bonds")
-    case = Case("sheet 7 2012-02 --db DB", owned.path, b"", sheet)
+    wanted, _ = counter.connection(owned[1], asked)
+    right(hostile, Case(APPLY, owned[0], asked, wanted), "an inventory of 17,003 bonds")
+    exported = owned[1].export(7).encode()
+    right(hostile, Case("export 7 --db DB", owned[0], b"", exported), "`export` of 17,003 bonds")
+    case = Case("sheet 7 2012-02 --db DB", owned[0], b"", sheet)
     right(hostile, case, "`sheet` of 17,003 bonds")
 
 
@@ -178,9 +163,9 @@ def test_files(hostile: Program, begun: Made) -> None:
     header = b"serial,denom,issued,owner,coowner\n"
     words = "import inventory {} --db DB --number 9"
     path = words.format(scenes.written(hostile, "five_hundred.csv", header + rows))
-    right(hostile, Case(path, begun.path, b"", b'{"new":500,"same":0}\n'), "`import` of 500 bonds")
+    right(hostile, Case(path, begun[0], b"", b'{"new":500,"same":0}\n'), "`import` of 500 bonds")
     path = words.format(scenes.written(hostile, "quoted.csv", b'"' * 1_048_576))
-    right(hostile, Case(path, begun.path), "`import` of a file of 1,048,576 quotes")
+    right(hostile, Case(path, begun[0]), "`import` of a file of 1,048,576 quotes")
 
 
 def test_words(hostile: Program) -> None:

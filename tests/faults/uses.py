@@ -1,8 +1,6 @@
 """Wrong uses that need something in their folder: paths, stores, ports, streams and disks; and
 how a use is tried."""
 
-from __future__ import annotations
-
 import fcntl
 import os
 import shlex

@@ -1,7 +1,5 @@
 """What the tests share: messages and answers, servers, and a load whose answers the rules give."""
 
-from __future__ import annotations
-
 import contextlib
 import json
 import os

@@ -1,8 +1,6 @@
 """What the library is to answer, by whole-number arithmetic of the tests' own: the rule of
 rounding by sixth powers, the chain of half-years, the calculator's notes. It shares nothing with
 the library."""
-from __future__ import annotations
-
 import functools
 import random
 

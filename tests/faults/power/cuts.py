@@ -1,8 +1,6 @@
 """What a disk may hold after a power loss: all writes before the last flush, and of the later
 ones any, in any order, and of each any sectors."""
 
-from __future__ import annotations
-
 import os
 import zlib
 from random import Random

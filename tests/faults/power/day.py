@@ -1,21 +1,17 @@
 """The load: requests of some days at the counter, sent one after the other, and how much of the
 disk was recorded when each was sent and answered."""
 
-from __future__ import annotations
-
 import ctypes
 import os
 import platform
-import signal
 import socket
 import struct
 import subprocess
 import threading
-import time
 from random import Random
-from typing import Callable
+from typing import Callable, Protocol
 
-from tests.shared.counter_calls import free_port, matched, piped
+from tests.shared.counter_calls import end, free_port, matched, piped, serve
 from tests.shared.hostile import counter, desk, judging, making, talk
 from tests.shared.hostile.judging import Wrong
 
@@ -95,25 +91,15 @@ class Served:
 
     def __init__(self, path: str, store: str, setup: Setup | None) -> None:
         port = free_port()
-        words, none = [path, "serve", "--db", store, "--port", str(port)], subprocess.DEVNULL
-        self.process = subprocess.Popen(words, stdout=none, preexec_fn=setup)
-        until = time.time() + SECONDS
-        while True:
-            try:
-                self.client = socket.create_connection(("127.0.0.1", port), timeout=SECONDS)
-                return
-            except ConnectionRefusedError:
-                if self.process.poll() is not None or time.time() > until:
-                    raise Wrong("`serve` doesn't listen")
-                time.sleep(0.005)
+        self.process = serve(path, store, port, preexec_fn=setup)
+        self.client = socket.create_connection(("127.0.0.1", port), timeout=SECONDS)
 
     def ask(self, message: bytes) -> bytes:
         self.client.sendall(message)
         return read_answer(lambda: self.client.recv(65536))
 
     def end(self) -> None:
-        self.process.send_signal(signal.SIGKILL)
-        self.process.wait(SECONDS)
+        end(self.process)
         self.client.close()
 
 
@@ -172,26 +158,29 @@ class Played:
         return set(self.chain[acknowledged : max(acknowledged, sent) + 1])
 
 
+class Place(Protocol):
+    """Where the load is played: the program, the path of a store, and dice."""
+
+    program: str
+    store: str
+    dice: Random
+
+
 def play(
-    path: str,
-    store: str,
-    messages: list[bytes],
-    position: Callable[[], int],
-    dice: Random,
-    setup: Setup | None = None,
+    place: Place, messages: list[bytes], position: Callable[[], int], setup: Setup | None = None
 ) -> Played:
     """Send the requests to `apply` and `serve` in turn. The first command meets no store."""
     answers, sent, came = list[bytes](), list[int](), list[int]()
-    place, turn = 0, 0
-    while place < len(messages):
-        talked = (Applied, Served)[turn % 2](path, store, setup)
+    turn = 0
+    while len(answers) < len(messages):
+        talked = (Applied, Served)[turn % 2](place.program, place.store, setup)
         try:
-            for message in messages[place : place + dice.randint(5, 40)]:
+            for message in messages[len(answers) :][: place.dice.randint(5, 40)]:
                 sent.append(position())
                 answers.append(talked.ask(message))
                 came.append(position())
             talked.end()
         finally:
             talked.process.kill()
-        place, turn = len(answers), turn + 1
+        turn += 1
     return Played(messages, answers, sent, came)

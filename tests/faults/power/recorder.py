@@ -1,12 +1,5 @@
-"""A disk whose writes and flushes are recorded in order: a file that a process of its own serves by
-FUSE, for a loop device over it.
-
-A loop device passes on each write as a write of its file, and each flush as an fsync. It offers
-no forced writes (FUA), so the kernel sends each of those as a write and a flush. The server
-records a step, does it and answers it before it takes the next one. So a flush covers exactly
-the writes before it in the record."""
-
-from __future__ import annotations
+"""A disk whose writes and flushes are recorded in order: a file that a process serves by FUSE, for a loop
+device over it. It offers no forced writes (FUA), and does each step before it takes the next one."""
 
 import ctypes
 import dataclasses

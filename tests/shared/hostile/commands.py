@@ -1,13 +1,12 @@
 """Commands over a store, and whether what one told is right: a connection by `apply` or `serve`,
 an import, an export, a sheet."""
-from __future__ import annotations
-
-import subprocess
-import time
 import socket as sockets
+import subprocess
 from typing import Any
 
-from ..counter_calls import free_port
+from tests.fence.wire import everything
+from tests.shared import counter_calls
+from tests.shared.counter_calls import free_port, piped
 
 from . import desk, judging, spelling
 from .judging import Wrong
@@ -20,9 +19,7 @@ def rates_rows(file: bytes) -> tuple[tuple[int | None, int | None, int | None], 
     return tuple((spelling.issue(b), spelling.rate(r), spelling.rate(e)) for b, r, e in whole)
 
 
-def bond_rows(
-    file: bytes,
-) -> tuple[tuple[spelling.Serial | None, int, int | None, int, int | None], ...]:
+def bond_rows(file: bytes) -> tuple[tuple[Any, ...], ...]:
     rows = [line.split(",") for line in file.decode().splitlines()[1:]]
     return tuple(
         (spelling.serial(s), int(d), spelling.issue(i), int(o), int(c) if c else None)
@@ -67,43 +64,19 @@ class Served(Connection):
         port = free_port()
         words = [program.path, "serve", "--db", store, "--port", str(port), "--connections", "1"]
         counts = store + ".counts"
-        environment = program.environment(store, **hostile)
-        pipe, told = subprocess.PIPE, b""
-        process = subprocess.Popen(words, stdout=pipe, stderr=pipe, env=environment)
-        client = connected(process, port)
-        if client:
-            with client:
-                client.sendall(self.stream)
-                client.shutdown(sockets.SHUT_WR)
-                told = rest_of(client)
-        out, faults = process.communicate(timeout=SECONDS)
+        environment, pipe, told = program.environment(store, **hostile), subprocess.PIPE, b""
+        with subprocess.Popen(words, stdout=pipe, stderr=pipe, env=environment) as process:
+            said = piped(process.stderr).readline()
+            if said == b"listening on port %d\n" % port:
+                with counter_calls.connected(port, SECONDS) as client:
+                    client.sendall(self.stream)
+                    client.shutdown(sockets.SHUT_WR)
+                    told, said = everything(client), b""
+            out, faults = process.communicate(timeout=SECONDS)
         has_failed = b"the store failed" in out
         if told and (b'"StoreFailed"' in told, out[:14]) != (has_failed, b"connection 1: "):
             raise Wrong(f"`serve` told {out!r}")
-        said = faults.decode(errors="replace").removeprefix(f"listening on port {port}\n")
-        return Ran(process.returncode, told, said, read_counts(counts))
-
-
-def connected(process: subprocess.Popen[bytes], port: int) -> sockets.socket | None:
-    """A connection to a server, or None where it ends before it listens."""
-    until = time.time() + SECONDS
-    while process.poll() is None and time.time() < until:
-        client = sockets.socket()
-        try:
-            client.connect(("127.0.0.1", port))
-            return client
-        except ConnectionRefusedError:
-            client.close()
-            time.sleep(0.002)
-    return None
-
-
-def rest_of(client: sockets.socket) -> bytes:
-    client.settimeout(SECONDS)
-    text = b""
-    while more := client.recv(65536):
-        text += more
-    return text
+        return Ran(process.returncode, told, (said + faults).decode(), read_counts(counts))
 
 
 class Import:
@@ -116,9 +89,8 @@ class Import:
         self.act = ("rates", rates_rows(file)) if kind == "rates" else ("bonds", bond_rows(file))
 
     def run(self, program: Program, store: str, **hostile: Any) -> Ran:
-        return program.enter(
-            store, self.kind, self.path, self.number, self.desk, file=self.path, **hostile
-        )
+        words = (self.kind, self.path, self.number, self.desk)
+        return program.enter(store, *words, file=self.path, **hostile)
 
     def delivered(self, books: desk.Books) -> tuple[desk.Books, bytes, int]:
         after = books.copy()

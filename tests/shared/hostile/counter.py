@@ -1,7 +1,5 @@
 """What a connection is answered, byte for byte: the messages of its stream, what each asks for,
 and what the desk says to it."""
-from __future__ import annotations
-
 from typing import Any
 
 from . import decoding, desk, framing, talk

@@ -1,7 +1,5 @@
 """What a message asks for, or its first fault, by the rules of docs/FORMATS.md, 'Requests': the
 route, the method, the body field by field."""
-from __future__ import annotations
-
 from typing import Any, Callable, Sequence, TypeVar
 
 from . import framing, json_text, spelling

@@ -220,11 +220,8 @@ class Books:
         return None if terms is None else row_told(columns(dollars, issued, month, terms))
 
     def unpaid(self, owner: int) -> list[tuple[Serial, int, int, int, int | None]]:
-        return sorted(
-            (serial, *bond)
-            for serial, bond in self.bonds.items()
-            if bond[2] == owner and serial not in self.paid_on
-        )
+        unpaid = {serial: self.bonds[serial] for serial in self.bonds.keys() - self.paid_on.keys()}
+        return sorted((serial, *bond) for serial, bond in unpaid.items() if bond[2] == owner)
 
     def ask_inventory(self, owner: int, month: int) -> str:
         rows = [

@@ -1,12 +1,6 @@
-"""The model of a disk: what a crash may leave of two files, from the record of what was written to
-them, cut and synced.
-
-After a crash each byte below the last synced length is the old one or one that was written
-since; synced bytes are kept; past the last synced length there may be anything; and the length
-is between the synced one and those that were reached since. The two files are independent of one
-another. A file that was made is there for sure once its folder was synced."""
-from __future__ import annotations
-
+"""The model of a disk: what a crash may leave of two files. Each byte below the last synced length is the old
+one or one written since; past it there may be anything; the length is between the synced one and those
+reached since. A file that was made is there for sure once its folder was synced."""
 import dataclasses
 import random
 import struct

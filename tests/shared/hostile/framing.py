@@ -1,7 +1,5 @@
 """How a stream is split into messages, by the rules of docs/FORMATS.md, 'Framing': line by line
 over all bytes, and not as they come."""
-from __future__ import annotations
-
 import dataclasses
 import re
 
@@ -87,9 +85,8 @@ def message_at(stream: bytes, begun: int) -> tuple[Message, int]:
     length = body_length(fields)
     if len(stream) - at < length:
         raise Fault(68)
-    closes = request[3] == b"0" or any(
-        value.lower() == b"close" for value in values(fields, b"connection")
-    )
+    closing = [value.lower() for value in values(fields, b"connection")]
+    closes = request[3] == b"0" or b"close" in closing
     return Message(request[1], request[2], stream[at : at + length], closes), at + length
 
 

@@ -1,9 +1,5 @@
-"""JSON by RFC 8259, as strictly as docs/FORMATS.md wants it: UTF-8, arrays and objects at most
-127 deep, no half of a surrogate pair, no number beyond a float of 64 bits. A whole number that has
-neither sign, point nor exponent and fits 64 bits is an int, any other number a Number. Of a
-repeated key the last value stays."""
-
-from __future__ import annotations
+"""JSON by RFC 8259, as strictly as docs/FORMATS.md wants it. A whole number of 64 bits that has neither sign,
+point nor exponent is an int, any other number a Number. Of a repeated key the last value stays."""
 
 import json
 from typing import Any, NoReturn

@@ -1,7 +1,5 @@
 """Whether a run under faults is right: what it answered is followed by the desk's rules, with
 the books that may stand after each answer."""
-from __future__ import annotations
-
 import dataclasses
 import hashlib
 from typing import Iterable
@@ -9,6 +7,8 @@ from typing import Iterable
 from . import counter, desk, framing, store, talk
 from .program import Ran
 
+#: Books that may stand.
+Many = list[desk.Books]
 FAULTS_TOLD = {"store: StoreFailed", "store: NotWrittenBack", "input or output failed", "no memory"}
 
 
@@ -56,9 +56,7 @@ def delivered(books: desk.Books, message: framing.Message) -> tuple[desk.Books, 
     return after, counter.answer(after, message)
 
 
-def step(
-    many: list[desk.Books], message: framing.Message, told: bytes, at: int
-) -> tuple[list[desk.Books], int]:
+def step(many: Many, message: framing.Message, told: bytes, at: int) -> tuple[Many, int]:
     """The books that may stand after the next answer, and its length: right at some of the
     books, or 503."""
     found, length = [], 0
@@ -71,8 +69,8 @@ def step(
 
 
 def unserved(
-    many: list[desk.Books], message: framing.Message, told: bytes, at: int
-) -> tuple[str | None, list[desk.Books], int]:
+    many: Many, message: framing.Message, told: bytes, at: int
+) -> tuple[str | None, Many, int]:
     """The same where the next answer is a 503: which, and the books. A request that met a failed
     store may stand."""
     if told.startswith(counter.NO_MEMORY, at):
@@ -81,13 +79,6 @@ def unserved(
         after = distinct(many + [delivered(books, message)[0] for books in many])
         return "store_failed", after, len(counter.STORE_FAILED)
     return None, many, 0
-
-
-def is_front(many: list[desk.Books], message: framing.Message, rest: bytes) -> bool:
-    """Whether what is left is a front of the next answer, and not all of it."""
-    rights = [delivered(books, message)[1] for books in many]
-    rights += [counter.NO_MEMORY, counter.STORE_FAILED]
-    return any(right.startswith(rest) and len(rest) < len(right) for right in rights)
 
 
 def follow(many: Iterable[desk.Books], messages: list[framing.Message], told: bytes) -> Heard:
@@ -99,12 +90,12 @@ def follow(many: Iterable[desk.Books], messages: list[framing.Message], told: by
         if not found:
             word, found, length = unserved(heard.books, message, told, at)
             if word is None:
-                if not is_front(heard.books, message, told[at:]):
-                    right = delivered(heard.books[0], message)[1][:600]
-                    found_here = f"answer {heard.answered + 1} is {told[at:][:600]!r}"
-                    raise Wrong(f"{found_here}, and not {right!r}")
-                after = [delivered(books, message)[0] for books in heard.books]
-                heard.is_cut, heard.books = True, distinct(heard.books + after)
+                both, rest = [delivered(books, message) for books in heard.books], told[at:]
+                rights = [*(right for _, right in both), counter.NO_MEMORY, counter.STORE_FAILED]
+                if not any(right.startswith(rest) and rest != right for right in rights):
+                    found_here = f"answer {heard.answered + 1} is {rest[:600]!r}"
+                    raise Wrong(f"{found_here}, and not {rights[0][:600]!r}")
+                heard.is_cut, heard.books = True, distinct(heard.books + [one for one, _ in both])
                 return heard
             setattr(heard, word, getattr(heard, word) + 1)
         heard.books = found

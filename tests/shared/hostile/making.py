@@ -1,8 +1,6 @@
 """Random days at the counter: bodies that the books often take. What it makes knows nothing of
 what is right."""
 
-from __future__ import annotations
-
 import random
 
 from . import desk as desks

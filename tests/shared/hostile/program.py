@@ -1,8 +1,6 @@
 """The built program under test, run with what shim.c does to it: faults of files, refused
 memory, a record of its writes."""
 
-from __future__ import annotations
-
 import dataclasses
 import os
 import shutil

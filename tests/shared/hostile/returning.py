@@ -1,7 +1,5 @@
 """What is asked of a store after a run that met faults: the next command shows books that the
 run allows, and the same requests again have their one reply."""
-from __future__ import annotations
-
 import os
 
 from . import desk, judging, store

@@ -1,7 +1,5 @@
 """What the scripts run over: stores in the states that a file can be in, and the commands that
 meet them."""
-from __future__ import annotations
-
 import dataclasses
 import os
 
@@ -74,9 +72,8 @@ def files(program: Program) -> list[Scene]:
     rates = written(program, "rates.csv", RATES_FILE)
     bonds = written(program, "bonds.csv", BONDS_FILE)
     with_rates = made(program, "rated", talk.exchanges(days["BEGUN"])[0][0])
-    begun, start = made(program, "shown", talk.stream(days["BEGUN"])), judging.start(
-        [days["BEGUN"]]
-    )
+    begun = made(program, "shown", talk.stream(days["BEGUN"]))
+    start = judging.start([days["BEGUN"]])
     rated = desk.Books()
     rated.deliver((0, 1), ("rates", commands.rates_rows(RATES_FILE)))
     second = commands.Import("inventory", bonds, BONDS_FILE, 2, 3)

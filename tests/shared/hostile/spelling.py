@@ -1,7 +1,5 @@
 """Values as docs/FORMATS.md spells them: what a text stands for, or None, and how each is
 printed. Months are counted from year 0, days from 1970-01-01."""
-from __future__ import annotations
-
 import datetime
 import re
 

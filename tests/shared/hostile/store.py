@@ -1,7 +1,5 @@
 """Stores on disk: their rows, read by SQLite; and stores of version 1, made by the statements of
 that version."""
-from __future__ import annotations
-
 import os
 import shutil
 import sqlite3
@@ -97,14 +95,3 @@ def make_version_one(store: str, with_extensions: bool) -> None:
     base.close()
     if os.path.exists(log_of(store)):
         os.remove(log_of(store))
-
-
-def migrated(first: Rows) -> Rows:
-    """The rows of version 2 that rows of version 1 become."""
-    others = {table: found for table, found in first.items() if table not in ("replies", "desk")}
-    return {
-        **others,
-        "desk": [(identity, 2, *days) for identity, _, *days in first["desk"]],
-        "extensions": first.get("extensions", []),
-        "answers": [(0, *reply) for reply in first["replies"]],
-    }

@@ -1,7 +1,5 @@
 """Days at the counter that stand as transcripts in crates/store_tests, and those of earlier
 stores, with the answers that were worked by hand. Their little language is told in its talk.rt."""
-from __future__ import annotations
-
 import os
 import re
 from typing import Any, Iterator

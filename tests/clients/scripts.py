@@ -1,0 +1,11 @@
+"""Scripts in JavaScript that tests run within a page: the functions of a file beside this one."""
+
+import re
+from pathlib import Path
+
+
+def scripts(file: str) -> dict[str, str]:
+    """The bodies of its functions, by name."""
+    text = (Path(__file__).parent / file).read_text()
+    whole = r"^export (?:async )?function (\w+)\(.*?\) \{\n(.*?)^\}$"
+    return dict(re.findall(whole, text, re.M | re.S))
