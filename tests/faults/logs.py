@@ -70,7 +70,11 @@ class Log:
 
     def passes(self, frame: int) -> bool:
         """Whether SQLite takes a frame, behind the frame before it."""
-        if not self.has(frame) or not self.is_ours(frame) or self.page_number(frame) == 0:
+        return self.is_ours(frame) and self.page_number(frame) != 0 and self.is_right(frame)
+
+    def is_right(self, frame: int) -> bool:
+        """Whether the file has a frame, and its checksum is right behind the frame before it."""
+        if not self.has(frame):
             return False
         at = self.at(frame)
         before = self.sums_at(self.at(frame - 1) + 16 if frame else 24)
@@ -96,9 +100,19 @@ class Log:
             frame += 1
         return found == 2
 
-    def has_later_count(self) -> bool:
+    def later_counts(self) -> list[int]:
+        """The counts behind the frame after those that recovery takes, whatever their salts."""
         later = (frame for frame in self.behind()[1:] if self.page_number(frame) == COUNT_PAGE)
-        return any(self.passes(frame) for frame in later)
+        return [frame for frame in later if self.is_right(frame)]
+
+    def has_late_count(self, in_file: int) -> bool:
+        """Whether a count of this log is there; or, if no frame is taken and the first isn't
+        written, one of any log behind more pages than the file has."""
+        is_doubted = not self.taken and self.content[32:56] == bytes(24)
+        return any(
+            self.is_ours(count) or (is_doubted and self.size(count - 1) > in_file)
+            for count in self.later_counts()
+        )
 
     def lacks_sum(self) -> bool:
         newest = {page: frame for frame, page in enumerate(self.taken) if page != COUNT_PAGE}
@@ -113,7 +127,9 @@ def is_refused(file: bytes, log: Log) -> bool:
         return len(log.content) > NEW_LOG or (begins and log.content[12:16] != MARK)
     if not log.is_log:
         return len(log.content) >= 56 and not begins and log.content[1:3] != b"\x7f\x06"
-    if not log.is_signed or not log.is_known or log.has_two_more() or log.has_later_count():
+    if not log.is_signed or not log.is_known or log.has_two_more():
+        return True
+    if log.has_late_count(len(file) // log.page_size):
         return True
     return number(file, 20) == 0x08402020 and log.lacks_sum()
 
@@ -178,11 +194,17 @@ def in_sector(size: int, put: Callable[[int, int, bytes, random.Random], bytes])
     return harmed
 
 
+def older_bytes(at: int, size: int, older: bytes, dice: random.Random) -> bytes:
+    """What the file held there before; zeros where it was shorter."""
+    return older[at : at + size].ljust(size, b"\0")
+
+
 HARMS: dict[str, Harm] = {
     "a turned bit": lambda log, n, _, dice: turned(log, dice.randrange(n), 1 << dice.randrange(8)),
     "another byte": lambda log, n, _, dice: turned(log, dice.randrange(n), dice.randrange(1, 256)),
     "512 zeros": in_sector(512, lambda at, size, older, dice: bytes(size)),
     "4096 zeros": in_sector(4096, lambda at, size, older, dice: bytes(size)),
-    "4096 older bytes": in_sector(4096, lambda at, n, old, _: old[at : at + n].ljust(n, b"\0")),
+    "512 older bytes": in_sector(512, older_bytes),
+    "4096 older bytes": in_sector(4096, older_bytes),
     "512 random bytes": in_sector(512, lambda at, size, older, dice: dice.randbytes(size)),
 }

@@ -22,7 +22,7 @@ from tests.shared.checksums import size_of_pages
 from tests.shared.counter_calls import answered, apply, make_version_one, post, served
 
 TURNS = int(os.environ.get("HARMS", "100"))
-REDEMPTIONS, EARLIER = 190, 140
+REDEMPTIONS, EARLIER, FEW = 190, 140, 20
 DAY = "2012-02-06"
 
 
@@ -77,24 +77,25 @@ class Killed:
     """The files of a server that was killed after its last answer, and its log at an earlier moment;
     the answers that it kept, and its files once it was opened and closed."""
 
-    def __init__(self, place: Place, store: Path) -> None:
-        serials = [f"A{n}EE" for n in range(1, REDEMPTIONS + 1)]
+    def __init__(self, place: Place, store: Path, redemptions: int, earlier: int) -> None:
+        serials = [f"A{n}EE" for n in range(1, redemptions + 1)]
         bonds = [{"denom": 50, "issued": "2010-11", "owner": 7, "serial": one} for one in serials]
         rates = {"number": 1, "rates": [{"from": "2010-11", "rate": "3.50"}]}
         acts = [post("/rates", rates), post("/bonds", {"number": 2, "bonds": bonds})]
         for message in (*acts, post("/day/open", {"number": 3, "day": DAY})):
             assert apply(place.program, store, [message])[0][0] == 200
+        self.older = contents(store)[1]
         with served(place.program, store) as port:
             for n, serial in enumerate(serials, 1):
                 act = {"number": 100 + n, "day": DAY, "payee": 7, "serials": [serial]}
                 assert answered(port, post("/redeem", act))[0] == 200
-                if n == EARLIER:
+                if n == earlier:
                     self.older = contents(store)[1]
         self.file, self.content = contents(store)
         self.log = Log(self.content)
-        assert len(self.log.ends()) > 50, "the log has many transactions"
+        assert len(self.log.ends()) >= min(redemptions, 50), "the log has many transactions"
         self.kept = place.opened(self.file, self.content) or set()
-        assert len(self.kept) == REDEMPTIONS + 3
+        assert len(self.kept) == redemptions + 3
         self.closed = contents(place.store)
 
     def harmed(self, kind: str, dice: random.Random) -> bytes:
@@ -108,7 +109,14 @@ class Killed:
 @pytest.fixture(scope="module")
 def killed(place: Place) -> Iterator[Killed]:
     with in_memory() as folder:
-        yield Killed(place, folder / "killed.db")
+        yield Killed(place, folder / "killed.db", REDEMPTIONS, EARLIER)
+
+
+@pytest.fixture(scope="module")
+def young(place: Place) -> Iterator[Killed]:
+    """One whose log has few transactions, and had none while the store was at rest."""
+    with in_memory() as folder:
+        yield Killed(place, folder / "young.db", FEW, 0)
 
 
 # ---- harm
@@ -137,6 +145,33 @@ def test_recovery_alone_loses_replies(
         store = place.lay(killed.file, killed.harmed(kind, dice))
         gone += len(killed.kept - answers_in(store, "")) > 1
     assert gone > 10
+
+
+@pytest.mark.parametrize("kind", ["older", "zeros"])
+def test_sectors_of_a_short_log(kind: str, place: Place, young: Killed) -> None:
+    """Each sector in turn keeps what it held while the store was at rest, or is zeros. Only at the
+    end of the last transaction but one does that lose more than a reply unseen."""
+    size, frame = 4096, young.log.at(1) - young.log.at(0)
+    border = young.log.at(young.log.ends()[-2] + 1)
+    older, unseen = young.older if kind == "older" else b"", []
+    for at in range(0, young.log.end() - size, size):
+        log = with_bytes(young.content, at, older[at : at + size].ljust(size, b"\0"))
+        found = place.opened(young.file, log)
+        assert (found is None) == is_refused(young.file, Log(log)), at
+        if found is not None and len(young.kept - found) > 1:
+            unseen.append(at)
+    assert all(border - frame - size < at < border for at in unseen) and len(unseen) <= 2
+
+
+@pytest.mark.parametrize("size", [512, 4096])
+def test_an_older_header(size: int, place: Place, young: Killed) -> None:
+    """Controls: SQLite loses every reply of such a log without a word; and beside a file that has
+    its pages it is opened."""
+    assert len(young.older) == logs.NEW_LOG
+    log = with_bytes(young.content, 0, young.older.ljust(size, b"\0"))
+    assert place.opened(young.file, log) is None
+    assert len(answers_in(place.lay(young.file, log), "")) == 3
+    assert place.opened(young.closed[0], log) == young.kept
 
 
 def test_a_turned_first_byte_is_unseen(place: Place, killed: Killed) -> None:
@@ -206,6 +241,10 @@ def test_logs_by_hand(place: Place, killed: Killed) -> None:
     salt = b"\x01\x02\x03\x03abcd"
     earlier, earlier_counts = made_log(size, ones[:4], salt), made_log(size, counts, salt)
     unended = Transaction(unsummed.pages, 0)
+    more = [Transaction(one.pages, count + 1) for one in ones]
+    grown = made_log(size, [more[0], *(one.counted() for one in more[1:])])
+    older = made_log(size, [], salt)
+    unwritten = older + bytes(24)
 
     def frame(n: int) -> int:
         return 32 + n * (24 + size)
@@ -252,6 +291,10 @@ def test_logs_by_hand(place: Place, killed: Killed) -> None:
         ("counts: all but the last of zeros", with_bytes(counted, 32, bytes(frame(7) - 32)), False),
         ("counts: a gate shut, the later turned", turned(shut, frame(7) + 500), False),
         ("counts of an earlier log behind a shut gate", behind, False),
+        ("an older header, and more pages than the file has", unwritten + grown[56:], True),
+        ("an older header, and pages that the file has", unwritten + counted[56:], False),
+        ("an older header, and more pages uncounted", unwritten + made_log(size, more)[56:], False),
+        ("an older header, and its first frame isn't zeros", older + grown[32:], False),
     ]
     for name, log, wanted in cases:
         assert is_refused(file, Log(log)) == wanted, f"the rule: {name}"

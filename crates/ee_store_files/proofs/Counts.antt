@@ -13,10 +13,10 @@ use Rattle.sqlite_wal.specs.Log.{state, durable, newest, frames, committed_frame
 use Rattle.sqlite_wal.specs.Recovery.{frame_at, frame, header, sum_before}
 use Rattle.sqlite_wal.proofs.FormatLemmas.{be32-part}
 use Rattle.sqlite_wal.proofs.LogLemmas.{sound_of, durable_frames}
-use Rattle.sqlite_wal.proofs.PartLemmas.{slice_index-part, part_above, part_below, frames_len-lt}
+use Rattle.sqlite_wal.proofs.PartLemmas.{slice_index-part, part_above, part_below, frames_len-zero, frames_len-lt}
 use Rattle.sqlite_wal.proofs.StateLemmas.{clean_of, ready_of}
-use Rattle.ee_store_files.specs.Damage.{IsCountAt, number_at}
-use Rattle.ee_store_files.specs.Stops.{HasPages, CountsNoneSynced, CountsNoneAtOnce}
+use Rattle.ee_store_files.specs.Damage.{IsCountAt, IsUnwritten, number_at}
+use Rattle.ee_store_files.specs.Stops.{HasPages, CountsNoneSynced, CountsNoneAtOnce, Begins, BeginsSynced}
 
 number_in : (n i : ℕ) (log : List ℕ) → page_number (frame n log i) ≡ number_at n log i
 number_in n i log = be32-part log (frame_at n i) (24 + n) 0 (omega arith) ∙ ap (be32 log) (add-zero (frame_at n i))
@@ -169,3 +169,40 @@ none_at_once g old it clean landed size mixes key zeros is_open pending pages no
           faint_number (whole it is_open) before (frame_at n k) (end_of it + 9) (frame_at n i) faint (omega (arith, behind)) (omega (arith, below)) (number_of it is_open pages i past inside) (sym same ∙ is.1)
       | inr (inr later) ↦ none before may (i, later, count_was n k before c within now i (omega (arith, later, pending.0)) is)
     ]
+
+-- ---- the first frame
+
+-- a log whose first frame has the number of a page isn't one whose first frame isn't written
+is_written : (n : ℕ) (whole c : List ℕ) → page_number (frame n whole 0) ≢ 0 → ((x : ℕ) → x < 4 → slice_index c (32 + x) ≡ slice_index whole (32 + x)) → ¬ IsUnwritten c
+unfolding be32
+is_written n whole c page same unwritten =
+    let at : frame_at n 0 + 0 ≡ 32 = omega (arith, frames_len-zero n) in
+    let number : page_number (frame n whole 0) ≡ be32 whole 32 = be32-part whole (frame_at n 0) (24 + n) 0 (omega arith) ∙ ap (be32 whole) at in
+    let zero' = λ (x : ℕ) (low : x < 4). sym (same x low) ∙ unwritten.1 x (omega (arith, low)) in
+    page (omega (arith, number, zero' 0 (omega arith), zero' 1 (omega arith), zero' 2 (omega arith), zero' 3 (omega arith)))
+
+module _ {D : Type 0} {g : Ghosts D} (it : Log D g) (is_open : IsTrue (state it).is_open) where
+  -- a byte of the first frame's number, before its gate
+  number_byte : (x : ℕ) → x < 4 → 32 + x < gate_of (durable it)
+  number_byte x low = omega (arith, low, gate_is it is_open)
+
+pub begins : {D : Type 0} (g : Ghosts D) → Begins g
+begins g it is_open some before c may torn =
+    let sound = s it is_open in
+    let n = it.page_size in
+    let seen = log it is_open in
+    let stops = sound.log_safe before may in
+    let k : length (durable it).numbers ≡ committed_frames it = durable_frames it (ready_of (state it) is_open) in
+    let first : frame n before 0 ≡ frame n seen 0 = stops.shares.frames 0 (omega (arith, some, k)) in
+    let page = (sound.ready.shown.committed.valid 0 (omega (arith, some, k))).passes.page in
+    is_written n before c (λ none. page (ap page_number (sym first) ∙ none)) (λ x low. torn.below (32 + x) (omega (arith, low, stops.shut.within, number_byte it is_open x low)) (number_byte it is_open x low))
+
+pub begins_synced : {D : Type 0} (g : Ghosts D) → BeginsSynced g
+begins_synced g it is_open pending only before c may torn =
+    let sound = s it is_open in
+    let n = it.page_size in
+    let page = (sound.ready.hidden.committed.valid 0 (omega (arith, pending.0))).passes.page in
+    is_written n (whole it is_open) c page (λ x low.
+    let below = number_byte it is_open x low in
+    let then = torn.below (32 + x) (omega (arith, below, (sound.log_safe before may).shut.within)) below in
+    then ∙ ap (λ (b : List ℕ). slice_index b (32 + x)) (only before may) ∙ sym ((opens it is_open).below (32 + x) (omega (arith, below, sound.ready.shut.within)) below))

@@ -1,12 +1,12 @@
 -- Frames of a log, by their headers.
-use Rattle.std.proofs.Common.{◌≡◌, ◌≢◌, ◌↔◌, ◌+◌, ◌<◌, ◌≤◌, ◌∙◌, ℕ, suc, Bool, true, false, List, length, slice_index, refl, sym, ap, subst, subst₂, inl, inr, arith, add-zero, add-one}
+use Rattle.std.proofs.Common.{◌≡◌, ◌≢◌, ◌⊎◌, ◌↔◌, ◌+◌, ◌-◌, ◌/◌, ◌<◌, ◌≤◌, ◌∙◌, ℕ, suc, Bool, true, false, IsTrue, List, length, slice_index, refl, sym, ap, subst, subst₂, inl, inr, arith, add-zero, add-one}
 use Rattle.std.proofs.lemmas.Bool.{cases_lt}
-use Rattle.sqlite_wal.specs.Format.{part, be32, count_page, stored_sum, IsSigned, IsFrame}
+use Rattle.sqlite_wal.specs.Format.{part, be32, is_big, frame_sum, page_number, count_page, stored_sum, IsSigned}
 use Rattle.sqlite_wal.specs.Recovery.{Image, frame_at, frame, header, sum_before, IsLogFor, Replays, AreFramesOf}
 use Rattle.sqlite_wal.proofs.PartLemmas.{slice_index-part, part-part, frames_len-le}
 use Rattle.sqlite_wal.proofs.FormatLemmas.{be32-part}
 use Rattle.sqlite_wal.proofs.RecoveryLemmas.{replays_once}
-use Rattle.ee_store_files.specs.Damage.{BeginsAsLog, HasLostHeader, IsFrontOf, IsOpenAt, EndsOne, HasTwoMore, IsFrameAt, IsCountAt, HasLaterCount, number_at, AreNumbersOf, page_at, IsSummed, LacksSum, IsReplaced, size_after, IsWrongAt, IsDamaged}
+use Rattle.ee_store_files.specs.Damage.{BeginsAsLog, HasLostHeader, IsFrontOf, IsOpenAt, EndsOne, HasTwoMore, IsFrameAt, IsCountAt, IsAnyCountAt, IsLateCountAt, IsUnwritten, HasCountBehind, number_at, AreNumbersOf, page_at, IsSummed, LacksSum, IsReplaced, size_after, IsWrongAt, IsDamaged}
 
 module _ {page_size i : ℕ} {log front : List ℕ} (is : IsFrontOf page_size log i front) where
   at : ℕ
@@ -139,34 +139,85 @@ walk_ends has_one page_size log from to order it shut two =
 
 -- whether a frame is a count, by its bytes and by those of the frame before it
 pub count_by : (page_size j : ℕ) (log head before bytes : List ℕ) → IsFrameAt page_size log j before → IsFrameAt page_size log (suc j) bytes → head ≡ header log
-    → (IsFrame head (stored_sum before 16) bytes × (be32 bytes 0 ≡ count_page)) ↔ IsCountAt page_size log (suc j)
+    → ((frame_sum (is_big head) (stored_sum before 16) bytes ≡ stored_sum bytes 16) × (be32 bytes 0 ≡ count_page)) ↔ IsAnyCountAt page_size log (suc j)
 count_by page_size j log head before bytes was is head_is =
     let number : be32 bytes 0 ≡ number_at page_size log (suc j) =
     ap (λ (b : List ℕ). be32 b 0) is.read ∙ be32-part log (frame_at page_size (suc j)) (24 + page_size) 0 (omega arith) ∙ ap (be32 log) (add-zero (frame_at page_size (suc j))) in
-    let there : IsFrame head (stored_sum before 16) bytes ≡ IsFrame (header log) (sum_before page_size log (suc j)) (frame page_size log (suc j)) =
+    let there : (frame_sum (is_big head) (stored_sum before 16) bytes ≡ stored_sum bytes 16)
+    ≡ (frame_sum (is_big (header log)) (sum_before page_size log (suc j)) (frame page_size log (suc j)) ≡ stored_sum (frame page_size log (suc j)) 16) =
     rw (head_is, was.read, is.read) refl in (
-      λ both. (record { within = is.within; passes = subst (λ (T : Type 0). T) there both.0 }, sym number ∙ both.1),
-      λ it. (subst (λ (T : Type 0). T) (sym there) it.0.passes, number ∙ it.1),
+      λ both. record { within = is.within; sum = subst (λ (T : Type 0). T) there both.0; number = sym number ∙ both.1 },
+      λ it. (subst (λ (T : Type 0). T) (sym there) it.sum, number ∙ it.number),
     )
 
--- the same of frame i, behind a frame with this checksum
-pub count_at : (page_size i j : ℕ) (log head before bytes : List ℕ) (sum : ℕ × ℕ) → j + 1 ≡ i → sum ≡ stored_sum before 16 → IsFrameAt page_size log j before → IsFrameAt page_size log i bytes
-    → head ≡ header log → (IsFrame head sum bytes × (be32 bytes 0 ≡ count_page)) ↔ IsCountAt page_size log i
-count_at page_size i j log head before bytes sum next sum_is was is head_is =
+-- the same of frame i, behind a frame with this checksum that leaves more pages than the file has if `is_any`
+pub count_at : (is_doubted is_any : Bool) (in_file page_size i j : ℕ) (log head before bytes : List ℕ) (sum : ℕ × ℕ) → j + 1 ≡ i → sum ≡ stored_sum before 16
+    → IsTrue is_any ↔ (IsTrue is_doubted × (in_file < be32 before 4)) → IsFrameAt page_size log j before → IsFrameAt page_size log i bytes → head ≡ header log
+    → ((frame_sum (is_big head) sum bytes ≡ stored_sum bytes 16) × (be32 bytes 0 ≡ count_page) × ((part bytes 8 8 ≡ part head 16 8) ⊎ IsTrue is_any))
+    ↔ IsLateCountAt is_doubted in_file page_size log i
+count_at is_doubted is_any in_file page_size i j log head before bytes sum next sum_is any was is head_is =
     let at : suc j ≡ i = sym (add-one j) ∙ next in
     let here : IsFrameAt page_size log (suc j) bytes = subst (λ n. IsFrameAt page_size log n bytes) (sym at) is in
-    subst₂ (λ (n : ℕ) (s : ℕ × ℕ). (IsFrame head s bytes × (be32 bytes 0 ≡ count_page)) ↔ IsCountAt page_size log n) at (sym sum_is) (count_by page_size j log head before bytes was here head_is)
+    let counts : ((frame_sum (is_big head) sum bytes ≡ stored_sum bytes 16) × (be32 bytes 0 ≡ count_page)) ↔ IsAnyCountAt page_size log i =
+    subst₂ (λ (n : ℕ) (s : ℕ × ℕ). ((frame_sum (is_big head) s bytes ≡ stored_sum bytes 16) × (be32 bytes 0 ≡ count_page)) ↔ IsAnyCountAt page_size log n) at (sym sum_is)
+    (count_by page_size j log head before bytes was here head_is) in
+    let last : i - 1 ≡ j = omega (arith, next) in
+    let size : be32 before 4 ≡ size_after page_size log i =
+    ap (λ (b : List ℕ). be32 b 4) was.read ∙ be32-part log (frame_at page_size j) (24 + page_size) 4 (omega arith) ∙ ap (λ (n : ℕ). be32 log (frame_at page_size n + 4)) (sym last) in
+    let salt : (part bytes 8 8 ≡ part head 16 8) ≡ (part (frame page_size log i) 8 8 ≡ part (header log) 16 8) = rw (head_is, is.read) refl in (
+      λ it. record {
+        count = counts.0 (it.0, it.1);
+        ours = elim it.2 [
+          | inl same ↦ inl (subst (λ (T : Type 0). T) salt same)
+          | inr yes' ↦ (let both = any.0 yes' in inr (both.0, subst (λ (n : ℕ). in_file < n) size both.1))
+        ];
+      },
+      λ it. let both = counts.1 it.count in (
+        both.0,
+        both.1,
+        elim it.ours [
+          | inl same ↦ inl (subst (λ (T : Type 0). T) (sym salt) same)
+          | inr more ↦ inr (any.1 (more.0, subst (λ (n : ℕ). in_file < n) (sym size) more.1))
+        ],
+      ),
+    )
 
--- none of the frames between these two is a count
-abbrev pub AreUncounted : ℕ → List ℕ → ℕ → ℕ → Type 0
-AreUncounted page_size log from to = (i : ℕ) → from < i → i < to → ¬ IsCountAt page_size log i
+-- none of the frames between these two is a late count
+abbrev pub AreUncounted : Bool → ℕ → ℕ → List ℕ → ℕ → ℕ → Type 0
+AreUncounted is_doubted in_file page_size log from to = (i : ℕ) → from < i → i < to → ¬ IsLateCountAt is_doubted in_file page_size log i
 
-pub counts_none : (page_size : ℕ) (log : List ℕ) (from to : ℕ) → AreUncounted page_size log from to → length log < frame_at page_size to + (24 + page_size) → ¬ HasLaterCount page_size log from
-counts_none page_size log from to none ends (i, late, is) =
+pub counts_none : (is_doubted : Bool) (in_file page_size : ℕ) (log : List ℕ) (from to : ℕ) → AreUncounted is_doubted in_file page_size log from to
+    → length log < frame_at page_size to + (24 + page_size) → ¬ ((i : ℕ) × (from < i) × IsLateCountAt is_doubted in_file page_size log i)
+counts_none is_doubted in_file page_size log from to none ends (i, late, is) =
     elim (cases_lt i to) [
       | inl low ↦ none i late low is
-      | inr high ↦ (let above = frames_len-le page_size to i high in let within = is.0.within in absurd (omega arith))
+      | inr high ↦ (let above = frames_len-le page_size to i high in let within = is.count.within in absurd (omega arith))
     ]
+
+-- a count with the log's salt passes
+count_passes : (page_size i : ℕ) (log : List ℕ) → IsAnyCountAt page_size log i → part (frame page_size log i) 8 8 ≡ part (header log) 16 8 → IsCountAt page_size log i
+count_passes page_size i log it salt =
+    let number : page_number (frame page_size log i) ≡ count_page =
+    be32-part log (frame_at page_size i) (24 + page_size) 0 (omega arith) ∙ ap (be32 log) (add-zero (frame_at page_size i)) ∙ it.number in
+    (record { within = it.within; passes = record { salt = salt; page = omega (arith, number); sum = it.sum } }, it.number)
+
+pub any_count : (page_size i : ℕ) (log : List ℕ) → IsCountAt page_size log i → IsAnyCountAt page_size log i
+any_count page_size i log it = record { within = it.0.within; sum = it.0.passes.sum; number = it.1 }
+
+-- the late counts are those that stand behind, if the header is doubted as it should be
+pub counts_behind : (is_doubted : Bool) (page_size : ℕ) (image : Image) (k : ℕ) → IsTrue is_doubted ↔ ((k ≡ 0) × IsUnwritten image.log)
+    → ((i : ℕ) × (k < i) × IsLateCountAt is_doubted (length image.db / page_size) page_size image.log i) ↔ HasCountBehind page_size image k
+counts_behind is_doubted page_size image k doubted = (
+  λ late. let (i, past, it) = late in
+      elim it.ours [
+        | inl salt ↦ inl (i, past, count_passes page_size i image.log it.count salt)
+        | inr more ↦ (let why = doubted.0 more.0 in inr (record { none = why.0; unwritten = why.1; at = i; later = past; count = it.count; more = more.1 }))
+      ],
+  λ behind. elim behind [
+    | inl later ↦ (let (i, past, it) = later in (i, past, record { count = any_count page_size i image.log it; ours = inl it.0.passes.salt }))
+    | inr older ↦ (older.at, older.later, record { count = older.count; ours = inr (doubted.1 (older.none, older.unwritten), older.more) })
+  ],
+)
 
 -- ---- pages without checksums
 

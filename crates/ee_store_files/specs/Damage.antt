@@ -1,7 +1,7 @@
 -- A log that was damaged, or written by another program: what no stop of this one leaves.
-use Rattle.std.specs.Prelude.{◌≡◌, ◌≢◌, ◌⊎◌, ◌+◌, ◌-◌, ◌<◌, ◌≤◌, ℕ, List, length, slice_index, take}
-use Rattle.sqlite_wal.specs.Format.{part, be32, count_page, IsSigned}
-use Rattle.sqlite_wal.specs.Recovery.{Image, frame_at, frame, header, Passes, IsLogFor, Replays}
+use Rattle.std.specs.Prelude.{◌≡◌, ◌≢◌, ◌⊎◌, ◌+◌, ◌-◌, ◌/◌, ◌<◌, ◌≤◌, ℕ, Bool, List, length, slice_index, take, IsTrue}
+use Rattle.sqlite_wal.specs.Format.{part, be32, is_big, frame_sum, stored_sum, count_page, IsSigned}
+use Rattle.sqlite_wal.specs.Recovery.{Image, frame_at, frame, header, sum_before, Passes, IsLogFor, Replays}
 use Rattle.sqlite_pool.specs.Stored.{sealed}
 
 -- the file has room for a header and a frame's header, and its first byte is that of a log
@@ -58,6 +58,39 @@ IsCountAt page_size log i = Passes page_size log i × (number_at page_size log i
 abbrev pub HasLaterCount : ℕ → List ℕ → ℕ → Type 0
 HasLaterCount page_size log k = (i : ℕ) × (k < i) × IsCountAt page_size log i
 
+-- frame i is a count, and its checksum is right, computed on from that of the frame before it, whatever its salt is
+pub record IsAnyCountAt (page_size : ℕ) (log : List ℕ) (i : ℕ) : Type 0 where
+  pub within : frame_at page_size i + (24 + page_size) ≤ length log
+  pub sum : frame_sum (is_big (header log)) (sum_before page_size log i) (frame page_size log i) ≡ stored_sum (frame page_size log i) 16
+  pub number : number_at page_size log i ≡ count_page
+
+-- the number of pages of the database after the first k frames
+abbrev pub size_after : ℕ → List ℕ → ℕ → ℕ
+size_after page_size log k = be32 log (frame_at page_size (k - 1) + 4)
+
+-- the first frame's header is zeros, as before the first transaction is written
+abbrev pub IsUnwritten : List ℕ → Type 0
+IsUnwritten log = (56 ≤ length log) × ((x : ℕ) → x < 24 → slice_index log (32 + x) ≡ 0)
+
+-- The header is older than the frames. Recovery takes none of them, and the first isn't written; yet behind a transaction that leaves more
+-- pages than the file has stands a count, which was written after that transaction was synced.
+pub record HasOlderHeader (page_size : ℕ) (image : Image) (k : ℕ) : Type 0 where
+  pub none : k ≡ 0
+  pub unwritten : IsUnwritten image.log
+  pub at : ℕ
+  pub later : k < at
+  pub count : IsAnyCountAt page_size image.log at
+  pub more : length image.db / page_size < size_after page_size image.log at
+
+-- a later count of the log, or one of a log whose header is lost
+abbrev pub HasCountBehind : ℕ → Image → ℕ → Type 0
+HasCountBehind page_size image k = HasLaterCount page_size image.log k ⊎ HasOlderHeader page_size image k
+
+-- a count with the salt of the log; or, if it is doubted that the header is the log's, one behind more pages than the file has
+pub record IsLateCountAt (is_doubted : Bool) (in_file page_size : ℕ) (log : List ℕ) (i : ℕ) : Type 0 where
+  pub count : IsAnyCountAt page_size log i
+  pub ours : (part (frame page_size log i) 8 8 ≡ part (header log) 16 8) ⊎ (IsTrue is_doubted × (in_file < size_after page_size log i))
+
 -- the first frames have the pages of these numbers
 abbrev pub AreNumbersOf : ℕ → List ℕ → List ℕ → Type 0
 AreNumbersOf page_size log numbers = (i : ℕ) → i < length numbers → slice_index numbers i ≡ number_at page_size log i
@@ -69,10 +102,6 @@ page_at page_size log i = part log (frame_at page_size i + 24) page_size
 -- the page ends in its checksum
 abbrev pub IsSummed : ℕ → List ℕ → Type 0
 IsSummed page_size page = page ≡ sealed (take (page_size - 8) page)
-
--- the number of pages of the database after the first k frames
-abbrev pub size_after : ℕ → List ℕ → ℕ → ℕ
-size_after page_size log k = be32 log (frame_at page_size (k - 1) + 4)
 
 -- Frame i has a page of the database without its checksum, and no later one of the first k frames has that page.
 pub record LacksSum (page_size : ℕ) (log : List ℕ) (k i : ℕ) : Type 0 where
@@ -92,10 +121,10 @@ IsReplaced numbers i = (j : ℕ) × (i < j) × (j < length numbers) × (slice_in
 abbrev pub SaysSums : List ℕ → Type 0
 SaysSums db = (24 ≤ length db) × (be32 db 20 ≡ 0x0840_2020)
 
--- two transactions or a later count stand behind the first k frames, or one of these has a page that lacks its checksum
+-- two transactions or a count stand behind the first k frames, or one of these has a page that lacks its checksum
 abbrev pub IsWrongAt : ℕ → Image → ℕ → Type 0
 IsWrongAt page_size image k =
-    HasTwoMore page_size image.log k ⊎ (HasLaterCount page_size image.log k ⊎ (SaysSums image.db × HasUnsummed page_size image.log k))
+    HasTwoMore page_size image.log k ⊎ (HasCountBehind page_size image k ⊎ (SaysSums image.db × HasUnsummed page_size image.log k))
 
 -- recovery takes k frames of the log, and one of the three holds
 pub record IsWrong (page_size : ℕ) (image : Image) : Type 0 where

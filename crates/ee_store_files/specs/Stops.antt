@@ -12,7 +12,7 @@ use Rattle.sqlite_pool.specs.Stored.{is_summed, stored_size, Recovers}
 use Rattle.sqlite_store.specs.declared.store.FileStore.{FileStore}
 use Rattle.sqlite_store.specs.FileStore.{state as store_state}
 use Rattle.sqlite_wal.specs.Recovery.{Image, frame_at, frame, IsCommitted, IsLogFor, Replays}
-use Rattle.ee_store_files.specs.Damage.{BeginsAsLog, HasBrokenHeader, HasLostHeader, IsOpenAt, HasTwoMore, HasLaterCount, number_at, page_at, size_after, IsSummed, HasUnsummed, SaysSums, IsDamaged}
+use Rattle.ee_store_files.specs.Damage.{BeginsAsLog, HasBrokenHeader, HasLostHeader, IsOpenAt, HasTwoMore, HasLaterCount, HasCountBehind, IsUnwritten, number_at, page_at, size_after, IsSummed, HasUnsummed, SaysSums, IsDamaged}
 
 -- A transaction of the frames from k to m was being written over zeros, and only its last frame ends it. Each byte
 -- of it and of the gate behind it is 0 or the one that was written.
@@ -36,9 +36,10 @@ HasSums image =
     SaysSums image.db → (page_size k : ℕ) → Replays page_size image.log k
     → (i : ℕ) → i < k → number_at page_size image.log i ≤ size_after page_size image.log k → IsSummed page_size (page_at page_size image.log i)
 
--- No count stands behind the frame after those that recovery takes: a transaction begins with its count once all frames before it were synced.
+-- No count stands behind the frame after those that recovery takes: a transaction begins with its count once all frames before it, and
+-- the header, were synced.
 abbrev pub HasNoLaterCount : Image → Type 0
-HasNoLaterCount image = (page_size k : ℕ) → Replays page_size image.log k → ¬ HasLaterCount page_size image.log k
+HasNoLaterCount image = (page_size k : ℕ) → Replays page_size image.log k → ¬ HasCountBehind page_size image k
 
 -- what a stop leaves: a log whose header is still to be written, or one that stops so
 pub record IsStopped (image : Image) : Type 0 where
@@ -105,3 +106,17 @@ CountsNoneAtOnce {D} g =
     → IsTrue (state it).is_open → IsPending it → HasPages it
     → ((c : List ℕ) → g.may_leave it.log c → ¬ HasLaterCount it.page_size c (frames it))
     → (before c : List ℕ) → g.may_leave it.log before → Torn (gate_of (durable it)) 1 before c → ¬ HasLaterCount it.page_size c (committed_frames it)
+
+-- ---- a log that has a first frame, committed or synced, isn't taken for one that has none
+
+-- a crash of an open log with a committed frame, between the writes of its calls and while a gate is opened
+abbrev pub Begins : {D : Type 0} → Ghosts D → Type 0
+Begins {D} g =
+    (it : Log D g) → IsTrue (state it).is_open → 0 < committed_frames it
+    → (before c : List ℕ) → g.may_leave it.log before → Torn (gate_of (durable it)) 1 before c → ¬ IsUnwritten c
+
+-- a crash while the gate is opened of frames that were synced
+abbrev pub BeginsSynced : {D : Type 0} → Ghosts D → Type 0
+BeginsSynced {D} g =
+    (it : Log D g) → IsTrue (state it).is_open → IsPending it → Only (g.seen it.log) (g.may_leave it.log)
+    → (before c : List ℕ) → g.may_leave it.log before → Torn (gate_of (durable it)) 1 before c → ¬ IsUnwritten c

@@ -5,16 +5,16 @@
 //! them was damaged, and recovery would drop replies that were given. A page without its checksum was written by
 //! another program.
 
-ghost use Rattle.std.specs.Prelude.{◌≡◌, ◌+◌, ◌^◌, ◌%◌, ◌<◌, ◌≤◌, ◌↔◌, ◌≢◌, false, length, IsTrue, IfOk, IfErr, OnOk, MatchOption};
+ghost use Rattle.std.specs.Prelude.{◌≡◌, ◌⊎◌, ◌+◌, ◌^◌, ◌%◌, ◌<◌, ◌≤◌, ◌↔◌, ◌≢◌, ℕ, false, length, IsTrue, IfOk, IfErr, OnOk, MatchOption};
 ghost use Rattle.sqlite_disk.specs.Disk.{CountsFault, CountsFaultIf};
-ghost use Rattle.sqlite_wal.specs.Format.{part, be32, count_page, stored_sum, IsSigned, IsFrame};
+ghost use Rattle.sqlite_wal.specs.Format.{part, be32, is_big, frame_sum, count_page, stored_sum, IsSigned};
 ghost use Rattle.sqlite_wal.specs.Recovery.{frame_at, frames_len as wal_len, header};
 ghost use Rattle.sqlite_wal.specs.Reads.{IsClean, AreClean, OnlyReads};
 ghost use Rattle.sqlite_wal.specs.PageSize.{bytes_of};
 ghost use Rattle.sqlite_pool.specs.Stored.{sum_bytes};
 ghost use Rattle.sqlite.specs.Opening.{is_open_error};
 ghost use Rattle.sqlite.specs.Files.{image_of, faults_of};
-ghost use Rattle.ee_store_files.specs.Damage.{BeginsAsLog, HasLostHeader, IsFrontOf, IsOpenAt, EndsOne, HasTwoMore, IsFrameAt, HasLaterCount, page_at, IsSummed, AreNumbersOf, IsReplaced, size_after, LacksSum, HasUnsummed, SaysSums, IsWrongAt, IsDamaged};
+ghost use Rattle.ee_store_files.specs.Damage.{BeginsAsLog, HasLostHeader, IsFrontOf, IsOpenAt, EndsOne, HasTwoMore, IsFrameAt, IsLateCountAt, IsUnwritten, HasCountBehind, page_at, IsSummed, AreNumbersOf, IsReplaced, size_after, LacksSum, HasUnsummed, SaysSums, IsWrongAt, IsDamaged};
 ghost use Rattle.ee_store_files.specs.Opening.{Fails, FailsToRead, IsLongFor};
 
 use crate::errors::{DAMAGED, FULL, IO, NO_MEMORY, probe_error};
@@ -235,18 +235,30 @@ fn checksum_at(frame: &[u8]) -> (u32, u32)
     (be32_at(frame, SUM), be32_at(frame, SUM + 4))
 }
 
-/// Whether this frame is a count of the log with the header `head`, and passes its checksum behind a frame that has
-/// the checksum `before`.
-fn is_count(head: &[u8; 32], before: (u32, u32), frame: &[u8]) -> bool
+/// Whether this frame is a count that passes its checksum behind a frame that has the checksum `before`, and has the
+/// salt of the log with the header `head`, unless any will do.
+fn is_count(head: &[u8; 32], before: (u32, u32), is_any: bool, frame: &[u8]) -> bool
     requires { 24 ≤ length frame.now }
-    ensures { IsTrue result ↔ (IsFrame head.now before frame.now × (be32 frame.now 0 ≡ count_page)) }
+    ensures { IsTrue result ↔ ((frame_sum (is_big head.now) before frame.now ≡ stored_sum frame.now 16) × (be32 frame.now 0 ≡ count_page)
+        × ((part frame.now 8 8 ≡ part head.now 16 8) ⊎ IsTrue is_any)) }
 {
-    if frame[8..16] != head[16..24] || be32_at(frame, 0) != COUNT_PAGE {
+    if be32_at(frame, 0) != COUNT_PAGE {
+        return false;
+    }
+    if !is_any && frame[8..16] != head[16..24] {
         return false;
     }
     let is_big = head[3] == 0x83;
     let front = checksum_of(is_big, before, &frame[..8]);
     checksum_of(is_big, front, &frame[24..]) == checksum_at(frame)
+}
+
+/// Whether the header is doubted, and this frame leaves more pages than the file has.
+fn leaves_more(is_doubted: bool, in_file: usize, frame: &[u8]) -> bool
+    requires { 8 ≤ length frame.now }
+    ensures { IsTrue result ↔ (IsTrue is_doubted × (in_file < be32 frame.now 4)) }
+{
+    is_doubted && in_file < be32_at(frame, 4) as usize
 }
 
 /// Reads frame `i`. `false` if the file ends before the frame does.
@@ -275,12 +287,14 @@ fn read_frame<D: Disk>(
     Ok(true)
 }
 
-/// The same as `has_later_count`, with room for a frame.
+/// Whether a late count stands behind the frame after the log's first `from` frames. There is room for a frame.
 fn finds_count<D: Disk>(
     log: &mut D,
     head: &[u8; 32],
     page_size: usize,
     from: usize,
+    is_doubted: bool,
+    in_file: usize,
     frame: &mut [u8],
 ) -> Result<bool, Error>
     requires usable { IsTrue (D.Disk.is_usable log.old) }
@@ -289,7 +303,7 @@ fn finds_count<D: Disk>(
     requires few { from ≤ 0xffff_ffff }
     requires frame { length frame.old ≡ 24 + page_size }
     ensures named { IfErr result (λ e. IsTrue (is_open_error e)) }
-    ensures ok { IfOk result (λ b. IsClean D.Disk log.new → (IsTrue b ↔ HasLaterCount page_size (D.Disk.seen log.old) from)) }
+    ensures ok { IfOk result (λ b. IsClean D.Disk log.new → (IsTrue b ↔ ((i : ℕ) × (from < i) × IsLateCountAt is_doubted in_file page_size (D.Disk.seen log.old) i))) }
     ensures counts { D.Disk.faults log.old ≤ D.Disk.faults log.new }
     ensures cause { IfErr result (λ e. IsClean D.Disk log.new
         → Fails (D.Disk.faults log.old) (D.Disk.faults log.new) (IsLongFor page_size (D.Disk.seen log.old)) e) }
@@ -305,44 +319,82 @@ fn finds_count<D: Disk>(
     }
     for i in from + 1..0xffff_ffff {
         let before = checksum_at(frame);
+        let is_any = leaves_more(is_doubted, in_file, frame);
         match read_frame(log, len, page_size, i, frame) {
             Ok(true) => {}
             Ok(false) => return Ok(false),
             Err(_) => return Err(IO),
         }
-        if is_count(head, before, frame) {
+        if is_count(head, before, is_any, frame) {
             return Ok(true);
         }
     }
     Err(FULL)
 }
 
-/// Whether a count of the log stands behind the frame after its first `from` frames.
+/// Whether recovery takes no frame, as `taken` says, and the first isn't written.
+fn is_unwritten<D: Disk>(log: &mut D, taken: usize) -> io::Result<bool>
+    requires { IsTrue (D.Disk.is_usable log.old) }
+    ensures ok { IfOk result (λ b. IsClean D.Disk log.new → (IsTrue b ↔ ((taken ≡ 0) × IsUnwritten (D.Disk.seen log.old)))) }
+    ensures faults { CountsFault result (D.Disk.faults log.old) (D.Disk.faults log.new) }
+    ensures same { OnlyReads D.Disk log.old log.new }
+{
+    if taken > 0 {
+        return Ok(false);
+    }
+    let len = log.len()?;
+    if len < HEADER + FRAME {
+        return Ok(false);
+    }
+    let mut front = [0; 24];
+    log.read_at(HEADER, &mut front)?;
+    Ok(front.iter().all(|byte| *byte == 0))
+}
+
+/// Whether a count stands behind the frame after the log's first `from` frames: one of the log, or of a log whose
+/// header is lost.
 ///
 /// # Errors
 ///
 /// A log of 2^32 frames is refused as full, as recovery refuses it.
-fn has_later_count<D: Disk>(
+fn has_count_behind<D: Disk>(
     alloc: Global,
-    log: &mut D,
+    files: &mut Files<D>,
     head: &[u8; 32],
     size: PageSize,
     from: usize,
 ) -> Result<bool, Error>
-    requires usable { IsTrue (D.Disk.is_usable log.old) }
-    requires head { IsClean D.Disk log.old → head.now ≡ header (D.Disk.seen log.old) }
+    requires log { IsTrue (D.Disk.is_usable files.old.log) }
+    requires db { IsTrue (D.Disk.is_usable files.old.db) }
+    requires head { IsClean D.Disk files.old.log → head.now ≡ header (D.Disk.seen files.old.log) }
     requires few { from ≤ 0xffff_ffff }
     ensures named { IfErr result (λ e. IsTrue (is_open_error e)) }
-    ensures ok { IfOk result (λ b. IsClean D.Disk log.new → (IsTrue b ↔ HasLaterCount (bytes_of size) (D.Disk.seen log.old) from)) }
-    ensures counts { D.Disk.faults log.old ≤ D.Disk.faults log.new }
-    ensures cause { IfErr result (λ e. IsClean D.Disk log.new
-        → Fails (D.Disk.faults log.old) (D.Disk.faults log.new) (IsLongFor (bytes_of size) (D.Disk.seen log.old)) e) }
-    ensures same { OnlyReads D.Disk log.old log.new }
+    ensures ok { IfOk result (λ b. AreClean D.Disk files.new.log files.new.db → (IsTrue b ↔ HasCountBehind (bytes_of size) (image_of D.Disk files.old) from)) }
+    ensures counts { faults_of D.Disk files.old ≤ faults_of D.Disk files.new }
+    ensures cause { IfErr result (λ e. AreClean D.Disk files.new.log files.new.db
+        → Fails (faults_of D.Disk files.old) (faults_of D.Disk files.new) (IsLongFor (bytes_of size) (D.Disk.seen files.old.log)) e) }
+    ensures log { OnlyReads D.Disk files.old.log files.new.log }
+    ensures db { OnlyReads D.Disk files.old.db files.new.db }
 {
+    let Ok(is_doubted) = is_unwritten(&mut files.log, from) else {
+        return Err(IO);
+    };
+    let Ok(len) = files.db.len() else {
+        return Err(IO);
+    };
     let Ok(mut frame) = vec![in alloc; 0; FRAME + size.bytes()] else {
         return Err(NO_MEMORY);
     };
-    finds_count(log, head, size.bytes(), from, &mut frame)
+    let in_file = len / size.bytes();
+    finds_count(
+        &mut files.log,
+        head,
+        size.bytes(),
+        from,
+        is_doubted,
+        in_file,
+        &mut frame,
+    )
 }
 
 /// The checksum that a page with these bytes ends in.
@@ -486,7 +538,7 @@ fn says_sums<D: Disk>(db: &mut D) -> io::Result<bool>
     Ok(be32_at(&field, 0) == WITH_SUMS)
 }
 
-/// Whether two transactions or a later count stand behind the frames that recovery takes, whose page numbers are
+/// Whether two transactions or a count stand behind the frames that recovery takes, whose page numbers are
 /// `numbers`, or one of those frames has a page without its checksum.
 fn is_wrong<D: Disk>(
     alloc: Global,
@@ -510,7 +562,7 @@ fn is_wrong<D: Disk>(
     if has_two_more(&mut files.log, head, size.bytes(), numbers.len())? {
         return Ok(true);
     }
-    if has_later_count(alloc, &mut files.log, head, size, numbers.len())? {
+    if has_count_behind(alloc, files, head, size, numbers.len())? {
         return Ok(true);
     }
     match says_sums(&mut files.db) {

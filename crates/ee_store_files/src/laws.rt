@@ -1,6 +1,6 @@
 //! Laws of what is refused.
 
-ghost use Rattle.ee_store_files.specs.Stops.{SparesStopped, SparesSummed, SparesStore, SparesOpen, SparesSynced, SparesOneSync, CountsNoneSynced, CountsNoneAtOnce};
+ghost use Rattle.ee_store_files.specs.Stops.{SparesStopped, SparesSummed, SparesStore, SparesOpen, SparesSynced, SparesOneSync, CountsNoneSynced, CountsNoneAtOnce, Begins, BeginsSynced};
 ghost use Rattle.ee_store_files.specs.Orphans.{SparesHeld, SparesPresent};
 
 use sqlite_disk::Disk;
@@ -15,6 +15,8 @@ use sqlite_disk::Disk;
 /// - `synced`, `at_once`: nor what it leaves while `sqlite_wal` commits a transaction, by two syncs or by one.
 /// - `counts_synced`, `counts_at_once`: meanwhile no later count comes to stand behind the committed frames, if none
 ///   stands behind all frames of the log.
+/// - `begins`, `begins_synced`: nor does the header come to look older than the frames, if a frame is committed, or the
+///   first ones are committed by two syncs.
 pub const fn spares_stopped_law<D: Disk>()
     ensures stopped { SparesStopped }
     ensures summed { SparesSummed }
@@ -24,6 +26,8 @@ pub const fn spares_stopped_law<D: Disk>()
     ensures at_once { SparesOneSync D.Disk }
     ensures counts_synced { CountsNoneSynced D.Disk }
     ensures counts_at_once { CountsNoneAtOnce D.Disk }
+    ensures begins { Begins D.Disk }
+    ensures begins_synced { BeginsSynced D.Disk }
 {}
 
 /// Nothing that a stop leaves is refused for the lack of its file.

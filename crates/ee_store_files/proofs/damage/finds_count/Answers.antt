@@ -14,7 +14,7 @@ returns-in-Ok-false-clause-ok g c clean =
     let size = c.args.page_size in
     let from = c.args.from in
     let ends : length log < frame_at size from + (24 + size) = rw (← c.len.ensures.seen) (c.in-Ok-false.ensures.ends clean c.in-Ok-false.field-0-test) in
-    (λ no'. absurd (false≢true no'), λ later. absurd (counts_none size log from from (λ i low high. absurd (omega arith)) ends later))
+    (λ no'. absurd (false≢true no'), λ later. absurd (counts_none c.args.is_doubted c.args.in_file size log from from (λ i low high. absurd (omega arith)) ends later))
 
 pub returns-in-Ok-false-read_frame-clause-ok : goal.returns-in-Ok-false-read_frame-clause-ok
 returns-in-Ok-false-read_frame-clause-ok g c clean =
@@ -24,7 +24,7 @@ returns-in-Ok-false-read_frame-clause-ok g c clean =
     let none = inv.none (c.read_frame-in-loop-i.ensures.same.clean clean) in
     let ends : length log < frame_at size c.loop-i.i + (24 + size) =
     rw (← inv.reads.seen) (c.in-Ok-false-read_frame.ensures.ends clean c.in-Ok-false-read_frame.field-0-test) in
-    (λ no'. absurd (false≢true no'), λ later. absurd (counts_none size log c.args.from c.loop-i.i none ends later))
+    (λ no'. absurd (false≢true no'), λ later. absurd (counts_none c.args.is_doubted c.args.in_file size log c.args.from c.loop-i.i none ends later))
 
 pub returns-then-is_count-clause-ok : goal.returns-then-is_count-clause-ok
 returns-then-is_count-clause-ok g c clean =
@@ -35,7 +35,7 @@ returns-then-is_count-clause-ok g c clean =
     let i = c.loop-i.i in
     let was = inv.before walked (i - 1) (omega (arith, inv.past)) in
     let is : IsFrameAt size log i c.read_frame-in-loop-i.new.frame = rw (← inv.reads.seen) (c.in-Ok-true-read_frame.ensures.read clean c.in-Ok-true-read_frame.field-0-test) in
-    let counts = count_at size i (i - 1) log c.args.head.now _ _ _ (omega (arith, inv.past)) c.checksum_at-before.ensures was is (c.requires.head (inv.reads.clean walked)) in
+    let counts = count_at c.args.is_doubted c.leaves_more-is_any.result c.args.in_file size i (i - 1) log c.args.head.now _ _ _ (omega (arith, inv.past)) c.checksum_at-before.ensures c.leaves_more-is_any.ensures was is (c.requires.head (inv.reads.clean walked)) in
     (λ _. (i, inv.past, counts.0 (c.is_count.ensures.0 c.if-is_count.true)), λ _. refl)
 
 pub loop-i-preserved : goal.loop-i-preserved
@@ -59,7 +59,7 @@ loop-i-preserved g c =
             let walked = c.read_frame-in-loop-i.ensures.same.clean clean in
             let same : i ≡ k = omega arith in
             let was = inv.before walked (i - 1) (omega (arith, inv.past)) in
-            let counts = count_at size i (i - 1) log c.args.head.now _ _ _ (omega (arith, inv.past)) c.checksum_at-before.ensures was (is clean) (c.requires.head (inv.reads.clean walked)) in
+            let counts = count_at c.args.is_doubted c.leaves_more-is_any.result c.args.in_file size i (i - 1) log c.args.head.now _ _ _ (omega (arith, inv.past)) c.checksum_at-before.ensures c.leaves_more-is_any.ensures was (is clean) (c.requires.head (inv.reads.clean walked)) in
             false≢true (sym c.if-is_count.false ∙ c.is_count.ensures.1 (counts.1 (rw same counted)))
       ];
     }

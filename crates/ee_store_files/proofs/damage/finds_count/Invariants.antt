@@ -12,5 +12,5 @@ invariant-loop-i g l = record {
   room : length l.frame ≡ 24 + l.page_size;
   past : l.from < l.i;
   before : IsClean g.D.Disk l.log → (j : ℕ) → j + 1 ≡ l.i → IsFrameAt l.page_size (g.D.Disk.seen l.fn.log) j l.frame;
-  none : IsClean g.D.Disk l.log → AreUncounted l.page_size (g.D.Disk.seen l.fn.log) l.from l.i;
+  none : IsClean g.D.Disk l.log → AreUncounted l.is_doubted l.in_file l.page_size (g.D.Disk.seen l.fn.log) l.from l.i;
 }

@@ -1,5 +1,5 @@
 use Rattle.ee_store_files.proofs.Stops.{spares_stopped, spares_summed, spares_store, spares_open, spares_synced, spares_one_sync}
-use Rattle.ee_store_files.proofs.Counts.{none_synced, none_at_once}
+use Rattle.ee_store_files.proofs.Counts.{none_synced, none_at_once, begins, begins_synced}
 use Rattle.ee_store_files.proofs.laws.spares_stopped_law.Goals as goal
 
 pub returns-clause-stopped : goal.returns-clause-stopped
@@ -25,3 +25,9 @@ returns-clause-counts_synced g c = none_synced g.D.Disk
 
 pub returns-clause-counts_at_once : goal.returns-clause-counts_at_once
 returns-clause-counts_at_once g c = none_at_once g.D.Disk
+
+pub returns-clause-begins : goal.returns-clause-begins
+returns-clause-begins g c = begins g.D.Disk
+
+pub returns-clause-begins_synced : goal.returns-clause-begins_synced
+returns-clause-begins_synced g c = begins_synced g.D.Disk
