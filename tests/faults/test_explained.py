@@ -16,7 +16,7 @@ import pytest
 
 from tests.conftest import MEMORY, TOP
 from tests.faults import uses
-from tests.faults.uses import BONDS, Counter, Ran, Streams, Use, words_of
+from tests.faults.uses import BONDS, RATES, Counter, Make, Ran, Streams, Use, words_of
 from tests.shared import exact
 from tests.shared.hostile.program import Program
 
@@ -25,25 +25,48 @@ SPELLING = {name: rows["spelling"] for name, rows in TABLE["argument"].items()}
 SPELLING |= {"from": SPELLING["issued"], "coowner": SPELLING["customer"]}
 SPELLING |= {"owner": SPELLING["customer"]}
 SPELLING |= {"serial": "a serial number is a letter, 1 to 9999999999 and EE, as L1EE"}
+#: The arguments of a command in their order.
+PLACES = {
+    "value": ["denom", "issued", "month", "rate", "extension"],
+    "export": ["customer"],
+    "sheet": ["customer", "month"],
+}
+
+
+def word_in(line: str, name: str) -> object:
+    """The word of an argument in a line."""
+    words = words_of(line)
+    at = words.index("--desk") if name == "desk" else PLACES[str(words[0])].index(name)
+    return words[at + 1]
+
+
+def bad_argument(kind: str, line: str, name: str) -> Use:
+    second = f'{name} is "{word_in(line, name)}": {SPELLING[name]}'
+    return Use(kind, (line,), f"bad argument: {name}", second, 2)
 
 
 def arguments() -> Iterator[Use]:
     for name, rows in TABLE["argument"].items():
-        for kind, lines in list(rows.items())[1:]:
-            yield Use(f"{name}: {kind}", tuple(lines), f"bad argument: {name}", rows["spelling"], 2)
+        for kind, (line, *others) in list(rows.items())[1:]:
+            yield bad_argument(f"{name}: {kind}", line, name)
+            for other in others:
+                yield bad_argument(f"{name}: {kind}, of {other.split()[0]}", other, name)
     two, line = "the first of two words that spell no value", "value 51 2010-13 2015-05 3.50"
-    yield Use(two, (line,), "bad argument: denom", SPELLING["denom"], 2)
+    yield bad_argument(two, line, "denom")
     line = "value 5\xff 2010-05 2015-05 3.50"
     yield Use("a word that isn't UTF-8", (line,), "bad argument: a word isn't UTF-8", None, 2)
     for kind, (line, first, second) in TABLE["claps"].items():
         yield Use(kind, (line,), f"error: {first}", second, 2, is_claps=True)
 
 
-def of_file(kind: str, file: str, content: str, fault: str, second: str) -> Use:
+def importing(file: str, number: int = 1) -> str:
     what = "rates" if file == uses.CSV else "inventory"
-    line = f"import {what} {file} --db day.db --number 1"
+    return f"import {what} {file} --db day.db --number {number}"
+
+
+def of_file(kind: str, file: str, content: str, fault: str, second: str) -> Use:
     put = uses.has(file, content.encode("latin-1"))
-    return Use(kind, (line,), f"file: {fault}", f"{file}: {second}", make=put)
+    return Use(kind, (importing(file),), f"file: {fault}", f"{file}: {second}", make=put)
 
 
 def files() -> Iterator[Use]:
@@ -53,6 +76,9 @@ def files() -> Iterator[Use]:
     for kind, (file, content, at, column, shown) in TABLE["field"].items():
         second = f'row {at}, column {column} is "{shown}": {SPELLING[column]}; {again}'
         yield of_file(kind, file, content, f"row {at} code 72", second)
+    for kind, (content, column, shown, second) in TABLE["unpaid"].items():
+        second = f'row 2, column {column} is "{shown}": {second}'
+        yield of_file(kind, "bonds.csv", content, "row 2 code 72", second)
     rows, parts = "from,rate\n" + "2010-05,2.00\n" * 499, "row 1 code 75"
     lacks = f"row 501 has not one field for each column; {again}"
     head = f"the first row is not serial,denom,issued,owner,coowner; {again}"
@@ -62,7 +88,28 @@ def files() -> Iterator[Use]:
     yield of_file("at the limit", "bonds.csv", "x" * 1_048_576, "row 1 code 70", head)
 
 
-USES = [*arguments(), *files(), *uses.PATHS, *uses.STORES, *uses.STREAMS]
+def store_and(file: str, content: str) -> Make:
+    """A store with a rate and a bond, under numbers 1 and 2, and this file."""
+
+    def make(it: Counter) -> None:
+        it.store()
+        it.put(file, content.encode())
+
+    return make
+
+
+def refused() -> Iterator[Use]:
+    """Refused imports, whose one line on standard error comes only if it is asked for."""
+    for kind, (file, content, number, second) in TABLE["refused"].items():
+        put = store_and(file, content)
+        yield Use(kind, (importing(file, number),), None, f"{file}: {second}", 1, put)
+    many = "from,rate\n" + "2010-05,2.00\n" * 501
+    second = f"{uses.CSV}: it has more than 500 rows; send it in parts; {NEW_NUMBER}"
+    yield Use("501 rows", (importing(uses.CSV, 3),), None, second, 1, store_and(uses.CSV, many))
+
+
+NEW_NUMBER = "nothing was changed, and the next try needs a new number"
+USES = [*arguments(), *files(), *refused(), *uses.PATHS, *uses.STORES, *uses.STREAMS]
 BY_KIND = {use.kind: use for use in USES}
 
 
@@ -108,9 +155,11 @@ def tried(use: Use, counter: Counter) -> None:
             said = alone.said.splitlines()
             assert said[0] == use.first and use.second in [text.strip() for text in said[1:]], line
         else:
-            second = "" if use.second is None else use.second + "\n"
-            assert alone.said == use.first + "\n", line
-            assert explained.said == use.first + "\n" + second, line
+            first, second = (
+                "" if said is None else said + "\n" for said in (use.first, use.second)
+            )
+            assert alone.said == first, line
+            assert explained.said == first + second, line
         assert alone.status == use.status, line
         assert (explained.status, explained.printed) == (alone.status, alone.printed), line
 
@@ -218,7 +267,7 @@ def on_terminal(counter: Counter, line: str, given: bytes = b"") -> str:
 def test_terminals(counter: Counter) -> None:
     """There the second line needs no option, and `apply` ends its answers with a line end."""
     shown = on_terminal(counter, "value 50 2010-05 2015-5 3.50")
-    assert shown == f"bad argument: month\n{SPELLING['month']}\n"
+    assert shown == f'bad argument: month\nmonth is "2015-5": {SPELLING["month"]}\n'
     shown = on_terminal(counter, "apply --db day.db", uses.MESSAGE)
     assert shown.endswith("}\n") and not shown.endswith("\n\n")
     ran = counter.run(words_of("apply --db other.db"), Streams(given=uses.MESSAGE))
@@ -260,6 +309,11 @@ PLAYED = [
     ("a port that is in use", instead("address in use", "permission denied")),
     ("owner of a row: a name", instead('is "John Doe"', 'is "John Doe?"')),
     ("a full disk behind the answers", instead("no space left on the disk", "nothing reads it")),
+    ("desk: a word", instead('is "x"', 'is "y"')),
+    ("a refused import: no rows", instead("a new number", "no new number")),
+    ("a refused import: no rows", lambda _, ran: replace(ran, said=ran.said or "refused\n")),
+    ("semicolons", instead("semicolons", "tabs")),
+    ("serial of a row: series I", instead("FS Form 1522", "FS Form 1048")),
 ]
 
 

@@ -89,11 +89,11 @@ alone: During = lambda it: nullcontext(Streams())
 
 @dataclass(frozen=True)
 class Use:
-    """A kind of wrong use: the lines that do it, and the texts that they say."""
+    """A kind of wrong use: the lines that do it, and the texts that they say, `None` for none."""
 
     kind: str
     lines: tuple[str, ...]
-    first: str
+    first: str | None
     second: str | None
     status: int = 3
     make: Make = nothing
@@ -144,8 +144,8 @@ def path(kind: str, file: str, cause: str, make: Make = nothing) -> Use:
     return imports(kind, file, "input or output failed", f"{cause}; {again}", make)
 
 
-def unread(kind: str, file: str, cause: str, make: Make = nothing) -> Use:
-    return imports(kind, file, "file: row 1 code 73", f"{cause}; send the file again", make)
+def unread(kind: str, file: str, second: str, make: Make = nothing) -> Use:
+    return imports(kind, file, "file: row 1 code 73", second, make)
 
 
 MISSING, DENIED = "no such file or folder", "permission denied"
@@ -153,6 +153,7 @@ NO_FOLDER, CIRCLE = "a part of the path is no folder", "symbolic links lead in a
 LONG_NAME, FOLDER = "a name of the path is too long", "it is a folder"
 PARTS = "it has more than 1048576 bytes; send it in parts, each under a number of its own"
 CSV = "rates.csv"
+IN_IT = "name a file in it"
 PATHS = [
     path("no file", CSV, MISSING),
     path("no folder", "missing/rates.csv", MISSING),
@@ -164,9 +165,9 @@ PATHS = [
     path("a name that is too long", "r" * 256, LONG_NAME),
     path("symbolic links in a circle", "one", CIRCLE, loop),
     path("a socket", CSV, "it was not opened", socket_at(CSV)),
-    unread("a folder", CSV, FOLDER, lambda it: it.path(CSV).mkdir()),
-    unread("the folder where it runs", ".", FOLDER),
-    unread("a file whose first read fails", "/proc/self/mem", "a read failed"),
+    unread("a folder", CSV, f"{FOLDER}; {IN_IT}", lambda it: it.path(CSV).mkdir()),
+    unread("the folder where it runs", ".", f"{FOLDER}; {IN_IT}"),
+    unread("a file whose first read fails", "/proc/self/mem", "a read failed; send the file again"),
     imports("a device that never ends", "/dev/zero", "file: row 1 code 75", PARTS),
 ]
 

@@ -14,7 +14,7 @@ use Rattle.ee_counter.specs.declared.connections.Why.{Why}
 use Rattle.ee_counter.specs.declared.connections.Why.TheVariants.{Closed, Asked, Limit, Fault, ReadFailed, WriteFailed, NoMemory}
 use Rattle.ee_counter.specs.Serving.{EndsBy, Told, left_by, left_by_all, attempts_by, attempts_by_all}
 use Rattle.ee_cli_actions.specs.Connections.{BreaksOff, EndsWithFailure, PrintsLine, PrintsLines, ServesEach, ServesSocket, WritesNotAll, WritesSome, any_failed}
-use Rattle.ee_cli_value.specs.declared.endings.Outcome.{Outcome}
+use Rattle.ee_cli_actions.specs.declared.faults.Outcome.{Outcome}
 use Rattle.ee_cli_actions.specs.declared.faults.RunFault.{RunFault}
 use Rattle.ee_cli_actions.specs.declared.faults.RunFault.TheVariants.{Device}
 use Rattle.ee_cli_actions.specs.declared.faults.RunFault.TheVariants as fault

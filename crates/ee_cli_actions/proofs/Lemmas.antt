@@ -23,7 +23,7 @@ use Rattle.ee_counter.specs.declared.files.ImportFault.{ImportFault}
 use Rattle.ee_counter.specs.declared.files.ImportFault.TheVariants as import
 use Rattle.ee_cli_commands.specs.declared.commands.FileKind.{FileKind}
 use Rattle.ee_cli_commands.specs.declared.commands.FileKind.TheVariants as kind
-use Rattle.ee_cli_value.specs.declared.endings.Outcome.{Outcome}
+use Rattle.ee_cli_actions.specs.declared.faults.Outcome.{Outcome}
 use Rattle.ee_cli_actions.specs.Actions.{Applies, AreOf, ImportsInto, ExportsFrom, ShowsSheet}
 use Rattle.ee_cli_actions.specs.Connections.{ServesAll}
 use Rattle.ee_cli_actions.proofs.Connections.{each_with}

@@ -25,8 +25,8 @@ use Rattle.ee_cli_commands.specs.declared.commands.FileKind.{FileKind}
 use Rattle.ee_cli_commands.specs.declared.commands.FileKind.TheVariants as kind
 use Rattle.ee_cli_actions.specs.Endings.{fault_of_import, fault_of_unserved, outcome_of, ending_of}
 use Rattle.ee_cli_actions.specs.Printed.{reply_line}
-use Rattle.ee_cli_value.specs.declared.endings.Outcome.{Outcome}
-use Rattle.ee_cli_value.specs.declared.endings.Outcome.TheVariants.{Done}
+use Rattle.ee_cli_actions.specs.declared.faults.Outcome.{Outcome}
+use Rattle.ee_cli_actions.specs.declared.faults.Outcome.TheVariants.{Done}
 use Rattle.ee_cli_actions.specs.declared.faults.RunFault.{RunFault}
 use Rattle.ee_cli_actions.specs.declared.faults.RunFault.TheVariants as fault
 

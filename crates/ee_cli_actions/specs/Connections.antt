@@ -8,8 +8,8 @@ use Rattle.ee_desk_laws.specs.Attempts.{Attempt}
 use Rattle.ee_counter.specs.Serving.{Serves}
 use Rattle.ee_counter.specs.declared.connections.Ended.{Ended}
 use Rattle.ee_cli_actions.specs.Printed.{connection_lines}
-use Rattle.ee_cli_value.specs.declared.endings.Outcome.{Outcome}
-use Rattle.ee_cli_value.specs.declared.endings.Outcome.TheVariants.{Done}
+use Rattle.ee_cli_actions.specs.declared.faults.Outcome.{Outcome}
+use Rattle.ee_cli_actions.specs.declared.faults.Outcome.TheVariants.{Done}
 use Rattle.ee_cli_actions.specs.declared.faults.RunFault.{RunFault}
 use Rattle.ee_cli_actions.specs.declared.faults.RunFault.TheVariants.{File, Store, Device, NoMemory}
 use Rattle.ee_cli_actions.specs.declared.faults.StoreFault.TheVariants.{StoreFailed}

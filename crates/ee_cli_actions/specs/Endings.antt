@@ -11,13 +11,20 @@ use Rattle.ee_counter.specs.declared.connections.Why.{Why}
 use Rattle.ee_counter.specs.declared.connections.Why.TheVariants as why
 use Rattle.ee_counter.specs.declared.files.ImportFault.{ImportFault}
 use Rattle.ee_counter.specs.declared.files.ImportFault.TheVariants as import
-use Rattle.ee_cli_value.specs.declared.endings.Outcome.{Outcome}
-use Rattle.ee_cli_value.specs.declared.endings.Outcome.TheVariants.{Done, Refused}
+use Rattle.ee_cli_value.specs.declared.endings.Outcome as value
+use Rattle.ee_cli_value.specs.declared.endings.Outcome.TheVariants as value_outcome
 use Rattle.ee_cli_value.specs.declared.endings.PrintFault.{PrintFault}
 use Rattle.ee_cli_value.specs.declared.endings.PrintFault.TheVariants as print
+use Rattle.ee_cli_actions.specs.declared.faults.Outcome.{Outcome}
+use Rattle.ee_cli_actions.specs.declared.faults.Outcome.TheVariants.{Done, Refused, NoMessage, Unsettled}
 use Rattle.ee_cli_actions.specs.declared.faults.StoreFault.TheVariants.{StoreFailed}
 use Rattle.ee_cli_actions.specs.declared.faults.RunFault.{RunFault}
 use Rattle.ee_cli_actions.specs.declared.faults.RunFault.TheVariants as fault
+
+-- how a command ended that printed a value, or found none
+abbrev pub outcome_of_value : value.Outcome → Outcome
+outcome_of_value value_outcome.Done = Done
+outcome_of_value (value_outcome.Unsettled age) = Unsettled age
 
 -- the fault of a value that was not printed
 abbrev pub fault_of_print : PrintFault → RunFault
@@ -32,21 +39,21 @@ abbrev pub fault_of_import : ImportFault → RunFault
 fault_of_import (import.File cause) = fault.File cause
 fault_of_import (import.Unserved cause) = fault_of_unserved cause
 
--- whether the reply was a refusal
+-- the refusal, if the reply was one
 abbrev pub outcome_of : Reply → Outcome
 outcome_of (reply.Added new same) = Done
 outcome_of (reply.Opened day) = Done
 outcome_of (reply.Ticket ticket) = Done
 outcome_of (reply.Batch batch) = Done
-outcome_of (reply.Refused refusal) = Refused
+outcome_of (reply.Refused refusal) = Refused refusal
 
 -- the ending of a command that served one connection on which no answer said that the store failed; a framing fault was
--- answered, and is a refusal
+-- answered
 abbrev pub ending_by : Why → Result Outcome RunFault
 ending_by why.Closed = Ok Done
 ending_by why.Asked = Ok Done
 ending_by why.Limit = Ok Done
-ending_by (why.Fault cause) = Ok Refused
+ending_by (why.Fault cause) = Ok NoMessage
 ending_by why.ReadFailed = Err fault.Device
 ending_by why.WriteFailed = Err fault.Device
 ending_by why.NoMemory = Err fault.NoMemory

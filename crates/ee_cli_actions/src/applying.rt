@@ -15,8 +15,8 @@ use ee_keeper::Keeper;
 use std::alloc::Global;
 
 /// Serves the input as one connection, and writes the responses to the output. The command is done if the input
-/// ends between two messages, if a message asks to close, or after 1,000 messages. It is refused if the bytes
-/// are no message, which is answered. If an answer said that the store failed, it is `StoreFailed`, however
+/// ends between two messages, if a message asks to close, or after 1,000 messages. It is `NoMessage` if
+/// the bytes are no message, which is answered. If an answer said that the store failed, it is `StoreFailed`, however
 /// serving ended. Otherwise a failed device is `Device`, and refused memory `NoMemory`; the last message may
 /// then have been decided without a whole response. If the keeper takes 1,000 requests more, and the texts of all
 /// requests fit, it is `StoreFailed` only if a device of the store failed, or the store was shut before (`cause`).
@@ -47,7 +47,7 @@ fn ending(ended: Ended) -> Result<Outcome, RunFault>
     }
     match ended.why {
         Why::Closed | Why::Asked | Why::Limit => Ok(Outcome::Done),
-        Why::Fault(_) => Ok(Outcome::Refused),
+        Why::Fault(_) => Ok(Outcome::NoMessage),
         Why::ReadFailed | Why::WriteFailed => Err(RunFault::Device),
         Why::NoMemory => Err(RunFault::NoMemory),
     }

@@ -3,12 +3,25 @@
 ghost use Rattle.std.specs.Prelude.{◌≡◌};
 ghost use Rattle.ee_cli_actions.specs.Endings.{fault_of_unserved};
 
-pub use ee_cli_value::Outcome;
 use ee_cli_value::PrintFault;
-use ee_desk_model::Unserved;
+use ee_desk_model::{Refusal, Unserved};
 use ee_files::FileFault;
+use ee_units::Age;
 use std::alloc::AllocError;
 use thiserror::Error;
+
+/// How a command ended that was carried out.
+#[derive(Clone, Copy, Debug, PartialEq, Eq)]
+pub enum Outcome {
+    /// The command was done.
+    Done,
+    /// The reply was this refusal.
+    Refused(Refusal),
+    /// The input had bytes that are no message, which was answered.
+    NoMessage,
+    /// The precision doesn't settle the value; this is the least age at which it doesn't.
+    Unsettled(Age),
+}
 
 /// Why a store doesn't serve. The text of the fault is its name.
 #[derive(Clone, Copy, Debug, PartialEq, Eq, Error)]
@@ -52,6 +65,20 @@ impl RunFault {
         match cause {
             Unserved::NoMemory => RunFault::NoMemory,
             Unserved::StoreFailed => RunFault::Store(StoreFault::StoreFailed),
+        }
+    }
+}
+
+impl From<ee_cli_value::Outcome> for Outcome {
+    ghost use Rattle.std.specs.Prelude.{◌≡◌};
+    ghost use Rattle.ee_cli_actions.specs.Endings.{outcome_of_value};
+
+    ghost from_gives = { λ value outcome. outcome ≡ outcome_of_value value };
+
+    fn from(value: ee_cli_value::Outcome) -> Outcome {
+        match value {
+            ee_cli_value::Outcome::Done => Outcome::Done,
+            ee_cli_value::Outcome::Unsettled(age) => Outcome::Unsettled(age),
         }
     }
 }

@@ -23,7 +23,7 @@ use ee_units::Customer;
 use std::alloc::{AllocError, Global};
 
 /// Imports a file of this kind as one request under the desk's number, and prints the text of the reply on a
-/// line. The command is refused if the reply is a refusal. If the file has a fault, nothing was delivered. If
+/// line. If the reply is a refusal, the command is refused by it. If the file has a fault, nothing was delivered. If
 /// the output failed, or memory was refused to the text of the reply, the request was delivered: the same
 /// command line gives its reply again.
 pub fn import_into<K: Keeper, R: Source, W: Sink>(
@@ -110,7 +110,7 @@ fn outcome(reply: &Reply) -> Outcome
     ensures { result ≡ outcome_of reply.now }
 {
     match reply {
-        Reply::Refused(_) => Outcome::Refused,
+        Reply::Refused(refusal) => Outcome::Refused(*refusal),
         _ => Outcome::Done,
     }
 }

@@ -1,7 +1,7 @@
 -- What clap's contracts say of this program's lines.
-use Rattle.std.proofs.Common.{◌≡◌, ◌∙◌, Bool, true, false, not, List, [], ◌∷◌, Option, Some, Result, Ok, Err, is_some, refl, ap, map, subst, Bor, inl, inr}
-use Rattle.clap.specs.Words.{Row, Text, fault_of, is_simple, is_simple_and_free, subcommand_of, HasKind, IsAmong, Kinds, kind_of}
-use Rattle.std.specs.Prelude.{option_map, ◌&&◌}
+use Rattle.std.proofs.Common.{◌≡◌, ◌∙◌, None, String, Global, Bool, true, false, not, List, [], ◌∷◌, Option, Some, Result, Ok, Err, is_some, refl, ap, map, subst, Bor, inl, inr}
+use Rattle.clap.specs.Words.{Row, Text, fault_of, first_of, is_simple, is_simple_and_free, subcommand_of, HasKind, IsAmong, Kinds, kind_of}
+use Rattle.std.specs.Prelude.{IfSome, string_bytes, option_and_then, option_map, ◌&&◌}
 use Rattle.clap.specs.Kinds.{or_else, check_kinds}
 use Rattle.clap.specs.Faults.{level_fault, check_fault, walk_fault, settle_fault, defaults_fault, entered_fault}
 use Rattle.clap.specs.Simple.{Shape, built, names_of, entered, argument_words}
@@ -10,7 +10,7 @@ use Rattle.clap.specs.declared.error.Error.{Error}
 use Rattle.clap.specs.declared.error.ErrorKind.{ErrorKind}
 use Rattle.clap.proofs.OnLiterals.{clap_on_literals}
 use Rattle.ee_cli_commands.specs.CommandLine.{asked, program, kind_words}
-use Rattle.ee_cli_commands.specs.Answer.{IsAnswer, Gives, Refuses, view_of}
+use Rattle.ee_cli_commands.specs.Answer.{IsAnswer, IsWord, Gives, Refuses, view_of}
 use Rattle.ee_cli_commands.specs.declared.commands.Command.{Command}
 use Rattle.ee_cli_commands.specs.declared.commands.CommandFault.{CommandFault}
 use Rattle.ee_cli_commands.specs.declared.commands.CommandFault.TheVariants as fault
@@ -55,10 +55,18 @@ names_row k words e =
     let stop = (walk a.top.rules (names_of a) nothing_held args).stopped in
     level_wants a.top (names_of a) nothing_held args (is_some (entered a stop)) (entered_fault a stop) refl e
 
+word_found : (k : Bor (List (Bor Text))) (words : List Text) (name : Text) (row : Text × List Row) (word : Option (String Global)) → map (λ s. s.now) k.now ≡ kind_words
+    → subcommand_of (program k) words ≡ Some row → IfSome word (λ w. first_of name row.1 ≡ Some (string_bytes w)) → IfSome word (λ w. IsWord words name (string_bytes w))
+word_found k words name row (Some w) known is h = record { kinds = k; kind_words_are = known; found = ap (option_and_then (λ (r : Text × List Row). first_of name r.1)) is ∙ h }
+word_found k words name row None known is h = tt
+
 answered : (k : Bor (List (Bor Text))) (words : List Text) (r : Result Command CommandFault) (row : Text × List Row) → map (λ s. s.now) k.now ≡ kind_words → fault_of (program k) words ≡ []
-    → subcommand_of (program k) words ≡ Some row → Gives view_of r (asked row) → IsAnswer words r
+    → subcommand_of (program k) words ≡ Some row → Gives view_of row.1 r (asked row) → IsAnswer words r
 answered k words (Ok c) row known none is h = record { kinds = k; kind_words_are = known; read = none; asks = ap (option_map asked) is ∙ ap Some h }
-answered k words (Err (fault.Argument name)) row known none is h = record { kinds = k; kind_words_are = known; read = none; asks = ap (option_map asked) is ∙ ap Some h }
+answered k words (Err (fault.Argument name word)) row known none is h = (
+  record { kinds = k; kind_words_are = known; read = none; asks = ap (option_map asked) is ∙ ap Some h.0 },
+  word_found k words name.now row word known is h.1,
+)
 answered k words (Err (fault.Help text)) row known none is h = absurd h
 answered k words (Err fault.Version) row known none is h = absurd h
 answered k words (Err (fault.Line text)) row known none is h = absurd h
@@ -67,7 +75,7 @@ answered k words (Err fault.NoMemory) row known none is h = tt
 -- what the row that was matched asks for is the answer
 pub answers : (k : Bor (List (Bor Text))) (words : List Text) (r : Result Command CommandFault) (found : Option (Text × List Row)) → map (λ s. s.now) k.now ≡ kind_words
     → fault_of (program k) words ≡ [] → found ≡ subcommand_of (program k) words
-    → ((name : Text) (rows : List Row) → found ≡ Some (name, rows) → Gives view_of r (asked (name, rows))) → IsAnswer words r
+    → ((name : Text) (rows : List Row) → found ≡ Some (name, rows) → Gives view_of rows r (asked (name, rows))) → IsAnswer words r
 answers k words r found known none is h =
     let row = some_from_is_some (subcommand_of (program k) words) (names_row k words none) in
     answered k words r row.0 known none row.1 (h row.0.0 row.0.1 (is ∙ row.1))
@@ -80,5 +88,5 @@ refuses k words e fault.Version known (inl memory) h = cc
 refuses k words e fault.Version known (inr among) h = record { kinds = k; kind_words_are = known; refused = subst (λ (kind : ErrorKind). IsAmong kind (fault_of (program k) words)) h among }
 refuses k words e (fault.Line text) known (inl memory) h = absurd (h.0 memory)
 refuses k words e (fault.Line text) known (inr among) h = record { kind = kind_of e; by = record { kinds = k; kind_words_are = known; refused = among }; no_help = h.1; no_version = h.2 }
-refuses k words e (fault.Argument name) known kind h = absurd h
+refuses k words e (fault.Argument name word) known kind h = absurd h
 refuses k words e fault.NoMemory known kind h = tt

@@ -1,7 +1,7 @@
 -- The results of the command line reader.
-use Rattle.std.specs.Prelude.{◌≡◌, ◌≢◌, List, [], Some, Result, Ok, Err, ⊤, map}
+use Rattle.std.specs.Prelude.{◌≡◌, ◌≢◌, List, [], Some, IfSome, Result, Ok, Err, ⊤, map, option_and_then, string_bytes}
 use Rattle.std.specs.Borrow.{Bor}
-use Rattle.clap.specs.Words.{IsAmong, Text, fault_of}
+use Rattle.clap.specs.Words.{IsAmong, Row, Text, fault_of, first_of, subcommand_of}
 use Rattle.clap.specs.declared.error.ErrorKind.{ErrorKind}
 use Rattle.clap.specs.declared.error.ErrorKind.TheVariants.{DisplayHelp, DisplayVersion, OutOfMemory}
 use Rattle.ee_cli_commands.specs.CommandLine.{Asked, value, apply, imports, export, sheet, serve, asked_by, program, kind_words}
@@ -26,6 +26,12 @@ pub record IsAsked (words : List Text) (r : Result Asked Text) : Type 0 where
   pub kind_words_are : map (λ k. k.now) kinds.now ≡ kind_words
   pub read : fault_of (program kinds) words ≡ []
   pub asks : asked_by (program kinds) words ≡ Some r
+
+-- the word with this name in the row that clap matches
+pub record IsWord (words : List Text) (name word : Text) : Type 0 where
+  pub kinds : Bor (List (Bor Text))
+  pub kind_words_are : map (λ k. k.now) kinds.now ≡ kind_words
+  pub found : option_and_then (λ row. first_of name row.1) (subcommand_of (program kinds) words) ≡ Some word
 
 -- clap refuses the words with an error of this kind
 pub record IsRefusedBy (kind : ErrorKind) (words : List Text) : Type 0 where
@@ -71,7 +77,7 @@ NeverAsksForBoth = (words : List Text) → AsksForHelp words → AsksForVersion 
 -- what a result says about the words
 abbrev pub IsAnswer : List Text → Result Command CommandFault → Type 0
 IsAnswer words (Ok c) = IsAsked words (Ok (view_of c))
-IsAnswer words (Err (fault.Argument name)) = IsAsked words (Err name.now)
+IsAnswer words (Err (fault.Argument name word)) = IsAsked words (Err name.now) × IfSome word (λ w. IsWord words name.now (string_bytes w))
 IsAnswer words (Err (fault.Help text)) = AsksForHelp words
 IsAnswer words (Err fault.Version) = AsksForVersion words
 IsAnswer words (Err (fault.Line text)) = IsRefused words
@@ -82,19 +88,19 @@ abbrev pub Spells : {X Y : Type 0} → (X → Y) → Result X (Bor Text) → Res
 Spells view (Ok x) read = read ≡ Ok (view x)
 Spells view (Err name) read = read ≡ Err name.now
 
--- the same, with a fault that names the word
-abbrev pub Gives : {X Y : Type 0} → (X → Y) → Result X CommandFault → Result Y Text → Type 0
-Gives view (Ok x) read = read ≡ Ok (view x)
-Gives view (Err (fault.Argument name)) read = read ≡ Err name.now
-Gives view (Err (fault.Help text)) read = ⊥
-Gives view (Err fault.Version) read = ⊥
-Gives view (Err (fault.Line text)) read = ⊥
-Gives view (Err fault.NoMemory) read = ⊥
+-- the same, with a fault that has the name, and the word of the row with that name
+abbrev pub Gives : {X Y : Type 0} → (X → Y) → List Row → Result X CommandFault → Result Y Text → Type 0
+Gives view rows (Ok x) read = read ≡ Ok (view x)
+Gives view rows (Err (fault.Argument name word)) read = (read ≡ Err name.now) × IfSome word (λ w. first_of name.now rows ≡ Some (string_bytes w))
+Gives view rows (Err (fault.Help text)) read = ⊥
+Gives view rows (Err fault.Version) read = ⊥
+Gives view rows (Err (fault.Line text)) read = ⊥
+Gives view rows (Err fault.NoMemory) read = ⊥
 
 -- the fault for an error of clap
 abbrev pub Refuses : ErrorKind → CommandFault → Type 0
 Refuses kind (fault.Help text) = kind ≡ DisplayHelp
 Refuses kind fault.Version = kind ≡ DisplayVersion
 Refuses kind (fault.Line text) = (kind ≢ OutOfMemory) × (kind ≢ DisplayHelp) × (kind ≢ DisplayVersion)
-Refuses kind (fault.Argument name) = ⊥
+Refuses kind (fault.Argument name word) = ⊥
 Refuses kind fault.NoMemory = kind ≡ OutOfMemory

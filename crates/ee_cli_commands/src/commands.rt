@@ -1,13 +1,13 @@
 //! Reading the words of a command line, by clap.
 
-ghost use Rattle.std.specs.Prelude.{◌≡◌, IfOk, Some, List, map, true};
-ghost use Rattle.clap.specs.Words.{Row, Text, found_of, has_subcommand, kind_of, rows_of, subcommand_rows_of};
+ghost use Rattle.std.specs.Prelude.{◌≡◌, IfOk, IfSome, Some, List, map, string_bytes, true};
+ghost use Rattle.clap.specs.Words.{Row, Text, first_of, found_of, has_subcommand, kind_of, rows_of, subcommand_rows_of};
 ghost use Rattle.ee_cli_commands.specs.CommandLine.{asked};
 ghost use Rattle.ee_cli_commands.specs.Answer.{Gives, IsAnswer, Refuses, Spells, view_of};
 
 use crate::lines::{apply_line, export_line, import_line, serve_line, sheet_line, value_line};
 use crate::rows::program;
-use crate::words::WordName;
+use crate::words::{WordName, word};
 use clap::error::ErrorKind;
 use clap::{ArgMatches, Error};
 use ee_desk_model::{Desk, Number};
@@ -77,7 +77,11 @@ pub enum CommandFault {
     /// The words fit no row; the text is clap's.
     Line(String),
     /// The word with this name spells no value; the first such word in the row's order.
-    Argument(&'static str),
+    Argument {
+        name: &'static str,
+        /// The word, as it was typed; `None` if memory was refused to it.
+        word: Option<String>,
+    },
     /// Memory was refused.
     NoMemory,
 }
@@ -104,24 +108,34 @@ pub fn read_command<'a, S: AsStr>(
     ensures { IsAnswer (map S.text words.entry.now) result }
 {
     match program(alloc)?.try_get_matches_from(words) {
-        Ok(matches) => line(&matches),
+        Ok(matches) => line(alloc, &matches),
         Err(error) => Err(refusal(alloc, &error)?),
     }
 }
 
 // What the matched row asks for.
-fn line<'a>(matches: &ArgMatches<'a>) -> Result<Command<'a>, CommandFault>
+fn line<'a>(alloc: Global, matches: &ArgMatches<'a>) -> Result<Command<'a>, CommandFault>
     requires { has_subcommand matches.now ≡ true }
     ensures { (name : Text) (rows : List Row) → subcommand_rows_of matches.now ≡ Some (name, rows)
-        → Gives view_of result (asked (name, rows)) }
+        → Gives view_of rows result (asked (name, rows)) }
 {
     match matches.subcommand() {
         Some((name, row)) => match row_line(name, row) {
             Ok(command) => Ok(command),
-            Err(name) => Err(CommandFault::Argument(name)),
+            Err(name) => Err(CommandFault::Argument {
+                name,
+                word: copied(alloc, row, name),
+            }),
         },
         None => unreachable!(),
     }
+}
+
+// A copy of the word with this name; `None` if there is none, or if memory was refused.
+fn copied(alloc: Global, row: &ArgMatches, name: WordName) -> Option<String>
+    ensures { IfSome result (λ word. first_of name.now (rows_of (found_of row.now)) ≡ Some (string_bytes word)) }
+{
+    String::from_str(alloc, word(row, name)?).ok()
 }
 
 fn row_line<'a>(name: &str, row: &ArgMatches<'a>) -> Result<Command<'a>, WordName>

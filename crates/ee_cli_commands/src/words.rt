@@ -34,7 +34,8 @@ const MOST_NUMBER: u64 = 9_223_372_036_854_775_807;
 
 const MOST_PORT: u64 = 65_535;
 
-fn word<'a>(matches: &ArgMatches<'a>, name: WordName) -> Option<&'a str>
+/// The word with this name, as it was typed; `None` if there is none.
+pub fn word<'a>(matches: &ArgMatches<'a>, name: WordName) -> Option<&'a str>
     ensures { option_map (λ s. s.now) result ≡ first_of name.now (rows_of (found_of matches.now)) }
 {
     matches.get_str(name)

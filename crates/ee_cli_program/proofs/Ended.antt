@@ -6,16 +6,17 @@ use Rattle.ee_units.specs.declared.denoms.Denom.{Denom}
 use Rattle.ee_value.specs.Chain.{rates_with}
 use Rattle.ee_value.specs.declared.rates.Rates.{Rates}
 use Rattle.ee_cli_value.specs.Values.{PrintsValue}
+use Rattle.ee_cli_value.specs.declared.endings.Outcome as value_outcome
+use Rattle.ee_cli_value.specs.declared.endings.Outcome.TheVariants as printed
 use Rattle.ee_cli_value.specs.declared.endings.PrintFault.{PrintFault}
 use Rattle.ee_cli_value.specs.Printed.{value_line}
-use Rattle.ee_cli_value.specs.declared.endings.Outcome.{Outcome}
-use Rattle.ee_cli_value.specs.declared.endings.Outcome.TheVariants as outcome
+use Rattle.ee_cli_actions.specs.declared.faults.Outcome.{Outcome}
+use Rattle.ee_cli_actions.specs.declared.faults.Outcome.TheVariants as outcome
 use Rattle.ee_cli_actions.specs.declared.faults.RunFault.{RunFault}
 use Rattle.ee_cli_commands.specs.CommandLine.{Asked, value}
 use Rattle.ee_cli_commands.specs.Answer.{IsAsked, IsRefused}
 use Rattle.ee_cli_commands.proofs.Lemmas.{asks_for_help_alone, asks_for_version_alone, asks_for_one, asks_unrefused}
-use Rattle.ee_cli_value.specs.Statuses.{IsStatusFor, IsStatusOf}
-use Rattle.ee_cli_program.specs.Statuses.{AsksToShow, Carries, Ends, IsRun, ending_of_print}
+use Rattle.ee_cli_program.specs.Statuses.{AsksToShow, Carries, Ends, IsRun, IsStatusFor, IsStatusOf, Refuses, ending_of_print}
 
 -- ---- the words determine what they ask for
 
@@ -88,10 +89,6 @@ is_done words Carried Unread asked status is w zero = record {
   bad_line = λ two. absurd (omega (arith, zero, two));
 }
 
--- a command that was refused, or found the value unsettled
-abbrev Refuses : (Result Outcome RunFault → Type 0) → Type 0
-Refuses Carried = Carried (Ok outcome.Refused) ⊎ ((age : ℕ) × Carried (Ok (outcome.Unsettled age)))
-
 is_refused : (words : List Text) (Carried : Asked → Result Outcome RunFault → Type 0) (Unread : Type 0) (asked : Asked) (status : ℕ)
     → IsAsked words (Ok asked) → Refuses (Carried asked) → status ≡ 1 → IsRun words Carried Unread status
 is_refused words Carried Unread asked status is w one = record {
@@ -113,8 +110,9 @@ is_refused words Carried Unread asked status is w one = record {
 concluded : (words : List Text) (Carried : Asked → Result Outcome RunFault → Type 0) (Unread : Type 0) (asked : Asked) (ended : Outcome) (status : ℕ)
     → IsAsked words (Ok asked) → Carried asked (Ok ended) → IsStatusFor ended status → IsRun words Carried Unread status
 concluded words Carried Unread asked outcome.Done status is w h = is_done words Carried Unread asked status is w h
-concluded words Carried Unread asked outcome.Refused status is w h = is_refused words Carried Unread asked status is (inl w) h
-concluded words Carried Unread asked (outcome.Unsettled age) status is w (inl one) = is_refused words Carried Unread asked status is (inr (age, w)) one
+concluded words Carried Unread asked (outcome.Refused refusal) status is w h = is_refused words Carried Unread asked status is (inl (refusal, w)) h
+concluded words Carried Unread asked outcome.NoMessage status is w h = is_refused words Carried Unread asked status is (inr (inl w)) h
+concluded words Carried Unread asked (outcome.Unsettled age) status is w (inl one) = is_refused words Carried Unread asked status is (inr (inr (age, w))) one
 concluded words Carried Unread asked (outcome.Unsettled age) status is w (inr three) =
     is_failed words Carried Unread status (λ other also. inr (inl (age, subst (λ (a : Asked). Carried a (Ok (outcome.Unsettled age))) (one_command words asked other is also) w))) three
 
@@ -160,11 +158,10 @@ refused_line words Carried Unread status bad (inr three) = is_failed words Carri
 -- ---- the value's line
 
 -- a value's command that was done printed its line
-printed_where_done : (denom : Denom) (issued month : ℕ) (rates : Rates) (old new : Option (List ℕ)) (ended : Result Outcome PrintFault)
+printed_where_done : (denom : Denom) (issued month : ℕ) (rates : Rates) (old new : Option (List ℕ)) (ended : Result value_outcome.Outcome PrintFault)
     → PrintsValue denom issued month rates old new ended → Ok outcome.Done ≡ ending_of_print ended → Appends old new (value_line denom issued month rates)
-printed_where_done denom issued month rates old new (Ok outcome.Done) line is = subst (Appends old new) (line.whole refl) line.written
-printed_where_done denom issued month rates old new (Ok outcome.Refused) line is = absurd line
-printed_where_done denom issued month rates old new (Ok (outcome.Unsettled age)) line is = absurd (cc)
+printed_where_done denom issued month rates old new (Ok printed.Done) line is = subst (Appends old new) (line.whole refl) line.written
+printed_where_done denom issued month rates old new (Ok (printed.Unsettled age)) line is = absurd (cc)
 printed_where_done denom issued month rates old new (Err cause) line is = absurd (cc)
 
 -- of a value that was asked for, status 0 says that its line was printed

@@ -1,6 +1,6 @@
 -- Lemmas that the proofs of crates above use.
 use Rattle.std.proofs.Common.{inl, inr, ℕ, List, Option, Result}
-use Rattle.ee_cli_value.specs.declared.endings.Outcome.{Outcome}
+use Rattle.ee_cli_actions.specs.declared.faults.Outcome.{Outcome}
 use Rattle.ee_cli_actions.specs.declared.faults.RunFault.{RunFault}
 use Rattle.ee_cli_program.specs.Stores.{Tries}
 

@@ -1,15 +1,19 @@
--- What the second line of a fault says.
-use Rattle.std.specs.Prelude.{List, [], ℕ, Option, Some, None, ◌++◌, codes, option_and_then}
+-- The second lines of faults and refusals.
+use Rattle.std.specs.Prelude.{List, [], ℕ, Option, Some, None, Result, Ok, Err, ◌++◌, ◌==◌, codes, option_and_then, option_map, if◌then◌else◌}
 use Rattle.std.specs.Borrow.{Bor}
 use Rattle.std.specs.Fmt.{decimal}
 use Rattle.std.specs.declared.io.ErrorKind.{ErrorKind}
 use Rattle.std.specs.declared.io.ErrorKind.TheVariants.{Unsupported}
+use Rattle.ee_desk_model.specs.Codes.{code_of}
 use Rattle.ee_files.specs.Columns.{column_name}
+use Rattle.ee_files.specs.declared.columns.FileColumn.{FileColumn}
 use Rattle.ee_files.specs.declared.faults.FileCode.{FileCode}
 use Rattle.ee_files.specs.declared.faults.FileCode.TheVariants as code
 use Rattle.ee_files.specs.declared.faults.FileFault.{FileFault}
 use Rattle.ee_store_files.specs.declared.causes.OpenCause.{OpenCause}
 use Rattle.ee_store_files.specs.declared.causes.OpenCause.TheVariants as opening
+use Rattle.ee_cli_actions.specs.declared.faults.Outcome.{Outcome}
+use Rattle.ee_cli_actions.specs.declared.faults.Outcome.TheVariants as outcome
 use Rattle.ee_cli_actions.specs.declared.faults.RunFault.{RunFault}
 use Rattle.ee_cli_actions.specs.declared.faults.RunFault.TheVariants as fault
 use Rattle.ee_cli_actions.specs.declared.faults.StoreFault.{StoreFault}
@@ -19,8 +23,13 @@ use Rattle.ee_cli_commands.specs.declared.commands.Command.TheVariants as comman
 use Rattle.ee_cli_commands.specs.declared.commands.FileKind.{FileKind}
 use Rattle.ee_cli_commands.specs.declared.commands.FileKind.TheVariants as kind
 use Rattle.ee_cli_program.specs.Causes.{cause_of_kind, system_text}
-use Rattle.ee_cli_program.specs.Spellings.{spelling_text, spelling_of_column}
+use Rattle.ee_cli_program.specs.Forms.{form_text}
+use Rattle.ee_cli_program.specs.Spellings.{spelling_text, spelling_of_argument, spelling_of_column}
+use Rattle.ee_cli_program.specs.Unpaid.{unpaid_in, unpaid_text}
+use Rattle.ee_cli_program.specs.declared.forms.Form.{Form}
+use Rattle.ee_cli_program.specs.declared.unpaid.Unpaid.{Unpaid}
 use Rattle.ee_cli_program.specs.declared.system.SystemCause.{SystemCause}
+use Rattle.ee_cli_program.specs.declared.system.SystemCause.TheVariants.{Folder}
 use Rattle.ee_cli_program.specs.declared.explaining.Cause.{Cause}
 use Rattle.ee_cli_program.specs.declared.explaining.Cause.TheVariants as cause
 use Rattle.ee_cli_program.specs.declared.explaining.Explanation.{Explanation}
@@ -44,6 +53,25 @@ abbrev pub is_text : Option (Bor (List ℕ)) → List ℕ
 is_text (Some shown) = codes " is \"" ++ (shown.now ++ codes "\"")
 is_text None = []
 
+-- the meaning of a refusal's code for an import, and a remedy
+abbrev pub meaning_text : ℕ → List ℕ
+meaning_text code = if code == 10 then codes "this desk has sent another request under this number"
+    else (if code == 11 then codes "it has no rows"
+    else (if code == 12 then codes "it has more than 500 rows; send it in parts"
+    else (if code == 13 then codes "it has a serial number twice; leave one of the rows out"
+    else (if code == 14 then codes "it has a bond whose coowner is its owner; name another coowner, or none"
+    else (if code == 20 then codes "rates hold from a May or a November; correct the month"
+    else (if code == 21 then codes "a month has other rates, in the books or in an earlier row; compare them with Treasury's announcement"
+    else (if code == 22 then codes "a value at these rates can't be settled to the cent; compare them with Treasury's announcement"
+    else (if code == 30 then codes "no rates are entered for a bond's issue month; enter them first"
+    else (if code == 31 then codes "a bond is registered with other content; compare it with the paper"
+    else codes "the books refuse it")))))))))
+
+-- the form of a file, if it is known, and how to save it
+abbrev pub saving_text : Option Form → List ℕ
+saving_text (Some form) = codes ": " ++ (form_text form ++ codes "; save it as CSV, in UTF-8 and with commas")
+saving_text None = codes "; correct it"
+
 -- why a store wasn't opened, and what to do
 abbrev pub opening_text : OpenCause → List ℕ
 opening_text opening.NoMemory = codes "memory was refused; run the line again"
@@ -61,11 +89,15 @@ opening_text opening.Failed = codes "a read or a write of it failed; look at the
 
 -- the line, without its end
 abbrev pub explanation_text : Explanation → List ℕ
-explanation_text (says.Argument spelling) = spelling_text spelling
-explanation_text (says.Header file k) = file.now ++ (codes ": the first row is not " ++ (header_text k ++ codes "; correct it, and send the file again"))
+explanation_text (says.Argument name word spelling) = name.now ++ (is_text word ++ (codes ": " ++ spelling_text spelling))
+explanation_text (says.Refused file code) = file.now ++ (codes ": " ++ (meaning_text code ++ codes "; nothing was changed, and the next try needs a new number"))
+explanation_text (says.Header file k form) = file.now ++ (codes ": the first row is not " ++ (header_text k ++ (saving_text form ++ codes ", and send the file again")))
 explanation_text (says.FieldCount file row) = file.now ++ (codes ": row " ++ (decimal row ++ codes " has not one field for each column; correct it, and send the file again"))
 explanation_text (says.Field file row column shown) = file.now ++ (codes ": row " ++ (decimal row ++ (codes ", column " ++ (column_name column ++ (is_text shown ++ (codes ": "
     ++ (spelling_text (spelling_of_column column) ++ codes "; correct it, and send the file again")))))))
+explanation_text (says.Unpaid file row column shown why) = file.now ++ (codes ": row " ++ (decimal row ++ (codes ", column " ++ (column_name column ++ (codes " is \""
+    ++ (shown.now ++ (codes "\": " ++ (unpaid_text why ++ codes ", which this counter doesn't pay; send it to Treasury with FS Form 1522, and the file again without it"))))))))
+explanation_text (says.Folder file) = file.now ++ codes ": it is a folder; name a file in it"
 explanation_text (says.Unread file why) = file.now ++ (codes ": " ++ (because why (codes "a read failed") ++ codes "; send the file again"))
 explanation_text (says.TooLong file) = file.now ++ codes ": it has more than 1048576 bytes; send it in parts, each under a number of its own"
 explanation_text (says.NoFile file why) = file.now ++ (codes ": " ++ (because why (codes "it was not opened") ++ codes "; correct the path, and send the file again"))
@@ -84,6 +116,15 @@ explanation_text (says.NotWrittenBack path) = path.now ++ codes ": the work is d
 explanation_text says.NoMemory = codes "memory was refused; run the line again"
 
 -- ---- which it is
+
+-- of a word with this name that spells no value
+abbrev pub of_argument : Bor (List ℕ) → Option (Bor (List ℕ)) → Option Explanation
+of_argument name word = option_map (says.Argument name word) (spelling_of_argument name.now)
+
+-- of a refused import
+abbrev pub of_refusal : Command → ℕ → Option Explanation
+of_refusal (command.Import k file db desk number) code = Some (says.Refused file code)
+of_refusal _ code = None
 
 -- the cause of an error of this kind, if there was one
 abbrev pub of_kind : Option ErrorKind → Option SystemCause
@@ -124,11 +165,30 @@ abbrev pub of_reading : Option Cause → Option SystemCause
 of_reading (Some (cause.File why)) = why
 of_reading noted = None
 
+-- the form of a file, if it is known
+abbrev pub form_in : Option Cause → Option Form
+form_in (Some (cause.Form form)) = Some form
+form_in noted = None
+
+-- of a file that was opened, and not read
+abbrev pub of_unread : Bor (List ℕ) → Option SystemCause → Explanation
+of_unread file (Some Folder) = says.Folder file
+of_unread file why = says.Unread file why
+
+-- of a field that spells no value, which may be that of genuine paper
+abbrev pub unless_unpaid : Bor (List ℕ) → ℕ → FileColumn → Bor (List ℕ) → Option Unpaid → Explanation
+unless_unpaid file row column field (Some why) = says.Unpaid file row column field why
+unless_unpaid file row column field None = says.Field file row column (Some field)
+
+abbrev pub of_value : Bor (List ℕ) → ℕ → FileColumn → Option (Bor (List ℕ)) → Explanation
+of_value file row column (Some field) = unless_unpaid file row column field (unpaid_in column field.now)
+of_value file row column None = says.Field file row column None
+
 abbrev pub by_code : FileKind → Bor (List ℕ) → ℕ → FileCode → Option Cause → Option (Bor (List ℕ)) → Explanation
-by_code k file row code.BadHeader noted shown = says.Header file k
+by_code k file row code.BadHeader noted shown = says.Header file k (form_in noted)
 by_code k file row code.WrongFieldCount noted shown = says.FieldCount file row
-by_code k file row (code.BadValue column) noted shown = says.Field file row column shown
-by_code k file row code.ReadFailed noted shown = says.Unread file (of_reading noted)
+by_code k file row (code.BadValue column) noted shown = of_value file row column shown
+by_code k file row code.ReadFailed noted shown = of_unread file (of_reading noted)
 by_code k file row code.NoMemory noted shown = says.NoMemory
 by_code k file row code.FileTooLong noted shown = says.TooLong file
 
@@ -158,9 +218,15 @@ of_store (command.Export customer db) f noted = Some (in_store db f noted)
 of_store (command.Sheet customer month db) f noted = Some (in_store db f noted)
 of_store (command.Serve db port connections) f noted = Some (in_store db f noted)
 
--- what the second line of a command's fault says
-abbrev pub explanation_of : Command → RunFault → Known → Option Explanation
-explanation_of line fault.NoMemory known = Some says.NoMemory
-explanation_of line fault.Device known = Some (of_device line known)
-explanation_of line (fault.File f) known = of_file line f known
-explanation_of line (fault.Store f) known = of_store line f known.cause
+-- of a command's fault
+abbrev pub of_fault : Command → RunFault → Known → Option Explanation
+of_fault line fault.NoMemory known = Some says.NoMemory
+of_fault line fault.Device known = Some (of_device line known)
+of_fault line (fault.File f) known = of_file line f known
+of_fault line (fault.Store f) known = of_store line f known.cause
+
+-- what the second line of a command says that ended so
+abbrev pub explanation_of : Command → Result Outcome RunFault → Known → Option Explanation
+explanation_of line (Ok (outcome.Refused refusal)) known = of_refusal line (code_of refusal)
+explanation_of line (Ok ended) known = None
+explanation_of line (Err f) known = of_fault line f known

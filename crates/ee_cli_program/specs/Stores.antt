@@ -11,7 +11,7 @@ use Rattle.ee_counter.specs.Serving.{most_messages}
 use Rattle.ee_cli_actions.specs.Actions.{Applies, ExportsFrom, FitFile, ImportsInto, ShowsSheet}
 use Rattle.ee_cli_actions.specs.Endings.{TellsFailureOnlyIf}
 use Rattle.ee_cli_actions.specs.Connections.{ServesAll}
-use Rattle.ee_cli_value.specs.declared.endings.Outcome.{Outcome}
+use Rattle.ee_cli_actions.specs.declared.faults.Outcome.{Outcome}
 use Rattle.ee_cli_actions.specs.declared.faults.RunFault.{RunFault}
 use Rattle.ee_cli_actions.specs.declared.faults.RunFault.TheVariants.{Store, Device}
 use Rattle.ee_cli_actions.specs.declared.faults.StoreFault.TheVariants.{NotWrittenBack}

@@ -249,7 +249,7 @@ fn value<W: Sink>(
 ) -> Result<Outcome, RunFault>
     ensures { ShowsValue denom issued month rates (W.contents output.old) (W.contents output.new) result }
 {
-    Ok(print_value(rt.alloc(), denom, issued, month, rates, output)?)
+    Ok(print_value(rt.alloc(), denom, issued, month, rates, output)?.into())
 }
 
 // A command that ended so, and opened all that it needs.

@@ -1,29 +1,32 @@
-//! The second line of a fault: where it arose, why, and what to do.
+//! The second line of a fault or a refusal: where it arose, why, and what to do.
 
-ghost use Rattle.std.specs.Prelude.{◌≡◌, option_map};
-ghost use Rattle.ee_cli_program.specs.Spellings.{spelling_of_argument};
-ghost use Rattle.ee_cli_program.specs.Explained.{explanation_of, in_file, in_store, of_device, of_file, of_kind, of_reading, of_serving, of_store, of_streams};
+ghost use Rattle.std.specs.Prelude.{◌≡◌};
+ghost use Rattle.ee_cli_program.specs.Explained.{explanation_of, form_in, in_file, in_store, of_argument, of_device, of_fault, of_file, of_kind, of_reading, of_refusal, of_serving, of_store, of_streams, of_unread, of_value};
 
+use crate::forms::Form;
 use crate::lines::{
-    write_answers, write_connections, write_field, write_field_count, write_header, write_input,
-    write_input_or_output, write_log, write_no_file, write_no_port, write_not_written_back,
-    write_output, write_store_failed, write_too_long, write_unopened, write_unread, write_unusable,
-    write_wrong_version,
+    write_answers, write_argument, write_connections, write_field, write_field_count, write_folder,
+    write_header, write_input, write_input_or_output, write_log, write_no_file, write_no_port,
+    write_not_written_back, write_output, write_refused, write_store_failed, write_too_long,
+    write_unopened, write_unpaid, write_unread, write_unusable, write_wrong_version,
 };
 use crate::spellings::{Spelling, spelling_of_argument};
 use crate::system::SystemCause;
-use ee_cli_actions::{RunFault, StoreFault};
+use crate::unpaid::{Unpaid, unpaid_in};
+use ee_cli_actions::{Outcome, RunFault, StoreFault};
 use ee_cli_commands::{Command, FileKind};
 use ee_files::{FileCode, FileColumn, FileFault};
 use ee_store_files::OpenCause;
 use std::fmt;
 use std::io::ErrorKind;
 
-/// What wasn't opened, and why, if that is known.
+/// The file, port or store that wasn't opened or read, and why, if that is known.
 #[derive(Clone, Copy, Debug, PartialEq, Eq)]
 pub enum Cause {
     /// The file of an import.
     File(Option<SystemCause>),
+    /// The form of a file that isn't CSV with commas.
+    Form(Form),
     /// The port of a server.
     Port(Option<SystemCause>),
     /// The files of a store.
@@ -33,7 +36,7 @@ pub enum Cause {
 /// What is known of why a command failed.
 #[derive(Clone, Copy)]
 pub struct Known<'a> {
-    /// What wasn't opened.
+    /// The file, port or store that wasn't opened or read.
     pub cause: Option<Cause>,
     /// The field of a file that spells no value, as it is shown.
     pub field: Option<&'a str>,
@@ -43,15 +46,27 @@ pub struct Known<'a> {
     pub output: Option<ErrorKind>,
 }
 
-/// What the second line of a fault says.
+/// The content of the second line of a fault or a refusal.
 #[derive(Clone, Copy)]
 pub enum Explanation<'a> {
     /// A word spells no value.
-    Argument(Spelling),
+    Argument {
+        name: &'a str,
+        /// The word, if there is one.
+        word: Option<&'a str>,
+        spelling: Spelling,
+    },
+    /// The import of a file was refused, with this code.
+    Refused {
+        file: &'a str,
+        code: u8,
+    },
     /// The first record of the file is no header.
     Header {
         file: &'a str,
         kind: FileKind,
+        /// The form of the file, if it is known.
+        form: Option<Form>,
     },
     /// A record hasn't one field for each column.
     FieldCount {
@@ -65,6 +80,19 @@ pub enum Explanation<'a> {
         column: FileColumn,
         /// The field, as it is shown, if it is known.
         shown: Option<&'a str>,
+    },
+    /// A field is of genuine paper that this counter doesn't pay.
+    Unpaid {
+        file: &'a str,
+        row: u64,
+        column: FileColumn,
+        /// The field, as it is shown.
+        shown: &'a str,
+        why: Unpaid,
+    },
+    /// The file is a folder.
+    Folder {
+        file: &'a str,
     },
     /// A read of the file failed.
     Unread {
@@ -131,8 +159,13 @@ impl fmt::Display for Explanation<'_> {
 
     fn fmt<W: fmt::Write>(&self, f: &mut fmt::Formatter<W>) -> fmt::Result {
         match *self {
-            Explanation::Argument(spelling) => write!(f, "{spelling}"),
-            Explanation::Header { file, kind } => write_header(f, file, kind),
+            Explanation::Argument {
+                name,
+                word,
+                spelling,
+            } => write_argument(f, name, word, spelling),
+            Explanation::Refused { file, code } => write_refused(f, file, code),
+            Explanation::Header { file, kind, form } => write_header(f, file, kind, form),
             Explanation::FieldCount { file, row } => write_field_count(f, file, row),
             Explanation::Field {
                 file,
@@ -140,6 +173,14 @@ impl fmt::Display for Explanation<'_> {
                 column,
                 shown,
             } => write_field(f, file, row, column, shown),
+            Explanation::Unpaid {
+                file,
+                row,
+                column,
+                shown,
+                why,
+            } => write_unpaid(f, file, row, column, shown, why),
+            Explanation::Folder { file } => write_folder(f, file),
             Explanation::Unread { file, cause } => write_unread(f, file, cause),
             Explanation::TooLong { file } => write_too_long(f, file),
             Explanation::NoFile { file, cause } => write_no_file(f, file, cause),
@@ -160,24 +201,49 @@ impl fmt::Display for Explanation<'_> {
     }
 }
 
-/// What the second line of a bad argument says; `None` for a name that no line has.
-pub fn explain_argument(name: &str) -> Option<Explanation<'static>>
-    ensures { result ≡ option_map Explanation.Argument (spelling_of_argument name.now) }
+/// The second line of a bad argument, with its word if there is one; `None` for a name that no line has.
+pub fn explain_argument<'a>(name: &'a str, word: Option<&'a str>) -> Option<Explanation<'a>>
+    ensures { result ≡ of_argument name.entry word.entry }
 {
     match spelling_of_argument(name) {
-        Some(spelling) => Some(Explanation::Argument(spelling)),
+        Some(spelling) => Some(Explanation::Argument {
+            name,
+            word,
+            spelling,
+        }),
         None => None,
     }
 }
 
-/// What the second line of a fault of a command says, by what is `known`. `None` for a fault that the command can't
-/// have.
+/// The second line of a command that `ended` so, by what is `known`. `None` if the command was done, and for an end that
+/// it can't have.
 pub fn explain<'a>(
     command: &Command<'a>,
-    fault: RunFault,
+    ended: &Result<Outcome, RunFault>,
     known: Known<'a>,
 ) -> Option<Explanation<'a>>
-    ensures { result ≡ explanation_of command.now fault known.entry }
+    ensures { result ≡ explanation_of command.now ended.now known.entry }
+{
+    match ended {
+        Ok(Outcome::Refused(refusal)) => of_refusal(command, refusal.code()),
+        Ok(_) => None,
+        Err(fault) => of_fault(command, *fault, known),
+    }
+}
+
+// Of a refused import.
+fn of_refusal<'a>(command: &Command<'a>, code: u8) -> Option<Explanation<'a>>
+    ensures { result ≡ of_refusal command.now code }
+{
+    match *command {
+        Command::Import { file, .. } => Some(Explanation::Refused { file, code }),
+        _ => None,
+    }
+}
+
+// Of a fault of a command.
+fn of_fault<'a>(command: &Command<'a>, fault: RunFault, known: Known<'a>) -> Option<Explanation<'a>>
+    ensures { result ≡ of_fault command.now fault known.entry }
 {
     match fault {
         RunFault::NoMemory => Some(Explanation::NoMemory),
@@ -251,20 +317,69 @@ fn in_file<'a>(kind: FileKind, file: &'a str, fault: FileFault, known: Known<'a>
 {
     let row = fault.row;
     match fault.code {
-        FileCode::BadHeader => Explanation::Header { file, kind },
+        FileCode::BadHeader => {
+            let form = form_in(known.cause);
+            Explanation::Header { file, kind, form }
+        }
         FileCode::WrongFieldCount => Explanation::FieldCount { file, row },
-        FileCode::BadValue(column) => Explanation::Field {
+        FileCode::BadValue(column) => of_value(file, row, column, known.field),
+        FileCode::ReadFailed => of_unread(file, of_reading(known.cause)),
+        FileCode::NoMemory => Explanation::NoMemory,
+        FileCode::FileTooLong => Explanation::TooLong { file },
+    }
+}
+
+// The form of a file, if it is known.
+fn form_in(cause: Option<Cause>) -> Option<Form>
+    ensures { result ≡ form_in cause }
+{
+    match cause {
+        Some(Cause::Form(form)) => Some(form),
+        _ => None,
+    }
+}
+
+// Of a field that spells no value.
+fn of_value<'a>(
+    file: &'a str,
+    row: u64,
+    column: FileColumn,
+    shown: Option<&'a str>,
+) -> Explanation<'a>
+    ensures { result ≡ of_value file.entry row column shown.entry }
+{
+    match shown {
+        Some(field) => match unpaid_in(column, field) {
+            Some(why) => Explanation::Unpaid {
+                file,
+                row,
+                column,
+                shown: field,
+                why,
+            },
+            None => Explanation::Field {
+                file,
+                row,
+                column,
+                shown,
+            },
+        },
+        None => Explanation::Field {
             file,
             row,
             column,
-            shown: known.field,
+            shown,
         },
-        FileCode::ReadFailed => {
-            let cause = of_reading(known.cause);
-            Explanation::Unread { file, cause }
-        }
-        FileCode::NoMemory => Explanation::NoMemory,
-        FileCode::FileTooLong => Explanation::TooLong { file },
+    }
+}
+
+// Of a file that was opened, and not read.
+fn of_unread<'a>(file: &'a str, cause: Option<SystemCause>) -> Explanation<'a>
+    ensures { result ≡ of_unread file.entry cause }
+{
+    match cause {
+        Some(SystemCause::Folder) => Explanation::Folder { file },
+        _ => Explanation::Unread { file, cause },
     }
 }
 

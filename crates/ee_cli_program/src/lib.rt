@@ -10,6 +10,7 @@
 
 mod carrying;
 mod explaining;
+mod forms;
 mod lines;
 mod opening;
 mod run;
@@ -17,13 +18,16 @@ mod spellings;
 mod stores;
 mod streams;
 mod system;
+mod unpaid;
 
 pub use carrying::{CarriedOut, carry_out};
 pub use ee_cli_value::{BAD_LINE, DONE, FAILED, REFUSED};
 pub use explaining::{Cause, Explanation, Known, explain, explain_argument};
+pub use forms::{Form, form_of};
 pub use opening::Carried;
 pub use run::{Ran, refuse_words, run_words};
 pub use spellings::{Spelling, spelling_of_argument, spelling_of_column};
 pub use stores::{Left, Stores, Unopened};
 pub use streams::{Noting, Stream};
 pub use system::SystemCause;
+pub use unpaid::{Unpaid, unpaid_in};

@@ -2,29 +2,57 @@
 
 ghost use Rattle.std.specs.Prelude.{◌≡◌, Some};
 ghost use Rattle.std.specs.Fmt.{DisplaysOnOk};
-ghost use Rattle.ee_cli_program.specs.Explained.{explanation_text, header_text};
+ghost use Rattle.ee_cli_program.specs.Explained.{explanation_text, header_text, meaning_text};
 ghost use Rattle.ee_cli_program.specs.declared.explaining.Explanation.TheVariants as says;
 
-use crate::spellings::spelling_of_column;
+use crate::forms::Form;
+use crate::spellings::{Spelling, spelling_of_column};
 use crate::system::SystemCause;
+use crate::unpaid::Unpaid;
 use ee_cli_commands::FileKind;
 use ee_files::FileColumn;
 use ee_store_files::OpenCause;
 use std::fmt;
 use std::io::ErrorKind;
 
+/// Writes the line of a word that spells no value.
+pub fn write_argument<W: fmt::Write>(
+    f: &mut fmt::Formatter<W>,
+    name: &str,
+    word: Option<&str>,
+    spelling: Spelling,
+) -> fmt::Result
+    ensures writes { DisplaysOnOk W.write_str_gives f.old result (Some (explanation_text (says.Argument name.entry word.entry spelling))) f.new }
+{
+    let word = Is(word);
+    write!(f, "{name}{word}: {spelling}")
+}
+
+/// Writes the line of a refused import.
+pub fn write_refused<W: fmt::Write>(f: &mut fmt::Formatter<W>, file: &str, code: u8) -> fmt::Result
+    ensures writes { DisplaysOnOk W.write_str_gives f.old result (Some (explanation_text (says.Refused file.entry code))) f.new }
+{
+    let meaning = Meaning(code);
+    write!(
+        f,
+        "{file}: {meaning}; nothing was changed, and the next try needs a new number"
+    )
+}
+
 /// Writes the line of a file whose first record is no header.
 pub fn write_header<W: fmt::Write>(
     f: &mut fmt::Formatter<W>,
     file: &str,
     kind: FileKind,
+    form: Option<Form>,
 ) -> fmt::Result
-    ensures writes { DisplaysOnOk W.write_str_gives f.old result (Some (explanation_text (says.Header file.entry kind))) f.new }
+    ensures writes { DisplaysOnOk W.write_str_gives f.old result (Some (explanation_text (says.Header file.entry kind form))) f.new }
 {
     let header = header_text(kind);
+    let remedy = Saving(form);
     write!(
         f,
-        "{file}: the first row is not {header}; correct it, and send the file again"
+        "{file}: the first row is not {header}{remedy}, and send the file again"
     )
 }
 
@@ -58,6 +86,30 @@ pub fn write_field<W: fmt::Write>(
         f,
         "{file}: row {row}, column {column}{shown}: {spelling}; correct it, and send the file again"
     )
+}
+
+/// Writes the line of a field of genuine paper that this counter doesn't pay.
+pub fn write_unpaid<W: fmt::Write>(
+    f: &mut fmt::Formatter<W>,
+    file: &str,
+    row: u64,
+    column: FileColumn,
+    shown: &str,
+    why: Unpaid,
+) -> fmt::Result
+    ensures writes { DisplaysOnOk W.write_str_gives f.old result (Some (explanation_text (says.Unpaid file.entry row column shown.entry why))) f.new }
+{
+    write!(
+        f,
+        "{file}: row {row}, column {column} is \"{shown}\": {why}, which this counter doesn't pay; send it to Treasury with FS Form 1522, and the file again without it"
+    )
+}
+
+/// Writes the line of a file that is a folder.
+pub fn write_folder<W: fmt::Write>(f: &mut fmt::Formatter<W>, file: &str) -> fmt::Result
+    ensures writes { DisplaysOnOk W.write_str_gives f.old result (Some (explanation_text (says.Folder file.entry))) f.new }
+{
+    write!(f, "{file}: it is a folder; name a file in it")
 }
 
 /// Writes the line of a file whose read failed.
@@ -250,6 +302,61 @@ pub fn write_not_written_back<W: fmt::Write>(f: &mut fmt::Formatter<W>, store: &
         f,
         "{store}: the work is done, and is kept in the file and its log together; look at the disk"
     )
+}
+
+// The meaning of a refusal's code for an import, and a remedy.
+#[derive(Clone, Copy)]
+struct Meaning(u8);
+
+impl fmt::Display for Meaning {
+    ghost use Rattle.std.specs.Prelude.{Some};
+    ghost use Rattle.ee_cli_program.specs.Explained.{meaning_text};
+
+    ghost output = { λ it. Some (meaning_text it.0) };
+
+    fn fmt<W: fmt::Write>(&self, f: &mut fmt::Formatter<W>) -> fmt::Result {
+        f.write_str(meaning_text(self.0))
+    }
+}
+
+fn meaning_text(code: u8) -> &'static str
+    ensures { result.now ≡ meaning_text code }
+{
+    match code {
+        10 => "this desk has sent another request under this number",
+        11 => "it has no rows",
+        12 => "it has more than 500 rows; send it in parts",
+        13 => "it has a serial number twice; leave one of the rows out",
+        14 => "it has a bond whose coowner is its owner; name another coowner, or none",
+        20 => "rates hold from a May or a November; correct the month",
+        21 => {
+            "a month has other rates, in the books or in an earlier row; compare them with Treasury's announcement"
+        }
+        22 => {
+            "a value at these rates can't be settled to the cent; compare them with Treasury's announcement"
+        }
+        30 => "no rates are entered for a bond's issue month; enter them first",
+        31 => "a bond is registered with other content; compare it with the paper",
+        _ => "the books refuse it",
+    }
+}
+
+// The form of a file, if it is known, and how to save it.
+#[derive(Clone, Copy)]
+struct Saving(Option<Form>);
+
+impl fmt::Display for Saving {
+    ghost use Rattle.std.specs.Prelude.{Some};
+    ghost use Rattle.ee_cli_program.specs.Explained.{saving_text};
+
+    ghost output = { λ it. Some (saving_text it.0) };
+
+    fn fmt<W: fmt::Write>(&self, f: &mut fmt::Formatter<W>) -> fmt::Result {
+        match self.0 {
+            Some(form) => write!(f, ": {form}; save it as CSV, in UTF-8 and with commas"),
+            None => f.write_str("; correct it"),
+        }
+    }
 }
 
 // What a field is, if that is known.

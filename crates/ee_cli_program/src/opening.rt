@@ -1,6 +1,6 @@
 //! Opening the file of an import, and the port of a server.
 
-ghost use Rattle.std.specs.Prelude.{◌≡◌, ◌+◌, ◌*◌, List, [], ℕ, Some, Err, IfOk, IfSome, None, string_bytes};
+ghost use Rattle.std.specs.Prelude.{◌≡◌, ◌+◌, ◌*◌, List, [], ℕ, Some, Err, IfOk, IfSome, None, option_map, string_bytes};
 ghost use Rattle.std.specs.Result.{IsErr};
 ghost use Rattle.ee_desk_model.specs.Repeats.{Content};
 ghost use Rattle.ee_keeper.specs.Keeping.{Continues, FailedIn, HasAfter};
@@ -10,9 +10,12 @@ ghost use Rattle.ee_cli_actions.specs.Actions.{AreOf, FitFile, ImportsInto};
 ghost use Rattle.ee_cli_actions.specs.Endings.{TellsFailureOnlyIf};
 ghost use Rattle.ee_cli_actions.specs.Connections.{ServesAll};
 ghost use Rattle.ee_cli_program.specs.Stores.{Tries};
-ghost use Rattle.ee_cli_program.specs.Told.{ShowsField, TellsOnlyIf};
+ghost use Rattle.ee_cli_program.specs.Explained.{form_in};
+ghost use Rattle.ee_cli_program.specs.Forms.{form_of};
+ghost use Rattle.ee_cli_program.specs.Told.{ShowsField, TellsOnlyIf, form_at_code, form_at_fault};
 
 use crate::explaining::Cause;
+use crate::forms::{Form, form_of};
 use crate::system::SystemCause;
 use ee_cli_actions::{Outcome, RunFault, import_into, serve_on};
 use ee_cli_commands::FileKind;
@@ -30,14 +33,14 @@ use std::time::Duration;
 #[derive(Drop)]
 pub struct Carried {
     pub ended: Result<Outcome, RunFault>,
-    /// What wasn't opened.
+    /// The file, port or store that wasn't opened or read.
     pub cause: Option<Cause>,
     /// The field of the file that spells no value, as it is shown.
     pub field: Option<String>,
 }
 
 /// Imports the file at this path, which is read whole first. A file that can't be opened is `Device`. A field that
-/// is shown is that of the fault.
+/// is shown is that of the fault, and a form that is told is the file's.
 pub fn import_path<K: Keeper, W: Sink>(
     rt: &HostRuntime,
     keeper: &mut K,
@@ -56,6 +59,7 @@ pub fn import_path<K: Keeper, W: Sink>(
         → TellsFailureOnlyIf (FailedIn K.is_open K.faults keeper.old keeper.new) result.ended }
     ensures told { TellsOnlyIf result.ended result.cause }
     ensures shown { IfSome result.field (λ shown. (bytes : List ℕ) × ShowsField bytes result.ended (string_bytes shown)) }
+    ensures formed { IfSome (form_in result.cause) (λ form. (bytes : List ℕ) × (form_of bytes ≡ Some form)) }
 {
     match fs::open(rt, path) {
         Ok(mut file) => {
@@ -95,6 +99,7 @@ fn import_read<K: Keeper, R: Source, W: Sink>(
         → TellsFailureOnlyIf (FailedIn K.is_open K.faults keeper.old keeper.new) result.ended }
     ensures told { TellsOnlyIf result.ended result.cause }
     ensures shown { IfSome result.field (λ shown. (bytes : List ℕ) × AreOf (R.remaining reader.old) bytes × ShowsField bytes result.ended (string_bytes shown)) }
+    ensures formed { IfSome (form_in result.cause) (λ form. (bytes : List ℕ) × AreOf (R.remaining reader.old) bytes × (form_of bytes ≡ Some form)) }
 {
     match read_whole(alloc, reader, MOST_BYTES) {
         Ok(bytes) => import_bytes(alloc, keeper, kind, desk, number, &bytes, output),
@@ -117,16 +122,37 @@ fn import_bytes<K: Keeper, W: Sink>(
         → ImportsInto kind (Some bytes.now) (W.contents output.old) (W.contents output.new) (desk, number) c result.ended (HasAfter (K.has keeper.new) (K.went keeper.old) (K.went keeper.new)) }
     ensures cause { K.is_clean keeper.new → (c : Content) → K.has keeper.old c → (n : ℕ) → K.takes (n + 1) keeper.old → FitFile kind K.fits c (desk, number)
         → TellsFailureOnlyIf (FailedIn K.is_open K.faults keeper.old keeper.new) result.ended }
-    ensures told { result.cause ≡ None }
+    ensures told { TellsOnlyIf result.ended result.cause }
+    ensures formed { result.cause ≡ option_map Cause.Form (form_at_fault bytes.now result.ended) }
     ensures shown { IfSome result.field (λ shown. ShowsField bytes.now result.ended (string_bytes shown)) }
 {
     let mut source = bytes;
     let ended = import_into(alloc, keeper, kind, desk, number, &mut source, output);
+    let cause = form_at_fault(&ended, bytes).map(Cause::Form);
     let field = field_at_fault(alloc, &ended, bytes);
     Carried {
         ended,
-        cause: None,
+        cause,
         field,
+    }
+}
+
+// The form of the file, if its header is at fault.
+fn form_at_fault(ended: &Result<Outcome, RunFault>, bytes: &[u8]) -> Option<Form>
+    ensures { result ≡ form_at_fault bytes.now ended.now }
+{
+    match ended {
+        Err(RunFault::File(fault)) => form_at_code(fault.code, bytes),
+        _ => None,
+    }
+}
+
+fn form_at_code(code: FileCode, bytes: &[u8]) -> Option<Form>
+    ensures { result ≡ form_at_code bytes.now code }
+{
+    match code {
+        FileCode::BadHeader => form_of(bytes),
+        _ => None,
     }
 }
 
@@ -153,6 +179,7 @@ fn not_read(is_folder: bool, fault: ReadFault) -> Carried
     ensures failed { TellsFailureOnlyIf ⊥ result.ended }
     ensures told { TellsOnlyIf result.ended result.cause }
     ensures shown { result.field ≡ None }
+    ensures formed { form_in result.cause ≡ None }
 {
     let cause = if is_folder {
         Some(Cause::File(Some(SystemCause::Folder)))

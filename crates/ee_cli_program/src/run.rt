@@ -6,13 +6,12 @@ ghost use Rattle.std.specs.IoError.{error_kind};
 ghost use Rattle.clap.specs.Words.{Text};
 ghost use Rattle.ee_desk_model.specs.Repeats.{Content};
 ghost use Rattle.ee_cli_value.specs.Printed.{value_line};
-ghost use Rattle.ee_cli_value.specs.Statuses.{IsStatusOf};
 ghost use Rattle.ee_cli_commands.specs.Answer.{AsksForVersion, IsAsked};
 ghost use Rattle.ee_cli_commands.specs.CommandLine.{Asked, value};
 ghost use Rattle.ee_units.specs.declared.denoms.Denom.{Denom};
 ghost use Rattle.ee_value.specs.Chain.{rates_with};
 ghost use Rattle.ee_keeper.specs.Keeping.{HasAfter};
-ghost use Rattle.ee_cli_program.specs.Statuses.{Carries, HasRun, IsRun, version_line};
+ghost use Rattle.ee_cli_program.specs.Statuses.{Carries, HasRun, IsRun, IsStatusOf, version_line};
 ghost use Rattle.ee_cli_program.specs.Stores.{CarriesOver, IsUntouched, Since};
 
 use crate::carrying::{CarriedOut, carry_out};
@@ -21,7 +20,7 @@ use crate::stores::{Left, Stores};
 use crate::streams::Stream;
 use ee_cli_actions::{Outcome, RunFault, print};
 use ee_cli_commands::{Command, CommandFault, VERSION, asks_to_explain, read_command};
-use ee_cli_value::{BAD_LINE, DONE, FAILED, conclude, report};
+use ee_cli_value::{BAD_LINE, DONE, FAILED, REFUSED, conclude, report};
 use ee_io::{Sink, Source};
 use ee_store_load::STORE_VERSION;
 use std::alloc::{AllocError, Global};
@@ -35,9 +34,9 @@ pub struct Ran<O, Q, R, L> {
 }
 
 /// Runs the line of these words over these stores, and returns the exit status. The first word is the
-/// program's name. Faults are written to `faults`, everything else to `output`. A fault is one line. If the words
-/// ask for it by `--explain`, or if it `explains` anyway, a second line says the cause, and what to do
-/// (`specs/Explained.antt`); that line changes no status.
+/// program's name. Faults are written to `faults`, everything else to `output`. A fault is one line, and a refused
+/// import none. If the words ask for it by `--explain`, or if it `explains` anyway, a further line says the cause, and
+/// what to do (`specs/Explained.antt`); that line changes no status.
 ///
 /// - `status`: what the words were, and how the command ended that they ask for. They ask for at most one
 ///   thing (`ee_cli_commands::one_meaning`).
@@ -103,8 +102,8 @@ pub fn run_words<O: Stores, R: Source + Stream, W: Sink + Stream, E: Write>(
             status: refuse_line(&text, faults),
             left: Left::Given(stores),
         },
-        Err(CommandFault::Argument(name)) => Ran {
-            status: refuse_argument(name, explains, faults),
+        Err(CommandFault::Argument { name, word }) => Ran {
+            status: refuse_argument(name, word.as_deref(), explains, faults),
             left: Left::Given(stores),
         },
         Err(CommandFault::NoMemory) => Ran {
@@ -114,7 +113,7 @@ pub fn run_words<O: Stores, R: Source + Stream, W: Sink + Stream, E: Write>(
     }
 }
 
-// Reports how a command ended, and explains a fault if that is asked for.
+// Reports how a command ended, and explains a fault or a refusal if that is asked for.
 fn settle<E: Write>(
     command: &Command,
     ended: Result<Outcome, RunFault>,
@@ -124,19 +123,26 @@ fn settle<E: Write>(
 ) -> u8
     ensures { IsStatusOf ended result }
 {
+    let status = report_end(&ended, faults);
+    if explains {
+        tell(explain(command, &ended, known), faults);
+    }
+    status
+}
+
+// Reports how a command ended, and returns the exit status.
+fn report_end<E: Write>(ended: &Result<Outcome, RunFault>, faults: &mut E) -> u8
+    ensures { IsStatusOf ended.now result }
+{
     match ended {
-        Ok(outcome) => conclude(outcome, faults),
-        Err(fault) => {
-            let status = report(&fault, faults);
-            if explains {
-                tell(explain(command, fault, known), faults);
-            }
-            status
-        }
+        Ok(Outcome::Done) => DONE,
+        Ok(Outcome::Refused(_) | Outcome::NoMessage) => REFUSED,
+        Ok(Outcome::Unsettled(age)) => conclude(ee_cli_value::Outcome::Unsettled(*age), faults),
+        Err(fault) => report(fault, faults),
     }
 }
 
-// Writes the second line of a fault, if there is more to say.
+// Writes the second line of a fault or a refusal, if there is more to say.
 fn tell<E: Write>(explanation: Option<Explanation>, faults: &mut E) {
     if let Some(explanation) = explanation {
         let _told = writeln!(faults, "{explanation}");
@@ -208,15 +214,15 @@ fn refuse_memory<E: Write>(explains: bool, faults: &mut E) -> u8
     status
 }
 
-// Reports which word spells no value, and explains how it is spelled if that is asked for.
-fn refuse_argument<E: Write>(name: &str, explains: bool, faults: &mut E) -> u8
+// Reports which word spells no value, and explains what it is and how it is spelled if that is asked for.
+fn refuse_argument<E: Write>(name: &str, word: Option<&str>, explains: bool, faults: &mut E) -> u8
     ensures { (result ≡ 2) ⊎ (result ≡ 3) }
 {
     if writeln!(faults, "bad argument: {name}").is_err() {
         return FAILED;
     }
     if explains {
-        tell(explain_argument(name), faults);
+        tell(explain_argument(name, word), faults);
     }
     BAD_LINE
 }

@@ -36,7 +36,7 @@ use Rattle.ee_counter.specs.declared.files.ExportFault.TheVariants as export_fau
 use Rattle.ee_cli_actions.specs.Actions.{Applies, ExportsFrom, ImportsInto, ShowsSheet}
 use Rattle.ee_cli_actions.specs.Connections.{ServesAll, ServesEach}
 use Rattle.ee_cli_actions.specs.declared.faults.RunFault.{RunFault}
-use Rattle.ee_cli_value.specs.declared.endings.Outcome.{Outcome}
+use Rattle.ee_cli_actions.specs.declared.faults.Outcome.{Outcome}
 use Rattle.ee_cli_program.specs.Stores.{Tries}
 use Rattle.ee_store.specs.History.{BeginsInFiles, HasLeft, HoldHistory, stop_and_reopen}
 use Rattle.ee_store.specs.NextRun.{HoldsContent}

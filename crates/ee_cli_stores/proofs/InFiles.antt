@@ -37,8 +37,8 @@ use Rattle.ee_cli_actions.proofs.Lemmas.{applies_with, exports_with, imports_wit
 use Rattle.ee_cli_actions.specs.Actions.{ImportsInto}
 use Rattle.ee_cli_actions.specs.Connections.{ServesAll}
 use Rattle.ee_cli_actions.specs.declared.faults.RunFault.{RunFault}
-use Rattle.ee_cli_value.specs.declared.endings.Outcome.{Outcome}
-use Rattle.ee_cli_value.specs.declared.endings.Outcome.TheVariants as outcome
+use Rattle.ee_cli_actions.specs.declared.faults.Outcome.{Outcome}
+use Rattle.ee_cli_actions.specs.declared.faults.Outcome.TheVariants as outcome
 use Rattle.ee_cli_commands.specs.CommandLine.{Asked, value, apply, imports, export, sheet, serve}
 use Rattle.ee_cli_program.proofs.Lemmas.{tries_with}
 use Rattle.ee_cli_program.specs.Stores.{CarriesOver, Over, Since, Tries}
@@ -167,8 +167,11 @@ run_with words Before After Unread Same status more same run = record {
       record {
         done = λ zero. more asked (Ok outcome.Done) (ends.done zero);
         refused = λ one. elim (ends.refused one) [
-          | inl refused ↦ inl (more asked (Ok outcome.Refused) refused)
-          | inr unsettled ↦ inr (unsettled.0, more asked (Ok (outcome.Unsettled unsettled.0)) unsettled.1)
+          | inl refused ↦ inl (refused.0, more asked (Ok (outcome.Refused refused.0)) refused.1)
+          | inr others ↦ elim others [
+            | inl message ↦ inr (inl (more asked (Ok outcome.NoMessage) message))
+            | inr unsettled ↦ inr (inr (unsettled.0, more asked (Ok (outcome.Unsettled unsettled.0)) unsettled.1))
+          ]
         ];
         is_good_line = ends.is_good_line;
         failed = λ three. elim (ends.failed three) [

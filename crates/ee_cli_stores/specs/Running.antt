@@ -21,7 +21,7 @@ use Rattle.ee_store.specs.NextRun.{HoldsContent, IsNumbered, IsNumberedStore, Ma
 use Rattle.ee_cli_actions.specs.Actions.{Applies, ExportsFrom, ImportsInto, ShowsSheet}
 use Rattle.ee_cli_actions.specs.Connections.{ServesAll}
 use Rattle.ee_cli_actions.specs.declared.faults.RunFault.{RunFault}
-use Rattle.ee_cli_value.specs.declared.endings.Outcome.{Outcome}
+use Rattle.ee_cli_actions.specs.declared.faults.Outcome.{Outcome}
 use Rattle.ee_cli_commands.specs.CommandLine.{Asked, value, apply, imports, export, sheet, serve}
 use Rattle.ee_cli_program.specs.Stores.{Tries, unwritten}
 use Rattle.ee_cli_program.specs.declared.stores.Left.{Left}

@@ -6,7 +6,6 @@ use Rattle.ee_cli_value.specs.declared.endings.Outcome.TheVariants as outcome
 -- status 3 also means an unsettled value that couldn't be reported
 abbrev pub IsStatusFor : Outcome → ℕ → Type 0
 IsStatusFor outcome.Done status = status ≡ 0
-IsStatusFor outcome.Refused status = status ≡ 1
 IsStatusFor (outcome.Unsettled age) status = (status ≡ 1) ⊎ (status ≡ 3)
 
 -- the same for a command that may have failed, with status 3

@@ -3,13 +3,11 @@
 use ee_units::Age;
 use thiserror::Error;
 
-/// How a command ended that was carried out.
+/// How a command ended that printed a value, or found none.
 #[derive(Clone, Copy, Debug, PartialEq, Eq)]
 pub enum Outcome {
     /// The command was done.
     Done,
-    /// The answer was a refusal.
-    Refused,
     /// The precision doesn't settle the value; this is the least age at which it doesn't.
     Unsettled(Age),
 }

@@ -25,7 +25,6 @@ pub fn conclude<E: Write>(outcome: Outcome, faults: &mut E) -> u8
 {
     match outcome {
         Outcome::Done => DONE,
-        Outcome::Refused => REFUSED,
         Outcome::Unsettled(age) => {
             let age = age.months();
             if writeln!(faults, "unsettled at age {age}").is_ok() {

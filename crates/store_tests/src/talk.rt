@@ -124,7 +124,7 @@ pub fn json(alloc: Global, status: &str, headers: &str, body: &str) -> Result<St
 fn end_text(end: Result<Outcome, RunFault>) -> &'static str {
     match end {
         Ok(Outcome::Done) => "Done",
-        Ok(Outcome::Refused) => "Refused",
+        Ok(Outcome::NoMessage) => "Refused",
         Err(RunFault::Store(StoreFault::StoreFailed)) => "StoreFailed",
         _ => "Failed",
     }

@@ -137,7 +137,7 @@ fn add_fault(text: &mut String, fault: &CommandFault) -> Option<()> {
         CommandFault::Help(_) => text.push_str("help").ok(),
         CommandFault::Version => text.push_str("version").ok(),
         CommandFault::Line(_) => text.push_str("a bad line").ok(),
-        CommandFault::Argument(name) => write!(text, "bad {name}").ok(),
+        CommandFault::Argument { name, .. } => write!(text, "bad {name}").ok(),
         CommandFault::NoMemory => None,
     }
 }

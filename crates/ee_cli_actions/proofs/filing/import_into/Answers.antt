@@ -1,5 +1,5 @@
 use Rattle.std.proofs.Common.{subst, Result}
-use Rattle.ee_cli_value.specs.declared.endings.Outcome.{Outcome}
+use Rattle.ee_cli_actions.specs.declared.faults.Outcome.{Outcome}
 use Rattle.ee_cli_actions.specs.declared.faults.RunFault.{RunFault}
 use Rattle.ee_cli_actions.specs.Actions.{TellsReply}
 use Rattle.ee_cli_actions.proofs.Devices.{unread_of}

@@ -36,11 +36,11 @@ returns-in-Err-Line-clause-over g c = λ contents holds. refused_line _ _ _ _ (i
 
 pub returns-in-Err-Argument-clause-status : goal.returns-in-Err-Argument-clause-status
 returns-in-Err-Argument-clause-status g c =
-    refused_line _ _ _ _ (inl (c.in-Err-Argument.name.now, rw c.in-Err-Argument.field-0-is at c.in-Err-Argument.ensures)) c.refuse_argument.ensures
+    refused_line _ _ _ _ (inl (c.in-Err-Argument.name.now, (rw c.in-Err-Argument.field-0-is at c.in-Err-Argument.ensures).0)) c.refuse_argument.ensures
 
 pub returns-in-Err-Argument-clause-over : goal.returns-in-Err-Argument-clause-over
 returns-in-Err-Argument-clause-over g c = λ contents holds.
-    refused_line _ _ _ _ (inl (c.in-Err-Argument.name.now, rw c.in-Err-Argument.field-0-is at c.in-Err-Argument.ensures)) c.refuse_argument.ensures
+    refused_line _ _ _ _ (inl (c.in-Err-Argument.name.now, (rw c.in-Err-Argument.field-0-is at c.in-Err-Argument.ensures).0)) c.refuse_argument.ensures
 
 pub returns-in-Ok-clause-version : goal.returns-in-Ok-clause-version
 returns-in-Ok-clause-version g c = λ version zero. absurd (asks_unrefused _ _ _ c.in-Ok.ensures version)

@@ -1,8 +1,5 @@
 use Rattle.std.proofs.Common.{rules}
 use Rattle.ee_cli_value.proofs.statuses.conclude.Goals as goal
 
-pub returns-in-Refused : goal.returns-in-Refused
-returns-in-Refused g c = search rules
-
 pub returns-then-is_ok : goal.returns-then-is_ok
 returns-then-is_ok g c = search rules

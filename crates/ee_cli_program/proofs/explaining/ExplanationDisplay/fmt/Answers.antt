@@ -29,3 +29,15 @@ returns-in-Unusable-clause-writes g c = λ plain ok. rw c.in-Unusable.is (c.writ
 
 pub returns-in-NotWrittenBack-clause-writes : goal.returns-in-NotWrittenBack-clause-writes
 returns-in-NotWrittenBack-clause-writes g c = λ plain ok. rw c.in-NotWrittenBack.is (c.write_not_written_back.ensures.writes plain ok)
+
+pub returns-in-Argument-clause-writes : goal.returns-in-Argument-clause-writes
+returns-in-Argument-clause-writes g c = λ plain ok. rw c.in-Argument.is (c.write_argument.ensures.writes plain ok)
+
+pub returns-in-Refused-clause-writes : goal.returns-in-Refused-clause-writes
+returns-in-Refused-clause-writes g c = λ plain ok. rw c.in-Refused.is (c.write_refused.ensures.writes plain ok)
+
+pub returns-in-Unpaid-clause-writes : goal.returns-in-Unpaid-clause-writes
+returns-in-Unpaid-clause-writes g c = λ plain ok. rw c.in-Unpaid.is (c.write_unpaid.ensures.writes plain ok)
+
+pub returns-in-Folder-clause-writes : goal.returns-in-Folder-clause-writes
+returns-in-Folder-clause-writes g c = λ plain ok. rw c.in-Folder.is (c.write_folder.ensures.writes plain ok)
