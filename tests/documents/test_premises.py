@@ -1,5 +1,5 @@
 """HEADLINE's table names every premise of the law of command lines, and nothing else: they are read from
-what `AccountsForLines` supposes, part by part. `RanLine` stands for what the clause `line` supposes."""
+what `AccountsForLines` supposes, part by part. `RanLine` stands for what the clauses `line` and `ends` suppose."""
 
 import re
 from collections import defaultdict
@@ -37,11 +37,12 @@ def premises(texts: dict[str, str]) -> tuple[set[str], set[str]]:
         lines = re.sub(r"^ *--.*\n", "", text, flags=re.M).replace("\n    ", " ")
         for name, meaning in re.findall(r"^ *(\w+)\b.*? = (.*)", lines, re.M):
             meanings[name].append(meaning)
-    (line,) = re.findall(r"ensures line \{(.*?)\}\n", texts[CODE], re.S)
+    line, ends = re.findall(r"ensures (?:line|ends) \{(.*?)\}\n", texts[CODE], re.S)
     seen, waiting = set(), supposed(meanings["AccountsForLines"][0])
     while waiting:
         seen.add(name := waiting.pop())
-        parts = supposed(line) if name == "RanLine" else names(" ".join(meanings.get(name, ())))
+        ran = supposed(line) | supposed(ends)
+        parts = ran if name == "RanLine" else names(" ".join(meanings.get(name, ())))
         waiting |= parts - seen
     return seen - (meanings.keys() - {"RanLine"}), seen
 
@@ -65,6 +66,7 @@ def test_table_has_the_premises() -> None:
         (BANK, "RanLines held (Cut attempts ∷ lines) found = (next : Image) × "),
         (RUNNING, "MayBeFound held (stores.AtRest files) found = "),
         (CODE, "ensures line { (c : Content) → "),
+        (CODE, "ensures ends { (c : Content) → "),
     ],
 )
 def test_another_premise_is_found(file: str, before: str) -> None:

@@ -3,7 +3,7 @@
 
 use ee_cli_commands::read_help;
 use ee_cli_program::{Noting, REFUSED, refuse_words};
-use ee_cli_stores::{Untold, run_line};
+use ee_cli_stores::{StoreFiles, Untold, run_line};
 use std::io::{self, IsTerminal, Write};
 use std::process::ExitCode;
 
@@ -17,9 +17,10 @@ fn main(rt: HostRuntime) -> ExitCode {
 /// Runs the line of these words over stores in files, and gives its exit status. On a terminal faults are explained, and
 /// the answers of `apply`, which end without a line end, get one.
 fn run(rt: &HostRuntime, words: &[String]) -> u8 {
+    let stores = StoreFiles { rt, start: Untold };
     let status = run_line(
         rt,
-        Untold,
+        stores,
         words,
         rt.stderr().is_terminal(),
         &mut Noting::new(rt.stdin()),

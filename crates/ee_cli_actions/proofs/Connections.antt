@@ -13,7 +13,7 @@ use Rattle.ee_counter.specs.declared.connections.Ended.{Ended}
 use Rattle.ee_counter.specs.declared.connections.Why.{Why}
 use Rattle.ee_counter.specs.declared.connections.Why.TheVariants.{Closed, Asked, Limit, Fault, ReadFailed, WriteFailed, NoMemory}
 use Rattle.ee_counter.specs.Serving.{EndsBy, Told, left_by, left_by_all, attempts_by, attempts_by_all}
-use Rattle.ee_cli_actions.specs.Connections.{BreaksOff, EndsWithFailure, PrintsLine, PrintsLines, ServesEach, ServesSocket, WritesNotAll, WritesSome, any_failed}
+use Rattle.ee_cli_actions.specs.Connections.{BreaksOff, Comes, EndsWithFailure, PrintsLine, PrintsLines, ServesEach, ServesNext, ServesStream, WritesNotAll, WritesSome, any_failed}
 use Rattle.ee_cli_actions.specs.declared.faults.Outcome.{Outcome}
 use Rattle.ee_cli_actions.specs.declared.faults.RunFault.{RunFault}
 use Rattle.ee_cli_actions.specs.declared.faults.RunFault.TheVariants.{Device}
@@ -39,20 +39,21 @@ ends_at NoMemory (Some t) bytes left old new c n count before Has e = (left_by c
 ends_at WriteFailed None bytes left old new c n count before Has e = (c, [], (e.0, e.1, (refl, refl)), e.2)
 ends_at WriteFailed (Some t) bytes left old new c n count before Has e = (left_by c t, attempts_by t, (e.0, (e.1.0, e.1.1, (refl, refl)), e.2), e.1.2)
 
-serves_at : (c : Content) (e : Ended) (Has : Content → List Attempt → Type 0) → ServesSocket c e Has
-    → (d : Content) × (these : List Attempt) × ServesSocket c e (λ left more. (left ≡ d) × (more ≡ these)) × Has d these
-serves_at c e Has s =
+serves_at : (sends : Option (List ℕ)) (c : Content) (e : Ended) (Has : Content → List Attempt → Type 0) → ServesStream sends c e Has
+    → (d : Content) × (these : List Attempt) × ServesStream sends c e (λ left more. (left ≡ d) × (more ≡ these)) × Has d these
+serves_at sends c e Has (left, old, new, s) =
     let before = attempts_by_all s.told in
-    let x = ends_at e.why s.ends.0 s.rest None s.wrote None (left_by_all c s.told) (length s.told) e.messages before (λ left more. Has left (before ++ more)) s.ends.2 in (
+    let x = ends_at e.why s.ends.0 s.rest left s.wrote new (left_by_all c s.told) (length s.told) e.messages before (λ left more. Has left (before ++ more)) s.ends.2 in (
       x.0,
       before ++ x.1,
-      record { bytes = s.bytes; read = s.read; told = s.told; needed = s.needed; few = s.few; rest = s.rest; wrote = s.wrote; so_far = s.so_far; ends = (s.ends.0, s.ends.1, x.2) },
+      (left, old, new, record { bytes = s.bytes; read = s.read; told = s.told; needed = s.needed; few = s.few; rest = s.rest; wrote = s.wrote; so_far = s.so_far; ends = (s.ends.0, s.ends.1, x.2) }),
       x.3,
     )
 
 -- a content that a connection leaves, and the attempts that led there
-pub left_of : (c : Content) (e : Ended) (Has : Content → List Attempt → Type 0) → ServesSocket c e Has → (d : Content) × ((these : List Attempt) × Has d these)
-left_of c e Has s = let x = serves_at c e Has s in (x.0, (x.1, x.3))
+pub left_of : (coming others : Option (List (List ℕ))) (c : Content) (e : Ended) (Has : Content → List Attempt → Type 0) → ServesNext coming others c (Ok e) Has
+    → (d : Content) × ((these : List Attempt) × Has d these)
+left_of coming others c e Has (sends, comes, s) = let x = serves_at sends c e Has s in (x.0, (x.1, x.3))
 
 first_false : (a b : Bool) → (a || b) ≡ false → a ≡ false
 first_false true b none = none
@@ -63,40 +64,42 @@ second_false true b none = absurd (cc)
 second_false false b none = none
 
 -- what is left may say more
-pub each_with : (c : Content) (es : List Ended) (Has After : Content → List Attempt → Type 0)
-    → ((d : Content) (attempts : List Attempt) → Has d attempts → After d attempts) → ServesEach c es Has → ServesEach c es After
-each_with c [] Has After more has = more c [] has
-each_with c (x ∷ es) Has After more (d, these, serves, rest) =
-    (d, these, serves, each_with d es (λ left l. Has left (these ++ l)) (λ left l. After left (these ++ l)) (λ left l. more left (these ++ l)) rest)
+pub each_with : (coming others : Option (List (List ℕ))) (c : Content) (es : List Ended) (Has After : Content → List Attempt → Type 0)
+    → ((d : Content) (attempts : List Attempt) → Has d attempts → After d attempts) → ServesEach coming others c es Has → ServesEach coming others c es After
+each_with coming others c [] Has After more (same, has) = (same, more c [] has)
+each_with coming others c (x ∷ es) Has After more (next, sends, comes, (d, these, serves, rest)) =
+    (next, sends, comes, (d, these, serves, each_with next others d es (λ left l. Has left (these ++ l)) (λ left l. After left (these ++ l)) (λ left l. more left (these ++ l)) rest))
 
-each_more_from : (before : List Attempt) (c : Content) (es : List Ended) (e : Ended) (Has After : Content → Type 0) (Before Now Then : Content → List Event → Type 0)
-    → ServesEach c es (λ left l. HasAfter Has Before Now left (before ++ l)) → ((d : Content) → Has d → ServesSocket d e (HasAfter After Now Then))
-    → ServesEach c (es ++ e ∷ []) (λ left l. HasAfter After Before Then left (before ++ l))
-each_more_from before c [] e Has After Before Now Then has next =
-    let (d, these, serves, then) = serves_at c e (HasAfter After Now Then) (next c has.0) in
-    let same : (before ++ []) ++ these ≡ before ++ (these ++ []) = ap (λ l. l ++ these) (append-nil before) ∙ ap (λ l. before ++ l) (sym (append-nil these)) in
-    (d, these, serves, (then.0, subst (λ l. LeadOn Before l Then) same (lead_further Before Now Then (before ++ []) these has.1 then.1)))
-each_more_from before c (x ∷ es) e Has After Before Now Then (d, these, serves, rest) next =
-    let nested = each_with d es (λ left l. HasAfter Has Before Now left (before ++ (these ++ l))) (λ left l. HasAfter Has Before Now left ((before ++ these) ++ l))
-    (λ left l. subst (HasAfter Has Before Now left) (sym (append_assoc before these l))) rest in
-    let more = each_more_from (before ++ these) d es e Has After Before Now Then nested next in (
-      d,
-      these,
-      serves,
-      each_with d (es ++ e ∷ []) (λ left l. HasAfter After Before Then left ((before ++ these) ++ l)) (λ left l. HasAfter After Before Then left (before ++ (these ++ l)))
-          (λ left l. subst (HasAfter After Before Then left) (append_assoc before these l)) more,
+each_more_from : (before : List Attempt) (coming others after : Option (List (List ℕ))) (c : Content) (es : List Ended) (e : Ended) (Has After : Content → Type 0) (Before Now Then : Content → List Event → Type 0)
+    → ServesEach coming others c es (λ left l. HasAfter Has Before Now left (before ++ l)) → ((d : Content) → Has d → ServesNext others after d (Ok e) (HasAfter After Now Then))
+    → ServesEach coming after c (es ++ e ∷ []) (λ left l. HasAfter After Before Then left (before ++ l))
+each_more_from before coming others after c [] e Has After Before Now Then (known, has) next =
+    let (sends, comes, stream) = next c has.0 in
+    let (d, these, serves, then) = serves_at sends c e (HasAfter After Now Then) stream in
+    let same : (before ++ []) ++ these ≡ before ++ (these ++ []) = ap (λ l. l ++ these) (append-nil before) ∙ ap (λ l. before ++ l) (sym (append-nil these)) in (
+      after,
+      sends,
+      subst (λ they. Comes they after sends) known comes,
+      (d, these, serves, (refl, (then.0, subst (λ l. LeadOn Before l Then) same (lead_further Before Now Then (before ++ []) these has.1 then.1)))),
     )
+each_more_from before coming others after c (x ∷ es) e Has After Before Now Then (first, sends, comes, (d, these, serves, rest)) next =
+    let nested = each_with first others d es (λ left l. HasAfter Has Before Now left (before ++ (these ++ l))) (λ left l. HasAfter Has Before Now left ((before ++ these) ++ l))
+    (λ left l. subst (HasAfter Has Before Now left) (sym (append_assoc before these l))) rest in
+    let more = each_more_from (before ++ these) first others after d es e Has After Before Now Then nested next in
+    let last = each_with first after d (es ++ e ∷ []) (λ left l. HasAfter After Before Then left ((before ++ these) ++ l)) (λ left l. HasAfter After Before Then left (before ++ (these ++ l)))
+    (λ left l. subst (HasAfter After Before Then left) (append_assoc before these l)) more in
+    (first, sends, comes, (d, these, serves, last))
 
-pub each_more : (c : Content) (es : List Ended) (e : Ended) (Has After : Content → Type 0) (Before Now Then : Content → List Event → Type 0)
-    → ServesEach c es (HasAfter Has Before Now) → ((d : Content) → Has d → ServesSocket d e (HasAfter After Now Then))
-    → ServesEach c (es ++ e ∷ []) (HasAfter After Before Then)
+pub each_more : (coming others after : Option (List (List ℕ))) (c : Content) (es : List Ended) (e : Ended) (Has After : Content → Type 0) (Before Now Then : Content → List Event → Type 0)
+    → ServesEach coming others c es (HasAfter Has Before Now) → ((d : Content) → Has d → ServesNext others after d (Ok e) (HasAfter After Now Then))
+    → ServesEach coming after c (es ++ e ∷ []) (HasAfter After Before Then)
 each_more = each_more_from []
 
 -- no connection more
-pub each_yet : (c : Content) (es : List Ended) (Has After : Content → Type 0) (Before Now Then : Content → List Event → Type 0)
-    → ServesEach c es (HasAfter Has Before Now) → ((d : Content) → Has d → HasAfter After Now Then d []) → ServesEach c es (HasAfter After Before Then)
-each_yet c es Has After Before Now Then each stays =
-    each_with c es (HasAfter Has Before Now) (HasAfter After Before Then)
+pub each_yet : (coming others : Option (List (List ℕ))) (c : Content) (es : List Ended) (Has After : Content → Type 0) (Before Now Then : Content → List Event → Type 0)
+    → ServesEach coming others c es (HasAfter Has Before Now) → ((d : Content) → Has d → HasAfter After Now Then d []) → ServesEach coming others c es (HasAfter After Before Then)
+each_yet coming others c es Has After Before Now Then each stays =
+    each_with coming others c es (HasAfter Has Before Now) (HasAfter After Before Then)
     (λ d l has. let then = stays d has.0 in (then.0, subst (λ k. LeadOn Before k Then) (append-nil l) (lead_further Before Now Then l [] has.1 then.1))) each
 
 lines_after : (n : ℕ) (es : List Ended) (e : Ended) → connection_lines n (es ++ e ∷ []) ≡ connection_lines n es ++ connection_line (n + length es + 1) e

@@ -89,9 +89,10 @@ module _ (Has After : Content → List Attempt → Type 0) (more : (d : Content)
       → ExportsFrom old new customer c result Has → ExportsFrom old new customer c result After
   exports_with old new customer c result (answer, exports, is) = (answer, rows_out_with old new customer c answer exports, is)
 
-  pub serves_all_with : (most : ℕ) (old new : Option (List ℕ)) (c : Content) (result : Result Outcome RunFault)
-      → ServesAll most old new c result Has → ServesAll most old new c result After
-  serves_all_with most old new c result s = record { ended = s.ended; each = each_with c s.ended Has After more s.each; until = s.until; printed = s.printed }
+  pub serves_all_with : (coming : Option (List (List ℕ))) (most : ℕ) (old new : Option (List ℕ)) (c : Content) (result : Result Outcome RunFault)
+      → ServesAll coming most old new c result Has → ServesAll coming most old new c result After
+  serves_all_with coming most old new c result s =
+      record { ended = s.ended; others = s.others; each = each_with coming s.others c s.ended Has After more s.each; until = s.until; printed = s.printed }
 
 pub sheets_with : (old new : Option (List ℕ)) (customer month : ℕ) (c : Content) (result : Result Outcome RunFault) (Stays Now : Type 0) → (Stays → Now)
     → ShowsSheet old new customer month c result Stays → ShowsSheet old new customer month c result Now

@@ -1,6 +1,6 @@
 -- Connections that are served in order. `Has` is the relation of contents that the store then has, and of the attempts that led
 -- there.
-use Rattle.std.specs.Prelude.{◌≡◌, ◌≢◌, ℕ, ◌≤◌, Bool, true, false, List, [], ◌∷◌, ◌++◌, length, Option, None, Result, Ok, Err, ⊤}
+use Rattle.std.specs.Prelude.{◌≡◌, ◌≢◌, ℕ, ◌≤◌, Bool, true, false, List, [], ◌∷◌, ◌++◌, length, Option, Some, None, Result, Ok, Err, ⊤}
 use Rattle.std.specs.List.{list_any}
 use Rattle.std.specs.Io.KnownBytes.{Appends}
 use Rattle.ee_desk_model.specs.Repeats.{Content}
@@ -14,22 +14,30 @@ use Rattle.ee_cli_actions.specs.declared.faults.RunFault.{RunFault}
 use Rattle.ee_cli_actions.specs.declared.faults.RunFault.TheVariants.{File, Store, Device, NoMemory}
 use Rattle.ee_cli_actions.specs.declared.faults.StoreFault.TheVariants.{StoreFailed}
 
--- a connection is served over a socket, whose bytes aren't known: its messages are answered rightly, each at the content
+-- The next of the connections that are to come has come; it sends these bytes, and the others are still to come. Nothing is said if
+-- it isn't known which connections come, or what they send.
+abbrev pub Comes : Option (List (List ℕ)) → Option (List (List ℕ)) → Option (List ℕ) → Type 0
+Comes None others sends = ⊤
+Comes (Some []) others sends = ⊥
+Comes (Some (bytes ∷ rest)) others sends = (others ≡ Some rest) × (sends ≡ Some bytes)
+
+-- a connection that sends these bytes is served: the messages in what is read of them are answered rightly, each at the content
 -- after those before it, and this is how it ends
-abbrev pub ServesSocket : Content → Ended → (Content → List Attempt → Type 0) → Type 0
-ServesSocket c e Has = Serves None None None None c e Has
+abbrev pub ServesStream : Option (List ℕ) → Content → Ended → (Content → List Attempt → Type 0) → Type 0
+ServesStream sends c e Has = (left old new : Option (List ℕ)) × Serves sends left old new c e Has
 
--- the next connection is served, or none came
-abbrev pub ServesNext : Content → Result Ended RunFault → (Content → List Attempt → Type 0) → Type 0
-ServesNext c (Ok e) Has = ServesSocket c e Has
-ServesNext c (Err cause) Has = (cause ≡ Device) × Has c []
+-- of these connections the next one is served, or none came
+abbrev pub ServesNext : Option (List (List ℕ)) → Option (List (List ℕ)) → Content → Result Ended RunFault → (Content → List Attempt → Type 0) → Type 0
+ServesNext coming others c (Ok e) Has = (sends : Option (List ℕ)) × Comes coming others sends × ServesStream sends c e Has
+ServesNext coming others c (Err cause) Has = (cause ≡ Device) × Has c []
 
--- each connection is served at the content after those before it, and this is how it ends
-abbrev pub ServesEach : Content → List Ended → (Content → List Attempt → Type 0) → Type 0
-ServesEach c [] Has = Has c []
-ServesEach c (e ∷ es) Has =
-    (d : Content) × (attempts : List Attempt) × ServesSocket c e (λ left these. (left ≡ d) × (these ≡ attempts))
-    × ServesEach d es (λ left more. Has left (attempts ++ more))
+-- of these connections the first ones are served, each at the content after those before it, and this is how they end
+abbrev pub ServesEach : Option (List (List ℕ)) → Option (List (List ℕ)) → Content → List Ended → (Content → List Attempt → Type 0) → Type 0
+ServesEach coming others c [] Has = (others ≡ coming) × Has c []
+ServesEach coming others c (e ∷ es) Has =
+    (next : Option (List (List ℕ))) × (sends : Option (List ℕ)) × Comes coming next sends
+    × ((d : Content) × (attempts : List Attempt) × ServesStream sends c e (λ left these. (left ≡ d) × (these ≡ attempts))
+    × ServesEach next others d es (λ left more. Has left (attempts ++ more)))
 
 -- the front of the text was written
 pub record WritesSome (old new : Option (List ℕ)) (text : List ℕ) : Type 0 where
@@ -73,9 +81,10 @@ PrintsLines most old new ended (Err Device) = (length ended ≤ most) × BreaksO
 PrintsLines most old new ended (Err NoMemory) = (length ended ≤ most) × BreaksOff old new ended
 PrintsLines most old new ended (Err (File cause)) = ⊥
 
--- connections were served in order, and a line was printed for each that says how it ended
-pub record ServesAll (most : ℕ) (old new : Option (List ℕ)) (c : Content) (result : Result Outcome RunFault) (Has : Content → List Attempt → Type 0) : Type 0 where
+-- the connections that came were served in order, and a line was printed for each that says how it ended
+pub record ServesAll (coming : Option (List (List ℕ))) (most : ℕ) (old new : Option (List ℕ)) (c : Content) (result : Result Outcome RunFault) (Has : Content → List Attempt → Type 0) : Type 0 where
   pub ended : List Ended
-  pub each : ServesEach c ended Has
+  pub others : Option (List (List ℕ))
+  pub each : ServesEach coming others c ended Has
   pub until : EndsWithFailure ended
   pub printed : PrintsLines most old new ended result

@@ -18,6 +18,7 @@ mod sheets;
 pub use applying::apply_to;
 pub use faults::{Outcome, RunFault, StoreFault};
 pub use filing::{export_from, import_into};
+pub use patience::{Listens, ReadTimeout, WriteTimeout};
 pub use printing::print;
 pub use serving::serve_on;
 pub use sheets::sheet_of;

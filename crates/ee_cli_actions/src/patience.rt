@@ -1,11 +1,12 @@
-//! Time limits for the turns of a connection.
+//! Connections, and time limits for their turns.
 
-ghost use Rattle.std.specs.Prelude.{⊤};
+ghost use Rattle.std.specs.Prelude.{⊤, ℕ, List, Option, None, IfOk};
+ghost use Rattle.ee_cli_actions.specs.Connections.{Comes};
 
 use ee_io::{Sink, Source};
 use std::cell::Cell;
 use std::io::{self, ErrorKind, Read, Write};
-use std::net::{Shutdown, TcpStream};
+use std::net::{Shutdown, TcpListener, TcpStream};
 use std::time::{Clock, Duration, Instant};
 
 /// The direction of bytes.
@@ -67,17 +68,52 @@ pub trait ReadTimeout: Read {
 pub trait WriteTimeout: Write {
     /// Limits the time of each write from now on.
     fn limit_writes(&self, most: Duration) -> io::Result<()>;
+
+    /// Tells the other side that nothing more is written.
+    fn end_writes(&self) -> io::Result<()>;
 }
 
-impl<'s> ReadTimeout for &'s TcpStream {
+/// A place where connections come in, one after another.
+pub trait Listens {
+    type Reader: ReadTimeout + Drop;
+
+    type Writer: WriteTimeout + Drop;
+
+    /// The bytes that each of the connections sends which are still to come, in their order; `None` if they aren't known.
+    ghost coming: { Self → Option (List (List ℕ)) };
+
+    /// Waits for the next connection, and returns what reads from it and what writes to it.
+    fn next_connection(&mut self) -> io::Result<(Self::Reader, Self::Writer)>
+        ensures { IfOk result (λ both. Comes (coming self.old) (coming self.new) (Self.Reader.remaining both.0)) };
+}
+
+impl ReadTimeout for TcpStream {
     fn limit_reads(&self, most: Duration) -> io::Result<()> {
         self.set_read_timeout(Some(most))
     }
 }
 
-impl<'s> WriteTimeout for &'s TcpStream {
+impl WriteTimeout for TcpStream {
     fn limit_writes(&self, most: Duration) -> io::Result<()> {
         self.set_write_timeout(Some(most))
+    }
+
+    fn end_writes(&self) -> io::Result<()> {
+        self.shutdown(Shutdown::Write)
+    }
+}
+
+/// A socket has one handle that is read and one that is written.
+impl Listens for TcpListener {
+    type Reader = TcpStream;
+
+    type Writer = TcpStream;
+
+    ghost coming = { λ _. None };
+
+    fn next_connection(&mut self) -> io::Result<(TcpStream, TcpStream)> {
+        let (stream, _) = self.accept()?;
+        Ok((stream.try_clone()?, stream))
     }
 }
 
@@ -131,9 +167,11 @@ impl<'t, 'c, C: Clock, W: WriteTimeout> Sink for Timed<'t, 'c, C, W> {
 /// Ends a connection on which responses were written: tells the other side that none follow, then reads and
 /// drops what still comes, until the other side ends too or its time is over. If a socket is closed before
 /// that, with unread bytes, the system resets it, and the other side may lose responses.
-pub fn let_go<C: Clock>(turns: &Turns<'_, C>, stream: &TcpStream) -> io::Result<()> {
-    stream.shutdown(Shutdown::Write)?;
-    let mut reader = Timed { turns, stream };
+pub fn let_go<C: Clock, R: ReadTimeout, W: WriteTimeout>(
+    reader: &mut Timed<'_, '_, C, R>,
+    writer: &Timed<'_, '_, C, W>,
+) -> io::Result<()> {
+    writer.stream.end_writes()?;
     let mut dropped = [0u8; 16_384];
     for _ in 0..u64::MAX {
         if reader.read(&mut dropped)? == 0 {

@@ -5,22 +5,21 @@ ghost use Rattle.ee_desk_model.specs.Repeats.{Content};
 ghost use Rattle.ee_keeper.specs.Keeping.{Continues, FailedIn, HasAfter};
 ghost use Rattle.ee_counter.specs.Answering.{FitMessages};
 ghost use Rattle.ee_counter.specs.Serving.{Serves, most_messages};
-ghost use Rattle.ee_cli_actions.specs.Connections.{PrintsLine, ServesAll, ServesNext, ServesSocket};
+ghost use Rattle.ee_cli_actions.specs.Connections.{PrintsLine, ServesAll, ServesNext, ServesStream};
 ghost use Rattle.ee_cli_actions.specs.Endings.{TellsFailureOnlyIf};
 ghost use Rattle.ee_cli_actions.specs.Printed.{connection_line, failure_text};
 
 use crate::faults::{Outcome, RunFault, StoreFault};
-use crate::patience::{ReadTimeout, Timed, Turns, WriteTimeout, let_go};
+use crate::patience::{Listens, ReadTimeout, Timed, Turns, WriteTimeout, let_go};
 use crate::printing::print;
 use crate::reasons::Reason;
 use ee_counter::{Ended, Why, serve};
 use ee_io::Sink;
 use ee_keeper::Keeper;
 use std::alloc::{AllocError, Global};
-use std::net::{TcpListener, TcpStream};
 use std::time::{Clock, Duration};
 
-/// Serves connections one after another, up to the given number, and prints a line when each ends:
+/// Serves the connections that come one after another, up to the given number, and prints a line when each ends:
 /// `connection I: M messages, WHY`, with I from 1, M the number of responses that were written whole, and WHY
 /// the name of what ended it. However a connection ends, the next one is served. If a message doesn't arrive
 /// whole within `patience`, the connection ends by `ReadFailed`; if a response isn't taken within it, by
@@ -29,18 +28,18 @@ use std::time::{Clock, Duration};
 /// failed (`StoreFailed`), whose line is printed. If that line can't be printed whole, serving ends by `Device` or
 /// `NoMemory`. If the keeper takes 1,000 requests for each connection, and the texts of all requests fit, it ends by
 /// `StoreFailed` only if a device of the store failed, or the store was shut before (`cause`).
-pub fn serve_on<C: Clock, K: Keeper, W: Sink>(
+pub fn serve_on<C: Clock, K: Keeper, L: Listens, W: Sink>(
     clock: &C,
     alloc: Global,
     keeper: &mut K,
-    listener: &TcpListener,
+    listener: &mut L,
     connections: u64,
     patience: Duration,
     output: &mut W,
 ) -> Result<Outcome, RunFault>
     ensures continues { Continues K.is_clean K.is_guarded K.is_open K.faults keeper.old keeper.new }
     ensures serves { K.is_clean keeper.new → (c : Content) → K.has keeper.old c
-        → ServesAll connections (W.contents output.old) (W.contents output.new) c result (HasAfter (K.has keeper.new) (K.went keeper.old) (K.went keeper.new)) }
+        → ServesAll (L.coming listener.old) connections (W.contents output.old) (W.contents output.new) c result (HasAfter (K.has keeper.new) (K.went keeper.old) (K.went keeper.new)) }
     ensures done { IfOk result (λ outcome. outcome ≡ Outcome.Done) }
     ensures failed { TellsFailureOnlyIf K.may_fail result }
     ensures ready { K.is_clean keeper.new → (c : Content) → K.has keeper.old c → (n : ℕ) → K.takes (n + connections * most_messages) keeper.old → K.takes n keeper.new }
@@ -57,37 +56,41 @@ pub fn serve_on<C: Clock, K: Keeper, W: Sink>(
     Ok(Outcome::Done)
 }
 
-// Accepts a connection, serves it, and closes it.
-fn serve_next<C: Clock, K: Keeper>(
+// Serves the next connection.
+fn serve_next<C: Clock, K: Keeper, L: Listens>(
     clock: &C,
     alloc: Global,
     keeper: &mut K,
-    listener: &TcpListener,
+    listener: &mut L,
     patience: Duration,
 ) -> Result<Ended, RunFault>
     ensures continues { Continues K.is_clean K.is_guarded K.is_open K.faults keeper.old keeper.new }
-    ensures serves { K.is_clean keeper.new → (c : Content) → K.has keeper.old c → ServesNext c result (HasAfter (K.has keeper.new) (K.went keeper.old) (K.went keeper.new)) }
+    ensures serves { K.is_clean keeper.new → (c : Content) → K.has keeper.old c
+        → ServesNext (L.coming listener.old) (L.coming listener.new) c result (HasAfter (K.has keeper.new) (K.went keeper.old) (K.went keeper.new)) }
     ensures failed { IfOk result (λ ended. ended.store_failed ≡ true → K.may_fail) }
     ensures ready { K.is_clean keeper.new → (c : Content) → K.has keeper.old c → (n : ℕ) → K.takes (n + most_messages) keeper.old → K.takes n keeper.new }
     ensures cause { K.is_clean keeper.new → (c : Content) → K.has keeper.old c → (n : ℕ) → K.takes (n + most_messages) keeper.old → FitMessages K.fits
         → IfOk result (λ ended. ended.store_failed ≡ true → FailedIn K.is_open K.faults keeper.old keeper.new) }
     ensures device { IfErr result (λ fault. fault ≡ RunFault.Device) }
 {
-    match listener.accept() {
-        Ok((stream, _)) => Ok(serve_stream(clock, alloc, keeper, &stream, patience)),
+    match listener.next_connection() {
+        Ok((reader, writer)) => Ok(serve_stream(clock, alloc, keeper, reader, writer, patience)),
         Err(_) => Err(RunFault::Device),
     }
 }
 
-fn serve_stream<C: Clock, K: Keeper>(
+// Serves a connection, and closes it.
+fn serve_stream<C: Clock, K: Keeper, R: ReadTimeout + Drop, W: WriteTimeout + Drop>(
     clock: &C,
     alloc: Global,
     keeper: &mut K,
-    stream: &TcpStream,
+    reader: R,
+    writer: W,
     patience: Duration,
 ) -> Ended
     ensures continues { Continues K.is_clean K.is_guarded K.is_open K.faults keeper.old keeper.new }
-    ensures serves { K.is_clean keeper.new → (c : Content) → K.has keeper.old c → ServesSocket c result (HasAfter (K.has keeper.new) (K.went keeper.old) (K.went keeper.new)) }
+    ensures serves { K.is_clean keeper.new → (c : Content) → K.has keeper.old c
+        → ServesStream (R.remaining reader) c result (HasAfter (K.has keeper.new) (K.went keeper.old) (K.went keeper.new)) }
     ensures failed { result.store_failed ≡ true → K.may_fail }
     ensures ready { K.is_clean keeper.new → (c : Content) → K.has keeper.old c → (n : ℕ) → K.takes (n + most_messages) keeper.old → K.takes n keeper.new }
     ensures cause { K.is_clean keeper.new → (c : Content) → K.has keeper.old c → (n : ℕ) → K.takes (n + most_messages) keeper.old → FitMessages K.fits
@@ -95,17 +98,22 @@ fn serve_stream<C: Clock, K: Keeper>(
 {
     let turns = Turns::new(clock, patience);
     let turns = &turns;
-    let mut reader = Timed { turns, stream };
-    let mut writer = Timed { turns, stream };
+    let mut reader = Timed {
+        turns,
+        stream: reader,
+    };
+    let mut writer = Timed {
+        turns,
+        stream: writer,
+    };
     let ended = serve_timed(alloc, keeper, &mut reader, &mut writer);
     if leaves_more(ended.why) {
-        let _let_go = let_go(turns, stream);
+        let _let_go = let_go(&mut reader, &writer);
     }
     ended
 }
 
-// Serves a connection with time limits. It is one function for all streams, so what it promises of those whose bytes
-// are known, that they had these messages and got these responses, is so of sockets too, whose bytes no clause knows.
+// Serves a connection with time limits.
 fn serve_timed<C: Clock, K: Keeper, R: ReadTimeout, W: WriteTimeout>(
     alloc: Global,
     keeper: &mut K,

@@ -1,5 +1,5 @@
 -- What commands do over the stores that their lines name.
-use Rattle.std.specs.Prelude.{◌≡◌, ◌⊎◌, ◌+◌, ◌*◌, ◌^◌, ◌≤◌, ℕ, Bool, List, [], Option, None, Result, Ok, Err, ⊤}
+use Rattle.std.specs.Prelude.{◌≡◌, ◌⊎◌, ◌+◌, ◌*◌, ◌^◌, ◌≤◌, ℕ, Bool, List, [], Option, Result, Ok, Err, ⊤}
 use Rattle.std.specs.Result.{IsErr}
 use Rattle.clap.specs.Words.{Text}
 use Rattle.ee_desk_model.specs.Repeats.{Content}
@@ -83,23 +83,23 @@ Over rests keeps refuses old new result rest FromTo Carried = Works rests keeps 
 -- A command over the store that its line names; `contents` says what each store holds, `given` are the stores, and `rest` is what is
 -- left of them. What it did is said if the store is clean as it is closed: `Has` then relates the path, the store, its content and the
 -- attempts that led there. `FromTo` relates the store as it was opened and as it is closed, by the room for requests and whether their
--- texts fit. The arguments are the input before and after, the output before and after, and how the command ended. The bytes of a file
--- that is imported aren't known.
-abbrev pub CarriesOver : {O Q S R L : Type 0} → (S → Type 0) → (ℕ → Type 0 → S → S → Result Outcome RunFault → Type 0) → (Content → Request → Type 0) → (Text → S → Content → List Attempt → Type 0) → (S → R → Type 0) → (S → L → Type 0) → (Text → RunFault → Q → Type 0) → (Text → Content) → O → Left O Q R L → Option (List ℕ) → Option (List ℕ) → Option (List ℕ) → Option (List ℕ) → Asked → Result Outcome RunFault → Type 0
-CarriesOver is_clean FromTo fits Has rests keeps refuses contents given rest input left old new (value denom issued month rate extension) result = rest ≡ Given given
-CarriesOver is_clean FromTo fits Has rests keeps refuses contents given rest input left old new (apply db) result =
+-- texts fit. `files` are the bytes of the file at each path, and `coming` those that each connection sends which comes to a port, if they
+-- are known. The other arguments are the input before and after, the output before and after, and how the command ended.
+abbrev pub CarriesOver : {O Q S R L : Type 0} → (S → Type 0) → (ℕ → Type 0 → S → S → Result Outcome RunFault → Type 0) → (Content → Request → Type 0) → (Text → S → Content → List Attempt → Type 0) → (S → R → Type 0) → (S → L → Type 0) → (Text → RunFault → Q → Type 0) → (Text → Content) → (Text → Option (List ℕ)) → (ℕ → Option (List (List ℕ))) → O → Left O Q R L → Option (List ℕ) → Option (List ℕ) → Option (List ℕ) → Option (List ℕ) → Asked → Result Outcome RunFault → Type 0
+CarriesOver is_clean FromTo fits Has rests keeps refuses contents files coming given rest input left old new (value denom issued month rate extension) result = rest ≡ Given given
+CarriesOver is_clean FromTo fits Has rests keeps refuses contents files coming given rest input left old new (apply db) result =
     Over rests keeps (refuses db) old new result rest (FromTo most_messages (FitMessages fits)) (λ store ended. is_clean store → Applies input left old new (contents db) ended (Has db store))
-CarriesOver is_clean FromTo fits Has rests keeps refuses contents given rest input left old new (imports kind file db desk number) result =
+CarriesOver is_clean FromTo fits Has rests keeps refuses contents files coming given rest input left old new (imports kind file db desk number) result =
     Over rests keeps (refuses db) old new result rest (FromTo 1 (FitFile kind fits (contents db) (desk, number)))
     (λ store ended. is_clean store
-    → Tries old new ended (ImportsInto kind None old new (desk, number) (contents db) ended (Has db store)) (Has db store (contents db) []))
-CarriesOver is_clean FromTo fits Has rests keeps refuses contents given rest input left old new (export customer db) result =
+    → Tries old new ended (ImportsInto kind (files file) old new (desk, number) (contents db) ended (Has db store)) (Has db store (contents db) []))
+CarriesOver is_clean FromTo fits Has rests keeps refuses contents files coming given rest input left old new (export customer db) result =
     Over rests keeps (refuses db) old new result rest (FromTo 0 ⊤) (λ store ended. is_clean store → ExportsFrom old new customer (contents db) ended (Has db store))
-CarriesOver is_clean FromTo fits Has rests keeps refuses contents given rest input left old new (sheet customer month db) result =
+CarriesOver is_clean FromTo fits Has rests keeps refuses contents files coming given rest input left old new (sheet customer month db) result =
     Over rests keeps (refuses db) old new result rest (FromTo 0 ⊤)
     (λ store ended. is_clean store → ShowsSheet old new customer month (contents db) ended (Has db store (contents db) []))
-CarriesOver is_clean FromTo fits Has rests keeps refuses contents given rest input left old new (serve db port connections) result =
+CarriesOver is_clean FromTo fits Has rests keeps refuses contents files coming given rest input left old new (serve db port connections) result =
     IsUnbound given rest old new result
     ⊎ Over rests keeps (refuses db) old new result rest (FromTo (connections * most_messages) (FitMessages fits))
     (λ store ended. is_clean store
-    → Tries old new ended (ServesAll connections old new (contents db) ended (Has db store)) (Has db store (contents db) []))
+    → Tries old new ended (ServesAll (coming port) connections old new (contents db) ended (Has db store)) (Has db store (contents db) []))

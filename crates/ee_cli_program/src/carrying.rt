@@ -14,6 +14,7 @@ ghost use Rattle.ee_cli_program.specs.Stores.{CarriesOver, Closes, IsUnbound, Ov
 ghost use Rattle.ee_cli_program.specs.Told.{TellsOnlyIf, fault_of_cause};
 
 use crate::explaining::Cause;
+use crate::host::Host;
 use crate::opening::{Carried, import_path, refused_port, serve_port};
 use crate::stores::{Left, Stores, Unopened};
 use ee_cli_actions::{Outcome, RunFault, StoreFault, apply_to, export_from, sheet_of};
@@ -33,8 +34,8 @@ pub struct CarriedOut<O, Q, R, L> {
 
 /// Carries out a command. A store is opened before a file is, and only if something can listen on the port. `told`: a
 /// cause is told only of a command that failed for it.
-pub fn carry_out<O: Stores, R: Source, W: Sink>(
-    rt: &HostRuntime,
+pub fn carry_out<H: Host, O: Stores, R: Source, W: Sink>(
+    host: &H,
     stores: O,
     command: &Command,
     input: &mut R,
@@ -42,7 +43,7 @@ pub fn carry_out<O: Stores, R: Source, W: Sink>(
 ) -> CarriedOut<O, O::Refused, O::Rest, O::Left>
     ensures carries { Carries (W.contents output.old) (W.contents output.new) (view_of command.now) result.carried.ended }
     ensures over { (contents : Text → Content) → ((path : Text) → O.holds stores path (contents path))
-        → CarriesOver O.Store.is_clean (Since O.Store.is_clean O.Store.is_guarded O.Store.is_open O.Store.faults O.Store.takes) O.Store.fits (λ path left. HasAfter (O.Store.has left) (O.opens stores path) (O.Store.went left)) O.rests O.keeps (O.refuses stores) contents stores result.left (R.remaining input.old) (R.remaining input.new) (W.contents output.old) (W.contents output.new)
+        → CarriesOver O.Store.is_clean (Since O.Store.is_clean O.Store.is_guarded O.Store.is_open O.Store.faults O.Store.takes) O.Store.fits (λ path left. HasAfter (O.Store.has left) (O.opens stores path) (O.Store.went left)) O.rests O.keeps (O.refuses stores) contents (H.file host.now) (H.coming host.now) stores result.left (R.remaining input.old) (R.remaining input.new) (W.contents output.old) (W.contents output.new)
         (view_of command.now) result.carried.ended }
     ensures told { TellsOnlyIf result.carried.ended result.carried.cause }
 {
@@ -56,19 +57,19 @@ pub fn carry_out<O: Stores, R: Source, W: Sink>(
         } => {
             let rates = Rates::new(rate, extension);
             CarriedOut {
-                carried: without_cause(value(rt, denom, issued, month, rates, output)),
+                carried: without_cause(value(host, denom, issued, month, rates, output)),
                 left: Left::Given(stores),
             }
         }
-        Command::Apply(store) => apply(rt, stores, store, input, output),
+        Command::Apply(store) => apply(host, stores, store, input, output),
         Command::Import {
             kind,
             file,
             store,
             desk,
             number,
-        } => { import(rt, stores, kind, file, store, desk, number, output) }
-        Command::Export { customer, store } => export(rt, stores, customer, store, output),
+        } => { import(host, stores, kind, file, store, desk, number, output) }
+        Command::Export { customer, store } => export(host, stores, customer, store, output),
         Command::Sheet {
             customer,
             month,
@@ -78,12 +79,12 @@ pub fn carry_out<O: Stores, R: Source, W: Sink>(
             store,
             port,
             connections,
-        } => serve(rt, stores, store, port, connections, output),
+        } => serve(host, stores, store, port, connections, output),
     }
 }
 
-fn apply<O: Stores, R: Source, W: Sink>(
-    rt: &HostRuntime,
+fn apply<H: Host, O: Stores, R: Source, W: Sink>(
+    host: &H,
     stores: O,
     db: &str,
     input: &mut R,
@@ -98,15 +99,15 @@ fn apply<O: Stores, R: Source, W: Sink>(
 {
     match stores.open(db) {
         Ok(mut store) => {
-            let ended = apply_to(rt.alloc(), &mut store, input, output);
+            let ended = apply_to(host.alloc(), &mut store, input, output);
             end::<O>(store, ended, None, None)
         }
         Err(not) => not_opened::<O>(not),
     }
 }
 
-fn import<O: Stores, W: Sink>(
-    rt: &HostRuntime,
+fn import<H: Host, O: Stores, W: Sink>(
+    host: &H,
     stores: O,
     kind: FileKind,
     file: &str,
@@ -119,21 +120,21 @@ fn import<O: Stores, W: Sink>(
         → Over O.rests O.keeps (O.refuses stores db.now) (W.contents output.old) (W.contents output.new) result.carried.ended result.left
         (Since O.Store.is_clean O.Store.is_guarded O.Store.is_open O.Store.faults O.Store.takes 1 (FitFile kind O.Store.fits c (desk, number)))
         (λ left ended. O.Store.is_clean left → Tries (W.contents output.old) (W.contents output.new) ended
-        (ImportsInto kind None (W.contents output.old) (W.contents output.new) (desk, number) c ended (HasAfter (O.Store.has left) (O.opens stores db.now) (O.Store.went left)))
+        (ImportsInto kind (H.file host.now file.now) (W.contents output.old) (W.contents output.new) (desk, number) c ended (HasAfter (O.Store.has left) (O.opens stores db.now) (O.Store.went left)))
         (HasAfter (O.Store.has left) (O.opens stores db.now) (O.Store.went left) c [])) }
     ensures told { TellsOnlyIf result.carried.ended result.carried.cause }
 {
     match stores.open(db) {
         Ok(mut store) => {
-            let tried = import_path(rt, &mut store, kind, file, desk, number, output);
+            let tried = import_path(host, &mut store, kind, file, desk, number, output);
             end::<O>(store, tried.ended, tried.cause, tried.field)
         }
         Err(not) => not_opened::<O>(not),
     }
 }
 
-fn export<O: Stores, W: Sink>(
-    rt: &HostRuntime,
+fn export<H: Host, O: Stores, W: Sink>(
+    host: &H,
     stores: O,
     customer: Customer,
     db: &str,
@@ -149,7 +150,7 @@ fn export<O: Stores, W: Sink>(
 {
     match stores.open(db) {
         Ok(mut store) => {
-            let ended = export_from(rt.alloc(), &mut store, customer, output);
+            let ended = export_from(host.alloc(), &mut store, customer, output);
             end::<O>(store, ended, None, None)
         }
         Err(not) => not_opened::<O>(not),
@@ -180,8 +181,8 @@ fn sheet<O: Stores, W: Sink>(
     }
 }
 
-fn serve<O: Stores, W: Sink>(
-    rt: &HostRuntime,
+fn serve<H: Host, O: Stores, W: Sink>(
+    host: &H,
     stores: O,
     db: &str,
     port: u16,
@@ -193,13 +194,13 @@ fn serve<O: Stores, W: Sink>(
         ⊎ Over O.rests O.keeps (O.refuses stores db.now) (W.contents output.old) (W.contents output.new) result.carried.ended result.left
         (Since O.Store.is_clean O.Store.is_guarded O.Store.is_open O.Store.faults O.Store.takes (connections * most_messages) (FitMessages O.Store.fits))
         (λ left ended. O.Store.is_clean left → Tries (W.contents output.old) (W.contents output.new) ended
-        (ServesAll connections (W.contents output.old) (W.contents output.new) c ended (HasAfter (O.Store.has left) (O.opens stores db.now) (O.Store.went left)))
+        (ServesAll (H.coming host.now port) connections (W.contents output.old) (W.contents output.new) c ended (HasAfter (O.Store.has left) (O.opens stores db.now) (O.Store.went left)))
         (HasAfter (O.Store.has left) (O.opens stores db.now) (O.Store.went left) c [])) }
     ensures done { IfOk result.carried.ended (λ outcome. outcome ≡ Outcome.Done) }
     ensures told { TellsOnlyIf result.carried.ended result.carried.cause }
 {
-    match refused_port(rt, port) {
-        None => serve_store(rt, stores, db, port, connections, output),
+    match refused_port(host, port) {
+        None => serve_store(host, stores, db, port, connections, output),
         Some(cause) => CarriedOut {
             carried: Carried {
                 ended: Err(RunFault::Device),
@@ -212,8 +213,8 @@ fn serve<O: Stores, W: Sink>(
 }
 
 // Serves over the store of this name.
-fn serve_store<O: Stores, W: Sink>(
-    rt: &HostRuntime,
+fn serve_store<H: Host, O: Stores, W: Sink>(
+    host: &H,
     stores: O,
     db: &str,
     port: u16,
@@ -224,14 +225,14 @@ fn serve_store<O: Stores, W: Sink>(
         → Over O.rests O.keeps (O.refuses stores db.now) (W.contents output.old) (W.contents output.new) result.carried.ended result.left
         (Since O.Store.is_clean O.Store.is_guarded O.Store.is_open O.Store.faults O.Store.takes (connections * most_messages) (FitMessages O.Store.fits))
         (λ left ended. O.Store.is_clean left → Tries (W.contents output.old) (W.contents output.new) ended
-        (ServesAll connections (W.contents output.old) (W.contents output.new) c ended (HasAfter (O.Store.has left) (O.opens stores db.now) (O.Store.went left)))
+        (ServesAll (H.coming host.now port) connections (W.contents output.old) (W.contents output.new) c ended (HasAfter (O.Store.has left) (O.opens stores db.now) (O.Store.went left)))
         (HasAfter (O.Store.has left) (O.opens stores db.now) (O.Store.went left) c [])) }
     ensures done { IfOk result.carried.ended (λ outcome. outcome ≡ Outcome.Done) }
     ensures told { TellsOnlyIf result.carried.ended result.carried.cause }
 {
     match stores.open(db) {
         Ok(mut store) => {
-            let tried = serve_port(rt, &mut store, port, connections, output);
+            let tried = serve_port(host, &mut store, port, connections, output);
             end::<O>(store, tried.ended, tried.cause, tried.field)
         }
         Err(not) => not_opened::<O>(not),
@@ -239,8 +240,8 @@ fn serve_store<O: Stores, W: Sink>(
 }
 
 // Prints a value.
-fn value<W: Sink>(
-    rt: &HostRuntime,
+fn value<H: Host, W: Sink>(
+    host: &H,
     denom: Denom,
     issued: IssueMonth,
     month: Month,
@@ -249,7 +250,7 @@ fn value<W: Sink>(
 ) -> Result<Outcome, RunFault>
     ensures { ShowsValue denom issued month rates (W.contents output.old) (W.contents output.new) result }
 {
-    Ok(print_value(rt.alloc(), denom, issued, month, rates, output)?.into())
+    Ok(print_value(host.alloc(), denom, issued, month, rates, output)?.into())
 }
 
 // A command that ended so, and opened all that it needs.

@@ -11,6 +11,7 @@
 mod carrying;
 mod explaining;
 mod forms;
+mod host;
 mod lines;
 mod opening;
 mod run;
@@ -24,6 +25,7 @@ pub use carrying::{CarriedOut, carry_out};
 pub use ee_cli_value::{BAD_LINE, DONE, FAILED, REFUSED};
 pub use explaining::{Cause, Explanation, Known, explain, explain_argument};
 pub use forms::{Form, form_of};
+pub use host::Host;
 pub use opening::Carried;
 pub use run::{Ran, refuse_words, run_words};
 pub use spellings::{Spelling, spelling_of_argument, spelling_of_column};

@@ -16,6 +16,7 @@ ghost use Rattle.ee_cli_program.specs.Told.{ShowsField, TellsOnlyIf, form_at_cod
 
 use crate::explaining::Cause;
 use crate::forms::{Form, form_of};
+use crate::host::Host;
 use crate::system::SystemCause;
 use ee_cli_actions::{Outcome, RunFault, import_into, serve_on};
 use ee_cli_commands::FileKind;
@@ -24,9 +25,6 @@ use ee_files::{FileCode, FileFault, MOST_BYTES, show_field};
 use ee_io::{ReadFault, Sink, Source, read_whole};
 use ee_keeper::Keeper;
 use std::alloc::Global;
-use std::fs;
-use std::io::Write;
-use std::net::TcpListener;
 use std::time::Duration;
 
 /// How a command ended, and what is known of why it failed.
@@ -41,8 +39,8 @@ pub struct Carried {
 
 /// Imports the file at this path, which is read whole first. A file that can't be opened is `Device`. A field that
 /// is shown is that of the fault, and a form that is told is the file's.
-pub fn import_path<K: Keeper, W: Sink>(
-    rt: &HostRuntime,
+pub fn import_path<H: Host, K: Keeper, W: Sink>(
+    host: &H,
     keeper: &mut K,
     kind: FileKind,
     path: &str,
@@ -53,18 +51,17 @@ pub fn import_path<K: Keeper, W: Sink>(
     ensures continues { Continues K.is_clean K.is_guarded K.is_open K.faults keeper.old keeper.new }
     ensures imports { K.is_clean keeper.new → (c : Content) → K.has keeper.old c
         → Tries (W.contents output.old) (W.contents output.new) result.ended
-        (ImportsInto kind None (W.contents output.old) (W.contents output.new) (desk, number) c result.ended (HasAfter (K.has keeper.new) (K.went keeper.old) (K.went keeper.new)))
+        (ImportsInto kind (H.file host.now path.now) (W.contents output.old) (W.contents output.new) (desk, number) c result.ended (HasAfter (K.has keeper.new) (K.went keeper.old) (K.went keeper.new)))
         (HasAfter (K.has keeper.new) (K.went keeper.old) (K.went keeper.new) c []) }
     ensures cause { K.is_clean keeper.new → (c : Content) → K.has keeper.old c → (n : ℕ) → K.takes (n + 1) keeper.old → FitFile kind K.fits c (desk, number)
         → TellsFailureOnlyIf (FailedIn K.is_open K.faults keeper.old keeper.new) result.ended }
     ensures told { TellsOnlyIf result.ended result.cause }
-    ensures shown { IfSome result.field (λ shown. (bytes : List ℕ) × ShowsField bytes result.ended (string_bytes shown)) }
-    ensures formed { IfSome (form_in result.cause) (λ form. (bytes : List ℕ) × (form_of bytes ≡ Some form)) }
+    ensures shown { IfSome result.field (λ shown. (bytes : List ℕ) × AreOf (H.file host.now path.now) bytes × ShowsField bytes result.ended (string_bytes shown)) }
+    ensures formed { IfSome (form_in result.cause) (λ form. (bytes : List ℕ) × AreOf (H.file host.now path.now) bytes × (form_of bytes ≡ Some form)) }
 {
-    match fs::open(rt, path) {
-        Ok(mut file) => {
-            let is_folder = file.metadata().is_ok_and(|found| found.is_dir());
-            let alloc = rt.alloc();
+    match host.open_file(path) {
+        Ok((mut file, is_folder)) => {
+            let alloc = host.alloc();
             import_read(
                 alloc, keeper, kind, desk, number, is_folder, &mut file, output,
             )
@@ -77,9 +74,7 @@ pub fn import_path<K: Keeper, W: Sink>(
     }
 }
 
-// Imports what this reader has left, which is read whole first. It is one function for all readers, so what it
-// promises of those whose bytes are known, that their rows are imported, is so of files too, whose bytes no clause
-// knows.
+// Imports what this reader has left, which is read whole first.
 fn import_read<K: Keeper, R: Source, W: Sink>(
     alloc: Global,
     keeper: &mut K,
@@ -202,18 +197,18 @@ fn not_read(is_folder: bool, fault: ReadFault) -> Carried
 const PATIENCE: u64 = 30;
 
 /// Why nothing can listen on a port of 127.0.0.1; `None` if something can.
-pub fn refused_port(rt: &HostRuntime, port: u16) -> Option<Cause>
+pub fn refused_port<H: Host>(host: &H, port: u16) -> Option<Cause>
     ensures told { TellsOnlyIf (Err RunFault.Device) result }
 {
-    match TcpListener::bind(rt, ("127.0.0.1", port)) {
+    match host.listen(port) {
         Ok(_) => None,
         Err(error) => Some(Cause::Port(SystemCause::of(error.kind()))),
     }
 }
 
 /// Serves on a port of 127.0.0.1, and says on standard error that it listens. A port that can't be bound is `Device`.
-pub fn serve_port<K: Keeper, W: Sink>(
-    rt: &HostRuntime,
+pub fn serve_port<H: Host, K: Keeper, W: Sink>(
+    host: &H,
     keeper: &mut K,
     port: u16,
     connections: u64,
@@ -222,22 +217,22 @@ pub fn serve_port<K: Keeper, W: Sink>(
     ensures continues { Continues K.is_clean K.is_guarded K.is_open K.faults keeper.old keeper.new }
     ensures over { K.is_clean keeper.new → (c : Content) → K.has keeper.old c
         → Tries (W.contents output.old) (W.contents output.new) result.ended
-        (ServesAll connections (W.contents output.old) (W.contents output.new) c result.ended (HasAfter (K.has keeper.new) (K.went keeper.old) (K.went keeper.new)))
+        (ServesAll (H.coming host.now port) connections (W.contents output.old) (W.contents output.new) c result.ended (HasAfter (K.has keeper.new) (K.went keeper.old) (K.went keeper.new)))
         (HasAfter (K.has keeper.new) (K.went keeper.old) (K.went keeper.new) c []) }
     ensures cause { K.is_clean keeper.new → (c : Content) → K.has keeper.old c → (n : ℕ) → K.takes (n + connections * most_messages) keeper.old → FitMessages K.fits
         → TellsFailureOnlyIf (FailedIn K.is_open K.faults keeper.old keeper.new) result.ended }
     ensures done { IfOk result.ended (λ outcome. outcome ≡ Outcome.Done) }
     ensures told { TellsOnlyIf result.ended result.cause }
 {
-    match TcpListener::bind(rt, ("127.0.0.1", port)) {
-        Ok(listener) => {
-            let _said = writeln!(rt.stderr(), "listening on port {port}");
+    match host.listen(port) {
+        Ok(mut listener) => {
+            let _said = eprintln!(host; "listening on port {port}");
             Carried {
                 ended: serve_on(
-                    rt,
-                    rt.alloc(),
+                    host,
+                    host.alloc(),
                     keeper,
-                    &listener,
+                    &mut listener,
                     connections,
                     Duration::from_secs(PATIENCE),
                     output,

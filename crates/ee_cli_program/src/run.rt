@@ -16,6 +16,7 @@ ghost use Rattle.ee_cli_program.specs.Stores.{CarriesOver, IsUntouched, Since};
 
 use crate::carrying::{CarriedOut, carry_out};
 use crate::explaining::{Explanation, Known, explain, explain_argument};
+use crate::host::Host;
 use crate::stores::{Left, Stores};
 use crate::streams::Stream;
 use ee_cli_actions::{Outcome, RunFault, print};
@@ -47,8 +48,8 @@ pub struct Ran<O, Q, R, L> {
 ///   its opening on (`Since`); and what is left of it.
 /// - `line`: the same of the one command that the words ask for; or no store was opened.
 /// - `untouched`: if the words ask for no command, no store was opened.
-pub fn run_words<O: Stores, R: Source + Stream, W: Sink + Stream, E: Write>(
-    rt: &HostRuntime,
+pub fn run_words<H: Host, O: Stores, R: Source + Stream, W: Sink + Stream, E: Write>(
+    host: &H,
     stores: O,
     words: &[String],
     explains: bool,
@@ -66,19 +67,19 @@ pub fn run_words<O: Stores, R: Source + Stream, W: Sink + Stream, E: Write>(
     ensures over { (contents : Text → Content) → ((path : Text) → O.holds stores path (contents path))
         → IsRun (map (λ w. string_bytes w) words.now)
         (CarriesOver O.Store.is_clean (Since O.Store.is_clean O.Store.is_guarded O.Store.is_open O.Store.faults O.Store.takes) O.Store.fits (λ path left. HasAfter (O.Store.has left) (O.opens stores path) (O.Store.went left))
-        O.rests O.keeps (O.refuses stores) contents stores result.left (R.remaining input.old) (R.remaining input.new) (W.contents output.old) (W.contents output.new))
+        O.rests O.keeps (O.refuses stores) contents (H.file host.now) (H.coming host.now) stores result.left (R.remaining input.old) (R.remaining input.new) (W.contents output.old) (W.contents output.new))
         (IsUntouched stores result.left (W.contents output.old) (W.contents output.new)) result.status }
     ensures line { (contents : Text → Content) → ((path : Text) → O.holds stores path (contents path))
         → HasRun (map (λ w. string_bytes w) words.now)
         (CarriesOver O.Store.is_clean (Since O.Store.is_clean O.Store.is_guarded O.Store.is_open O.Store.faults O.Store.takes) O.Store.fits (λ path left. HasAfter (O.Store.has left) (O.opens stores path) (O.Store.went left))
-        O.rests O.keeps (O.refuses stores) contents stores result.left (R.remaining input.old) (R.remaining input.new) (W.contents output.old) (W.contents output.new)) result.status
+        O.rests O.keeps (O.refuses stores) contents (H.file host.now) (H.coming host.now) stores result.left (R.remaining input.old) (R.remaining input.new) (W.contents output.old) (W.contents output.new)) result.status
         ⊎ (result.left ≡ Left.Given stores) }
     ensures untouched { ((asked : Asked) → ¬ IsAsked (map (λ w. string_bytes w) words.now) (Ok asked)) → result.left ≡ Left.Given stores }
 {
     let explains = explains || asks_to_explain(words);
-    match read_command(rt.alloc(), words) {
+    match read_command(host.alloc(), words) {
         Ok(command) => {
-            let CarriedOut { carried, left } = carry_out(rt, stores, &command, input, output);
+            let CarriedOut { carried, left } = carry_out(host, stores, &command, input, output);
             let known = Known {
                 cause: carried.cause,
                 field: carried.field.as_deref(),
@@ -95,7 +96,7 @@ pub fn run_words<O: Stores, R: Source + Stream, W: Sink + Stream, E: Write>(
             left: Left::Given(stores),
         },
         Err(CommandFault::Version) => Ran {
-            status: show_version(rt.alloc(), output, faults),
+            status: show_version(host.alloc(), output, faults),
             left: Left::Given(stores),
         },
         Err(CommandFault::Line(text)) => Ran {

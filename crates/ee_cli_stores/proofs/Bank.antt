@@ -1,7 +1,9 @@
 -- Files that command lines leave hold what was sent, once, and it is right.
-use Rattle.std.proofs.Common.{◌≡◌, ◌⊎◌, ◌∙◌, inl, inr, ℕ, List, [], ◌∷◌, ◌++◌, Option, Some, None, Result, Ok, Err, Bool, true, false, refl, sym, ap, subst, append_assoc, append-nil}
+use Rattle.std.proofs.Common.{◌≡◌, ◌⊎◌, ◌∙◌, inl, inr, ℕ, zero, suc, List, [], ◌∷◌, ◌++◌, ◌≤◌, arith, Option, Some, None, Result, Ok, Err, Bool, true, false, refl, sym, ap, subst, append_assoc, append-nil}
 use Rattle.std.proofs.Math.Logic.{∥∥₁_elim, ∥∥₁_map}
 use Rattle.std.specs.Io.KnownBytes.{Consumes}
+use Rattle.std.specs.Result.{IsErr}
+use Rattle.clap.specs.Words.{Text}
 use Rattle.sqlite.specs.Recovery.{Image}
 use Rattle.ee_desk_model.specs.declared.acts.Act.{Act}
 use Rattle.ee_desk_model.specs.declared.acts.Request.{Request}
@@ -22,9 +24,11 @@ use Rattle.ee_files.specs.RateFile.{rates_of_file}
 use Rattle.ee_files.specs.BondFile.{bonds_of_file}
 use Rattle.ee_cli_commands.specs.declared.commands.FileKind.{FileKind}
 use Rattle.ee_cli_commands.specs.declared.commands.FileKind.TheVariants as kind
+use Rattle.ee_cli_commands.specs.Answer.{IsAsked}
+use Rattle.ee_cli_commands.proofs.Lemmas.{asks_for_one, asks_unrefused}
 use Rattle.ee_cli_commands.specs.CommandLine.{Asked, value, apply, imports, export, sheet, serve}
 use Rattle.ee_keeper.specs.Keeping.{Shows}
-use Rattle.ee_counter.specs.Filing.{Imports, Exports, Reading}
+use Rattle.ee_counter.specs.Filing.{Imports, Exports, Reading, Reads}
 use Rattle.ee_counter.specs.Serving.{Told, Serves, EndsBy, attempts_by, attempts_by_all, left_by, messages}
 use Rattle.ee_counter.specs.declared.connections.Ended.{Ended}
 use Rattle.ee_counter.specs.declared.connections.Why.{Why}
@@ -37,10 +41,12 @@ use Rattle.ee_cli_actions.specs.Actions.{Applies, ExportsFrom, ImportsInto, Show
 use Rattle.ee_cli_actions.specs.Connections.{ServesAll, ServesEach}
 use Rattle.ee_cli_actions.specs.declared.faults.RunFault.{RunFault}
 use Rattle.ee_cli_actions.specs.declared.faults.Outcome.{Outcome}
+use Rattle.ee_cli_actions.specs.declared.faults.Outcome.TheVariants as outcome
+use Rattle.ee_cli_program.specs.Statuses.{AsksToShow, IsRun, IsStatusOf}
 use Rattle.ee_cli_program.specs.Stores.{Tries}
 use Rattle.ee_store.specs.History.{BeginsInFiles, HasLeft, HoldHistory, stop_and_reopen}
 use Rattle.ee_store.specs.NextRun.{HoldsContent}
-use Rattle.ee_cli_stores.specs.Bank.{AccountsForLines, AreOfMessages, AreOfStreams, ArePutBy, IsAccounted, Line, PutBy, Puts, RanLine, RanLines, Turn}
+use Rattle.ee_cli_stores.specs.Bank.{AccountsForLines, AsksForValue, AreOfConnections, AreOfMessages, ArePutBy, IsAccounted, IsOfFile, IsOfRows, Line, PutBy, Puts, RanLine, RanLines, Turn}
 use Rattle.ee_cli_stores.specs.Bank.Turn.{Ended as EndedLine, Cut}
 use Rattle.ee_cli_stores.specs.Lines.{LeadsInARow, LineLeads, LineWaits, LinesLead}
 use Rattle.ee_cli_stores.specs.Running.{Did, DoesInFiles, Led}
@@ -93,10 +99,10 @@ module _ (Has : Content → List Attempt → Type 0) where
 
   rows_put : {A : Type 0} (rows_of : Reading A) (act_of : List A → Act) (known : Option (List ℕ)) (number : RequestKey) (c : Content) (answer : Result Reply ImportFault)
       → Imports rows_of act_of known number c answer Has
-      → (d : Content) × (attempts : List Attempt) × Has d attempts × ((attempts ≡ []) ⊎ ((act : Act) × (is_served : _) × (attempts ≡ record { request = numbered number act; is_served = is_served } ∷ [])))
-  rows_put rows_of act_of known number c (Ok reply) (rows, reads, (is, has)) = (_, _, has, inr (act_of rows, true, refl))
+      → (d : Content) × (attempts : List Attempt) × Has d attempts × ((attempts ≡ []) ⊎ IsOfRows rows_of act_of known number attempts)
+  rows_put rows_of act_of known number c (Ok reply) (rows, reads, (is, has)) = (_, _, has, inr (rows, true, reads, refl))
   rows_put rows_of act_of known number c (Err (import.File fault)) (reads, has) = (_, _, has, inl refl)
-  rows_put rows_of act_of known number c (Err (import.Unserved cause)) (rows, reads, has) = (_, _, has, inr (act_of rows, false, refl))
+  rows_put rows_of act_of known number c (Err (import.Unserved cause)) (rows, reads, has) = (_, _, has, inr (rows, false, reads, refl))
 
   rows_out : (old new : Option (List ℕ)) (customer : ℕ) (c : Content) (answer : Result ℕ ExportFault) → Exports old new customer c answer Has → Has c []
   rows_out old new customer c (Ok count) (is, wrote, has) = has
@@ -104,13 +110,13 @@ module _ (Has : Content → List Attempt → Type 0) where
   rows_out old new customer c (Err (export_fault.Unserved cause)) (same, has) = has
 
 -- connections, one after the other
-each_puts : (Has : Content → List Attempt → Type 0) (c : Content) (ended : List Ended) → ServesEach c ended Has
-    → (d : Content) × (attempts : List Attempt) × Has d attempts × ((streams : List (List ℕ)) × AreOfStreams streams attempts)
-each_puts Has c [] has = (c, [], has, ([], refl))
-each_puts Has c (e ∷ es) (d, attempts, served, others) =
-    let (left, these, (at, are), (bytes, read, of)) = serves_puts (λ left these. (left ≡ d) × (these ≡ attempts)) None None None None c e served in
-    let (last, those, has, (streams, more)) = each_puts (λ left more. Has left (attempts ++ more)) d es others in
-    (last, attempts ++ those, has, (bytes ∷ streams, (attempts, those, refl, subst (AreOfMessages bytes) are of, more)))
+each_puts : (Has : Content → List Attempt → Type 0) (coming others : Option (List (List ℕ))) (c : Content) (ended : List Ended) → ServesEach coming others c ended Has
+    → (d : Content) × (attempts : List Attempt) × Has d attempts × ((streams : List (List ℕ)) × AreOfConnections coming streams attempts)
+each_puts Has coming others c [] (same, has) = (c, [], has, ([], refl))
+each_puts Has coming others c (e ∷ es) (next, sends, comes, (d, attempts, (left, old, new, served), rest)) =
+    let (now, these, (at, are), (bytes, read, of)) = serves_puts (λ left these. (left ≡ d) × (these ≡ attempts)) sends left old new c e served in
+    let (last, those, has, (streams, more)) = each_puts (λ left more. Has left (attempts ++ more)) next others d es rest in
+    (last, attempts ++ those, has, (bytes ∷ streams, (next, sends, left, comes, read, (attempts, those, refl, subst (AreOfMessages bytes) are of, more))))
 
 shows_stays : {A : Type 0} (IsShown : A → Type 0) (shown : Result A Unserved) (Stays : Type 0) → Shows IsShown shown Stays → Stays
 shows_stays IsShown (Ok shown) Stays (is, stays) = stays
@@ -118,65 +124,125 @@ shows_stays IsShown (Err unserved) Stays stays = stays
 
 -- ---- the attempts of a line
 
--- one request of a file, or none
-abbrev IsOneOf : RequestKey → List Attempt → Type 0
-IsOneOf number attempts = (attempts ≡ []) ⊎ ((act : Act) × (is_served : Bool) × (attempts ≡ record { request = numbered number act; is_served = is_served } ∷ []))
+import_puts : (Has : Content → List Attempt → Type 0) (k : FileKind) (file old new : Option (List ℕ)) (number : RequestKey) (c : Content) (ended : Result Outcome RunFault)
+    → Tries old new ended (ImportsInto k file old new number c ended Has) (Has c []) → (d : Content) × (attempts : List Attempt) × Has d attempts × ((attempts ≡ []) ⊎ IsOfFile k file number attempts)
+import_puts Has kind.Rates file old new number c ended (inl (answer, it, told)) = rows_put Has rates_of_file act.AddRates file number c answer it
+import_puts Has kind.Inventory file old new number c ended (inl (answer, it, told)) = rows_put Has bonds_of_file act.AddBonds file number c answer it
+import_puts Has k file old new number c ended (inr (failed, same, stays)) = (c, [], stays, inl refl)
 
-import_puts : (Has : Content → List Attempt → Type 0) (k : FileKind) (old new : Option (List ℕ)) (number : RequestKey) (c : Content) (ended : Result Outcome RunFault)
-    → Tries old new ended (ImportsInto k None old new number c ended Has) (Has c []) → (d : Content) × (attempts : List Attempt) × Has d attempts × IsOneOf number attempts
-import_puts Has kind.Rates old new number c ended (inl (answer, it, told)) = rows_put Has rates_of_file act.AddRates None number c answer it
-import_puts Has kind.Inventory old new number c ended (inl (answer, it, told)) = rows_put Has bonds_of_file act.AddBonds None number c answer it
-import_puts Has k old new number c ended (inr (failed, same, stays)) = (c, [], stays, inl refl)
+serve_puts : (Has : Content → List Attempt → Type 0) (coming : Option (List (List ℕ))) (most : ℕ) (old new : Option (List ℕ)) (c : Content) (ended : Result Outcome RunFault)
+    → Tries old new ended (ServesAll coming most old new c ended Has) (Has c []) → (d : Content) × (attempts : List Attempt) × Has d attempts × ((streams : List (List ℕ)) × AreOfConnections coming streams attempts)
+serve_puts Has coming most old new c ended (inl it) = each_puts Has coming it.others c it.ended it.each
+serve_puts Has coming most old new c ended (inr (failed, same, stays)) = (c, [], stays, ([], refl))
 
-serve_puts : (Has : Content → List Attempt → Type 0) (most : ℕ) (old new : Option (List ℕ)) (c : Content) (ended : Result Outcome RunFault)
-    → Tries old new ended (ServesAll most old new c ended Has) (Has c []) → (d : Content) × (attempts : List Attempt) × Has d attempts × ((streams : List (List ℕ)) × AreOfStreams streams attempts)
-serve_puts Has most old new c ended (inl it) = each_puts Has c it.ended it.each
-serve_puts Has most old new c ended (inr (failed, same, stays)) = (c, [], stays, ([], refl))
+-- what was put led to the files; or no store was opened, of which this is said
+abbrev Put : Image → Image → (List Attempt → Type 0) → Type 0 → Type 0
+Put held found P Quiet = ((attempts : List Attempt) × P attempts × LineLeads held attempts found) ⊎ (Quiet × LineWaits held found)
 
--- what was put led to the files; or no store was opened
-abbrev Put : Image → Image → (List Attempt → Type 0) → Type 0
-Put held found P = ((attempts : List Attempt) × P attempts × LineLeads held attempts found) ⊎ LineWaits held found
+-- it needs no store, or it failed
+abbrev NeedsNone : Asked → Result Outcome RunFault → Type 0
+NeedsNone asked result = AsksForValue asked ⊎ IsErr result
 
-did_put : (held found : Image) (old new : Option (List ℕ)) (result : Result Outcome RunFault) (P : List Attempt → Type 0)
+did_put : (held found : Image) (old new : Option (List ℕ)) (asked : Asked) (result : Result Outcome RunFault) (P : List Attempt → Type 0)
     (Carried : (Content → List Attempt → Type 0) → Result Outcome RunFault → Type 0)
     → ((Has : Content → List Attempt → Type 0) (ended : Result Outcome RunFault) → Carried Has ended → (d : Content) × (attempts : List Attempt) × Has d attempts × P attempts)
-    → Did held found old new result Carried → Put held found P
-did_put held found old new result P Carried puts (inl carried) =
+    → Did held found old new result Carried → Put held found P (NeedsNone asked result)
+did_put held found old new asked result P Carried puts (inl carried) =
     let (d, attempts, led, put) = puts (Led held found) result carried in inl (attempts, put, led.1)
-did_put held found old new result P Carried puts (inr (inl (ended, is, carried))) =
+did_put held found old new asked result P Carried puts (inr (inl (ended, is, carried))) =
     let (d, attempts, leads, put) = puts (λ content attempts. LineLeads held attempts found) ended carried in inl (attempts, put, leads)
-did_put held found old new result P Carried puts (inr (inr (failed, waits, same))) = inr waits
+did_put held found old new asked result P Carried puts (inr (inr (failed, waits, same))) = inr (inr failed, waits)
 
 still_left : (held found : Image) → found ≡ held → LineWaits held found
 still_left held found same start earlier was = subst (HasLeft start earlier) (sym same) was
 
-asked_put : (held found : Image) (c : Content) (input left old new : Option (List ℕ)) (asked : Asked) (result : Result Outcome RunFault)
-    → DoesInFiles held found c input left old new asked result → Put held found (Puts asked input left)
-asked_put held found c input left old new (value denom issued month rate extension) result same = inr (still_left held found same)
-asked_put held found c input left old new (apply db) result it =
-    did_put held found old new result (Puts (apply db) input left) (λ Has ended. Applies input left old new c ended Has)
+asked_put : (held found : Image) (c : Content) (files : Text → Option (List ℕ)) (coming : ℕ → Option (List (List ℕ))) (input left old new : Option (List ℕ)) (asked : Asked) (result : Result Outcome RunFault)
+    → DoesInFiles held found c files coming input left old new asked result → Put held found (Puts asked files coming input left) (NeedsNone asked result)
+asked_put held found c files coming input left old new (value denom issued month rate extension) result same = inr (inl tt, still_left held found same)
+asked_put held found c files coming input left old new (apply db) result it =
+    did_put held found old new (apply db) result (Puts (apply db) files coming input left) (λ Has ended. Applies input left old new c ended Has)
     (λ Has ended (e, serves, is). serves_puts Has input left old new c e serves) it
-asked_put held found c input left old new (imports k file db desk number) result it =
-    did_put held found old new result (Puts (imports k file db desk number) input left) (λ Has ended. Tries old new ended (ImportsInto k None old new (desk, number) c ended Has) (Has c []))
-    (λ Has ended it. import_puts Has k old new (desk, number) c ended it) it
-asked_put held found c input left old new (export customer db) result it =
-    did_put held found old new result (Puts (export customer db) input left) (λ Has ended. ExportsFrom old new customer c ended Has)
+asked_put held found c files coming input left old new (imports k file db desk number) result it =
+    did_put held found old new (imports k file db desk number) result (Puts (imports k file db desk number) files coming input left) (λ Has ended. Tries old new ended (ImportsInto k (files file) old new (desk, number) c ended Has) (Has c []))
+    (λ Has ended it. import_puts Has k (files file) old new (desk, number) c ended it) it
+asked_put held found c files coming input left old new (export customer db) result it =
+    did_put held found old new (export customer db) result (Puts (export customer db) files coming input left) (λ Has ended. ExportsFrom old new customer c ended Has)
     (λ Has ended (answer, it, is). (c, [], rows_out Has old new customer c answer it, refl)) it
-asked_put held found c input left old new (sheet customer month db) result it =
-    did_put held found old new result (Puts (sheet customer month db) input left) (λ Has ended. ShowsSheet old new customer month c ended (Has c []))
+asked_put held found c files coming input left old new (sheet customer month db) result it =
+    did_put held found old new (sheet customer month db) result (Puts (sheet customer month db) files coming input left) (λ Has ended. ShowsSheet old new customer month c ended (Has c []))
     (λ Has ended (shown, it, told). (c, [], shows_stays {A = Sheet} _ shown (Has c []) it, refl)) it
-asked_put held found c input left old new (serve db port connections) result it =
-    did_put held found old new result (Puts (serve db port connections) input left) (λ Has ended. Tries old new ended (ServesAll connections old new c ended Has) (Has c []))
-    (λ Has ended it. serve_puts Has connections old new c ended it) it
+asked_put held found c files coming input left old new (serve db port connections) result it =
+    did_put held found old new (serve db port connections) result (Puts (serve db port connections) files coming input left) (λ Has ended. Tries old new ended (ServesAll (coming port) connections old new c ended Has) (Has c []))
+    (λ Has ended it. serve_puts Has (coming port) connections old new c ended it) it
 
-line_put : (held found : Image) (line : Line) → RanLine held line found → (c : Content) → HoldsContent held c → Put held found (λ attempts. PutBy (EndedLine line) (Some attempts))
-line_put held found line ran c holds = elim (ran c holds) [
-  | inl it ↦ elim (asked_put held found c line.input line.left line.old line.new it.asked it.ended it.carried) [
-    | inl put ↦ inl (put.0, (it.asked, it.is_asked, put.1), put.2)
-    | inr waits ↦ inr waits
-  ]
-  | inr same ↦ inr (still_left held found same)
+-- what a line put that ended, or none
+abbrev PutsLine : Image → Line → Image → Type 0
+PutsLine held line found = Put held found (λ attempts. PutBy (EndedLine line) (Some attempts)) (PutBy (EndedLine line) None)
+
+none_needed : (line : Line) (asked : Asked) (result : Result Outcome RunFault) → IsAsked line.words (Ok asked) → (IsErr result → line.status ≡ 3) → NeedsNone asked result → PutBy (EndedLine line) None
+none_needed line asked result is failed (inl needs) other also =
+    let same = asks_for_one line.words (Ok asked) (Ok other) is also in
+    let one : asked ≡ other = cc in
+    inl (subst AsksForValue one needs)
+none_needed line asked result is failed (inr fails) other also = inr (failed fails)
+
+put_so : (held found : Image) (c : Content) (line : Line) (asked : Asked) (result : Result Outcome RunFault) → IsAsked line.words (Ok asked)
+    → DoesInFiles held found c line.files line.coming line.input line.left line.old line.new asked result → (IsErr result → line.status ≡ 3) → PutsLine held line found
+put_so held found c line asked result is does failed = elim (asked_put held found c line.files line.coming line.input line.left line.old line.new asked result does) [
+  | inl put ↦ inl (put.0, (asked, is, put.1), put.2)
+  | inr none ↦ inr (none_needed line asked result is failed none.0, none.1)
 ]
+
+failed_so : (result : Result Outcome RunFault) (status : ℕ) → IsStatusOf result status → IsErr result → status ≡ 3
+failed_so (Ok ended) status is fails = absurd (cc)
+failed_so (Err fault) status is fails = is
+
+done_so : (ended : Outcome) (status : ℕ) → IsErr {T = Outcome} {E = RunFault} (Ok ended) → status ≡ 3
+done_so ended status fails = absurd (cc)
+
+of_status : (n : ℕ) → n ≤ 3 → (n ≡ 0) ⊎ ((n ≡ 1) ⊎ ((n ≡ 2) ⊎ (n ≡ 3)))
+of_status zero few = inl refl
+of_status (suc zero) few = inr (inl refl)
+of_status (suc (suc zero)) few = inr (inr (inl refl))
+of_status (suc (suc (suc zero))) few = inr (inr (inr refl))
+of_status (suc (suc (suc (suc n)))) few = absurd (omega (arith, few))
+
+shows_none : (line : Line) → AsksToShow line.words → PutBy (EndedLine line) None
+shows_none line (inl help) asked is = absurd (asks_unrefused line.words (Ok asked) _ is help)
+shows_none line (inr version) asked is = absurd (asks_unrefused line.words (Ok asked) _ is version)
+
+-- the files are as they were, and the status says how the line ended
+still_so : (held found : Image) (c : Content) (line : Line) → found ≡ held
+    → IsRun line.words (DoesInFiles held found c line.files line.coming line.input line.left line.old line.new) ((found ≡ held) × (line.new ≡ line.old)) line.status → PutsLine held line found
+still_so held found c line same run = elim (of_status line.status run.range) [
+  | inl none ↦ elim (run.done none) [
+    | inl it ↦ put_so held found c line it.0 (Ok outcome.Done) it.1 ((run.ends it.0 it.1).done none) (done_so outcome.Done line.status)
+    | inr shows ↦ inr (shows_none line shows, still_left held found same)
+  ]
+  | inr more ↦ elim more [
+    | inl one ↦
+        let it = run.refused one in
+        elim ((run.ends it.0 it.1).refused one) [
+          | inl refused ↦ put_so held found c line it.0 (Ok (outcome.Refused refused.0)) it.1 refused.1 (done_so (outcome.Refused refused.0) line.status)
+          | inr others ↦ elim others [
+            | inl message ↦ put_so held found c line it.0 (Ok outcome.NoMessage) it.1 message (done_so outcome.NoMessage line.status)
+            | inr unsettled ↦ put_so held found c line it.0 (Ok (outcome.Unsettled unsettled.0)) it.1 unsettled.1 (done_so (outcome.Unsettled unsettled.0) line.status)
+          ]
+        ]
+    | inr most ↦ elim most [
+      | inl two ↦ inr ((λ asked is. absurd ((run.ends asked is).is_good_line two)), still_left held found same)
+      | inr three ↦ inr ((λ asked is. inr three), still_left held found same)
+    ]
+  ]
+]
+
+line_put : (held found : Image) (line : Line) → RanLine held line found → (c : Content) → HoldsContent held c → PutsLine held line found
+line_put held found line ran c holds =
+    let (did, run) = ran c holds in
+    elim did [
+      | inl it ↦ put_so held found c line it.asked it.ended it.is_asked it.carried (failed_so it.ended line.status it.has_status)
+      | inr same ↦ still_so held found c line same run
+    ]
 
 -- ---- lines in a row
 
@@ -198,8 +264,8 @@ ArePut held found lines = (ran : List (Option (List Attempt))) × ArePutBy lines
 and_put : (held next found : Image) (turn : Turn) (lines : List Turn) (attempts : List Attempt) → PutBy turn (Some attempts) → LineLeads held attempts next → ArePut next found lines → ArePut held found (turn ∷ lines)
 and_put held next found turn lines attempts put leads (ran, puts, others) = (Some attempts ∷ ran, (put, puts), (next, leads, others))
 
-and_waited : (held next found : Image) (line : Line) (lines : List Turn) → LineWaits held next → ArePut next found lines → ArePut held found (EndedLine line ∷ lines)
-and_waited held next found line lines waits (ran, puts, others) = (None ∷ ran, (tt, puts), (next, waits, others))
+and_waited : (held next found : Image) (line : Line) (lines : List Turn) → PutBy (EndedLine line) None → LineWaits held next → ArePut next found lines → ArePut held found (EndedLine line ∷ lines)
+and_waited held next found line lines none waits (ran, puts, others) = (None ∷ ran, (none, puts), (next, waits, others))
 
 are_put : HoldHistory → (held found : Image) (lines : List Turn) → RanLines held lines found → (start : Content) (earlier : List Event) → HasLeft start earlier held → ∥ ArePut held found lines ∥₁
 are_put hold held found [] same start earlier come = ∣ ([], refl, same) ∣₁
@@ -209,7 +275,7 @@ are_put hold held found (EndedLine line ∷ lines) (next, ran, rest) start earli
           let some = some_events put.0 in
           ∥∥₁_map (are_put hold next found lines rest start (earlier ++ (some.0 ++ stop_and_reopen)) (put.2 start earlier some.0 come some.1))
           (and_put held next found (EndedLine line) lines put.0 put.1 put.2)
-      | inr waits ↦ ∥∥₁_map (are_put hold next found lines rest start earlier (waits start earlier come)) (and_waited held next found line lines waits)
+      | inr none ↦ ∥∥₁_map (are_put hold next found lines rest start earlier (none.1 start earlier come)) (and_waited held next found line lines none.0 none.1)
     ])
 are_put hold held found (Cut attempts ∷ lines) (next, leads, rest) start earlier come =
     let some = some_events attempts in

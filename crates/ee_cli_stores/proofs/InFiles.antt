@@ -108,33 +108,33 @@ module _ {D : Type 0} (g : Ghosts D) (closes : ClosesLine g) (at_rest : HoldAtRe
         let (cause, told, from, kind, why, left, kept, none) = refuses in
         inr (inr (subst IsErr (sym is) refl, waited cause it.rest from kept finds, same))
 
-    pub carries_in_files : (fits : Content → Request → Type 0) (FromTo : ℕ → Type 0 → S → S → Result Outcome RunFault → Type 0) (c : Content) (given : O)
+    pub carries_in_files : (fits : Content → Request → Type 0) (FromTo : ℕ → Type 0 → S → S → Result Outcome RunFault → Type 0) (c : Content) (files : Text → Option (List ℕ)) (coming : ℕ → Option (List (List ℕ))) (given : O)
         (input left old new : Option (List ℕ)) (asked : Asked) (result : Result Outcome RunFault)
-        → CarriesOver clean FromTo fits (λ path s. HasAfter (Has s) Opens (Went s)) Rests Keeps (λ path fault it. IsRefused IsLog IsDb held fault it.rest) (λ path. c) given rest input left old new asked result
-        → DoesInFiles held found c input left old new asked result
-    carries_in_files fits FromTo c given input left old new (value denom issued month rate extension) result is = subst (λ it. MayBeFound held it found) is may
-    carries_in_files fits FromTo c given input left old new (apply db) result over =
+        → CarriesOver clean FromTo fits (λ path s. HasAfter (Has s) Opens (Went s)) Rests Keeps (λ path fault it. IsRefused IsLog IsDb held fault it.rest) (λ path. c) files coming given rest input left old new asked result
+        → DoesInFiles held found c files coming input left old new asked result
+    carries_in_files fits FromTo c files coming given input left old new (value denom issued month rate extension) result is = subst (λ it. MayBeFound held it found) is may
+    carries_in_files fits FromTo c files coming given input left old new (apply db) result over =
         over_at rest may _ _ (λ Before After more ended it. applies_with Before After more input left old new c ended it) old new result over
-    carries_in_files fits FromTo c given input left old new (imports kind file db desk number) result over =
-        over_at rest may _ (λ Led ended. Tries old new ended (ImportsInto kind None old new (desk, number) c ended Led) (Led c []))
-        (λ Before After more ended it. tries_with old new ended (ImportsInto kind None old new (desk, number) c ended Before) (ImportsInto kind None old new (desk, number) c ended After) (Before c []) (After c [])
-        (imports_with Before After more kind None old new (desk, number) c ended) (more c []) it) old new result over
-    carries_in_files fits FromTo c given input left old new (export customer db) result over =
+    carries_in_files fits FromTo c files coming given input left old new (imports kind file db desk number) result over =
+        over_at rest may _ (λ Led ended. Tries old new ended (ImportsInto kind (files file) old new (desk, number) c ended Led) (Led c []))
+        (λ Before After more ended it. tries_with old new ended (ImportsInto kind (files file) old new (desk, number) c ended Before) (ImportsInto kind (files file) old new (desk, number) c ended After) (Before c []) (After c [])
+        (imports_with Before After more kind (files file) old new (desk, number) c ended) (more c []) it) old new result over
+    carries_in_files fits FromTo c files coming given input left old new (export customer db) result over =
         over_at rest may _ _ (λ Before After more ended it. exports_with Before After more old new customer c ended it) old new result over
-    carries_in_files fits FromTo c given input left old new (sheet customer month db) result over =
+    carries_in_files fits FromTo c files coming given input left old new (sheet customer month db) result over =
         over_at rest may _ _ (λ Before After more ended it. sheets_with old new customer month c ended (Before c []) (After c []) (more c []) it) old new result over
-    carries_in_files fits FromTo c given input left old new (serve db port connections) result (inl (failed, (is, same))) =
+    carries_in_files fits FromTo c files coming given input left old new (serve db port connections) result (inl (failed, (is, same))) =
         let stays = subst (λ it. MayBeFound held it found) is may in
         inr (inr (subst IsErr (sym failed) refl, (λ start earlier was. subst (HasLeft start earlier) (sym stays) was), same))
-    carries_in_files fits FromTo c given input left old new (serve db port connections) result (inr over) =
-        over_at rest may _ (λ Led ended. Tries old new ended (ServesAll connections old new c ended Led) (Led c []))
-        (λ Before After more ended it. tries_with old new ended (ServesAll connections old new c ended Before) (ServesAll connections old new c ended After) (Before c []) (After c [])
-        (serves_all_with Before After more connections old new c ended) (more c []) it) old new result over
+    carries_in_files fits FromTo c files coming given input left old new (serve db port connections) result (inr over) =
+        over_at rest may _ (λ Led ended. Tries old new ended (ServesAll (coming port) connections old new c ended Led) (Led c []))
+        (λ Before After more ended it. tries_with old new ended (ServesAll (coming port) connections old new c ended Before) (ServesAll (coming port) connections old new c ended After) (Before c []) (After c [])
+        (serves_all_with Before After more (coming port) connections old new c ended) (more c []) it) old new result over
 
 -- the same of a keeper over the tables
 module _ {D : Type 0} (g : Ghosts D) (closes : ClosesLine g) (at_rest : HoldAtRest g) (leaves : LeavesHistory g) (refused : WaitsRefused g) (waits : WaitsLine) (held found : Image) where
   pub line_in_files : {O : Type 0} (IsLog IsDb : Files D → Type 0) (Tested : SqlKeeper (FileStore D g) → Files D → Type 0)
-      (rest : Left O (Refused D g) (Files D) (Unclosed D g)) → MayBeFound held rest found → (c : Content) (given : O) (input left old new : Option (List ℕ)) (asked : Asked) (result : Result Outcome RunFault)
+      (rest : Left O (Refused D g) (Files D) (Unclosed D g)) → MayBeFound held rest found → (c : Content) (files : Text → Option (List ℕ)) (coming : ℕ → Option (List (List ℕ))) (given : O) (input left old new : Option (List ℕ)) (asked : Asked) (result : Result Outcome RunFault)
       → CarriesOver (λ (k : SqlKeeper (FileStore D g)). HasCleanDisk (file_state k.conn))
       (Since (λ (k : SqlKeeper (FileStore D g)). HasCleanDisk (file_state k.conn)) (λ k. (file_state k.conn).IsShielded) (λ k. (file_state k.conn).is_open) (λ k. (file_state k.conn).faults)
       (λ n k. IsReady (file_state k.conn) × ((m : ℕ) → m ≤ n → HasRoom (501 * m) (file_state k.conn)))) TextsFit
@@ -142,9 +142,9 @@ module _ {D : Type 0} (g : Ghosts D) (closes : ClosesLine g) (at_rest : HoldAtRe
       (λ start events. HasCome start events (file_state k.conn) × IsInformed (file_state k.conn) k.known))
       (λ k files. RestsIn k.conn files × RestsAfter k.conn files × WasClean k.conn files × EndsTested k.conn files × Tested k files)
       (λ k it. Keeps k.conn it.store × (IsClean (view it.store) → FailsToEnd k.conn it.store it.failure))
-      (λ path fault it. IsRefused IsLog IsDb held fault it.rest) (λ path. c) given rest input left old new asked result
-      → DoesInFiles held found c input left old new asked result
-  line_in_files IsLog IsDb Tested rest may c given input left old new asked result it =
+      (λ path fault it. IsRefused IsLog IsDb held fault it.rest) (λ path. c) files coming given rest input left old new asked result
+      → DoesInFiles held found c files coming input left old new asked result
+  line_in_files IsLog IsDb Tested rest may c files coming given input left old new asked result it =
       carries_in_files g closes at_rest leaves refused waits held found (λ (k : SqlKeeper (FileStore D g)). k.conn)
       (λ k d. HasContent (file_state k.conn) d × IsInformed (file_state k.conn) k.known) (λ k d has. has.0)
       (λ k start events. HasCome start events (file_state k.conn) × IsInformed (file_state k.conn) k.known) (λ k start events went. went.0)
@@ -155,7 +155,7 @@ module _ {D : Type 0} (g : Ghosts D) (closes : ClosesLine g) (at_rest : HoldAtRe
       IsLog IsDb rest may TextsFit
       (Since (λ (k : SqlKeeper (FileStore D g)). HasCleanDisk (file_state k.conn)) (λ k. (file_state k.conn).IsShielded) (λ k. (file_state k.conn).is_open) (λ k. (file_state k.conn).faults)
       (λ n k. IsReady (file_state k.conn) × ((m : ℕ) → m ≤ n → HasRoom (501 * m) (file_state k.conn))))
-      c given input left old new asked result it
+      c files coming given input left old new asked result it
 
 -- what is said of a command that ended so says more
 pub run_with : (words : List Text) (Before After : Asked → Result Outcome RunFault → Type 0) (Unread Same : Type 0) (status : ℕ)

@@ -5,8 +5,9 @@ use Rattle.std.specs.Io.KnownBytes.{Consumes}
 use Rattle.clap.specs.Words.{Text}
 use Rattle.sqlite.specs.Recovery.{Image}
 use Rattle.ee_desk_model.specs.declared.acts.Act.{Act}
+use Rattle.ee_desk_model.specs.declared.acts.Act.TheVariants as act
 use Rattle.ee_desk_model.specs.declared.acts.Request.{Request}
-use Rattle.ee_desk_model.specs.Numbers.{numbered}
+use Rattle.ee_desk_model.specs.Numbers.{RequestKey, numbered}
 use Rattle.ee_desk_model.specs.Repeats.{Content}
 use Rattle.ee_desk_model.specs.Contents.{content_after}
 use Rattle.ee_desk_model.specs.Conserved.{IsConserved}
@@ -15,19 +16,28 @@ use Rattle.ee_desk_laws.specs.Attempts.{Attempt}
 use Rattle.ee_desk_laws.specs.Events.{Event, World, begun, Happens}
 use Rattle.ee_desk_laws.specs.Stops.{StillTold, sent, acknowledged}
 use Rattle.ee_wire_framing.specs.Framing.{BeginsMessages}
+use Rattle.ee_files.specs.RateFile.{rates_of_file}
+use Rattle.ee_files.specs.BondFile.{bonds_of_file}
+use Rattle.ee_counter.specs.Filing.{Reading, Reads}
 use Rattle.ee_counter.specs.Serving.{Told, attempts_by_all, messages}
+use Rattle.ee_cli_actions.specs.Connections.{Comes}
 use Rattle.ee_cli_commands.specs.Answer.{IsAsked}
+use Rattle.ee_cli_commands.specs.declared.commands.FileKind.{FileKind}
+use Rattle.ee_cli_commands.specs.declared.commands.FileKind.TheVariants as kind
 use Rattle.ee_cli_commands.specs.CommandLine.{Asked, value, apply, imports, export, sheet, serve}
-use Rattle.ee_cli_program.specs.Statuses.{HasRun}
+use Rattle.ee_cli_program.specs.Statuses.{HasRun, IsRun}
 use Rattle.ee_store.specs.NextRun.{HoldsContent}
 use Rattle.ee_cli_stores.specs.Lines.{AreEventsOfLines, LineLeads}
 use Rattle.ee_cli_stores.specs.Running.{DoesInFiles}
 
 -- ---- lines
 
--- a line that ended: its words, the input before and after, the output before and after, and its status
+-- a line that ended: its words; the bytes of the file at each path, and those that each connection sends which comes to a port, if they
+-- are known; the input before and after, the output before and after, and its status
 pub record Line : Type 0 where
   pub words : List Text
+  pub files : Text → Option (List ℕ)
+  pub coming : ℕ → Option (List (List ℕ))
   pub input : Option (List ℕ)
   pub left : Option (List ℕ)
   pub old : Option (List ℕ)
@@ -40,10 +50,11 @@ pub data Turn : Type 0 where
   Cut : (attempts : List Attempt) → Turn
 
 -- The line ran over two files which held what is first, and these are found afterwards (`run_line`): it did what its command is to do
--- at the content that they held, whichever that is, or it opened no store.
+-- at the content that they held, whichever that is, or it opened no store. Its status says how it ended.
 abbrev pub RanLine : Image → Line → Image → Type 0
 RanLine held line found = (c : Content) → HoldsContent held c
-    → HasRun line.words (DoesInFiles held found c line.input line.left line.old line.new) line.status ⊎ (found ≡ held)
+    → (HasRun line.words (DoesInFiles held found c line.files line.coming line.input line.left line.old line.new) line.status ⊎ (found ≡ held))
+    × IsRun line.words (DoesInFiles held found c line.files line.coming line.input line.left line.old line.new) ((found ≡ held) × (line.new ≡ line.old)) line.status
 
 -- Lines in a row, each over what the one before it left. One that was cut off had put these attempts, which led to the files.
 abbrev pub RanLines : Image → List Turn → Image → Type 0
@@ -57,26 +68,46 @@ RanLines held (Cut attempts ∷ lines) found = (next : Image) × LineLeads held 
 abbrev pub AreOfMessages : List ℕ → List Attempt → Type 0
 AreOfMessages bytes attempts = (told : List Told) × (rest : List ℕ) × BeginsMessages bytes (messages told) rest × (attempts ≡ attempts_by_all told)
 
--- those of some streams, one after the other
-abbrev pub AreOfStreams : List (List ℕ) → List Attempt → Type 0
-AreOfStreams [] attempts = attempts ≡ []
-AreOfStreams (bytes ∷ streams) attempts =
-    (these those : List Attempt) × (attempts ≡ these ++ those) × AreOfMessages bytes these × AreOfStreams streams those
+-- these bytes were read from the first of the connections that come, in their order, and the attempts are those of all of them
+abbrev pub AreOfConnections : Option (List (List ℕ)) → List (List ℕ) → List Attempt → Type 0
+AreOfConnections coming [] attempts = attempts ≡ []
+AreOfConnections coming (bytes ∷ streams) attempts =
+    (next : Option (List (List ℕ))) × (sends left : Option (List ℕ)) × Comes coming next sends × Consumes sends left bytes
+    × ((these those : List Attempt) × (attempts ≡ these ++ those) × AreOfMessages bytes these × AreOfConnections next streams those)
 
--- The attempts of a command: the requests in its input, one request of a file under its number, or those of some streams, if it serves.
-abbrev pub Puts : Asked → Option (List ℕ) → Option (List ℕ) → List Attempt → Type 0
-Puts (value denom issued month rate extension) input left attempts = attempts ≡ []
-Puts (apply db) input left attempts = (bytes : List ℕ) × Consumes input left bytes × AreOfMessages bytes attempts
-Puts (imports kind file db desk number) input left attempts =
-    (attempts ≡ []) ⊎ ((act : Act) × (is_served : Bool) × (attempts ≡ record { request = numbered (desk, number) act; is_served = is_served } ∷ []))
-Puts (export customer db) input left attempts = attempts ≡ []
-Puts (sheet customer month db) input left attempts = attempts ≡ []
-Puts (serve db port connections) input left attempts = (streams : List (List ℕ)) × AreOfStreams streams attempts
+-- one request of the rows that these bytes have by this reading
+abbrev pub IsOfRows : {A : Type 0} → Reading A → (List A → Act) → Option (List ℕ) → RequestKey → List Attempt → Type 0
+IsOfRows {A} rows_of act_of file number attempts =
+    (rows : List A) × (is_served : Bool) × Reads rows_of file (Ok rows) × (attempts ≡ record { request = numbered number (act_of rows); is_served = is_served } ∷ [])
 
--- the attempts of a line that ended; of one that was cut off, those with which it ended; none if no store was opened
+-- that of a file of this kind
+abbrev pub IsOfFile : FileKind → Option (List ℕ) → RequestKey → List Attempt → Type 0
+IsOfFile kind.Rates file number attempts = IsOfRows rates_of_file act.AddRates file number attempts
+IsOfFile kind.Inventory file number attempts = IsOfRows bonds_of_file act.AddBonds file number attempts
+
+-- The attempts of a command: the requests in its input, one request of the file at its path under its number, or those in what was read
+-- from the connections that came to its port.
+abbrev pub Puts : Asked → (Text → Option (List ℕ)) → (ℕ → Option (List (List ℕ))) → Option (List ℕ) → Option (List ℕ) → List Attempt → Type 0
+Puts (value denom issued month rate extension) files coming input left attempts = attempts ≡ []
+Puts (apply db) files coming input left attempts = (bytes : List ℕ) × Consumes input left bytes × AreOfMessages bytes attempts
+Puts (imports kind file db desk number) files coming input left attempts = (attempts ≡ []) ⊎ IsOfFile kind (files file) (desk, number) attempts
+Puts (export customer db) files coming input left attempts = attempts ≡ []
+Puts (sheet customer month db) files coming input left attempts = attempts ≡ []
+Puts (serve db port connections) files coming input left attempts = (streams : List (List ℕ)) × AreOfConnections (coming port) streams attempts
+
+abbrev pub AsksForValue : Asked → Type 0
+AsksForValue (value denom issued month rate extension) = ⊤
+AsksForValue (apply db) = ⊥
+AsksForValue (imports kind file db desk number) = ⊥
+AsksForValue (export customer db) = ⊥
+AsksForValue (sheet customer month db) = ⊥
+AsksForValue (serve db port connections) = ⊥
+
+-- The attempts of a line that ended; of one that was cut off, those with which it ended. None if no store was opened: the line asked for
+-- no command over a store, or it failed.
 abbrev pub PutBy : Turn → Option (List Attempt) → Type 0
-PutBy (Ended line) (Some attempts) = (asked : Asked) × IsAsked line.words (Ok asked) × Puts asked line.input line.left attempts
-PutBy (Ended line) None = ⊤
+PutBy (Ended line) (Some attempts) = (asked : Asked) × IsAsked line.words (Ok asked) × Puts asked line.files line.coming line.input line.left attempts
+PutBy (Ended line) None = (asked : Asked) → IsAsked line.words (Ok asked) → AsksForValue asked ⊎ (line.status ≡ 3)
 PutBy (Cut attempts) (Some others) = others ≡ attempts
 PutBy (Cut attempts) None = ⊥
 

@@ -1,5 +1,6 @@
 -- What a command line did over two files, and how the files may be found after it.
 use Rattle.std.specs.Prelude.{◌≡◌, ◌⊎◌, ℕ, List, [], Option, Some, None, Result}
+use Rattle.clap.specs.Words.{Text}
 use Rattle.std.specs.Result.{IsErr}
 use Rattle.sqlite_disk.specs.declared.Disk.{Ghosts}
 use Rattle.sqlite_disk.specs.declared.Files.{Files}
@@ -60,14 +61,15 @@ Did held found old new result Carried =
     ⊎ (((ended : Result Outcome RunFault) × (result ≡ unwritten ended) × Carried (λ content attempts. LineLeads held attempts found) ended)
     ⊎ (IsErr result × LineWaits held found × (new ≡ old)))
 
--- What a command did that ended so over two files which held this content; these are found afterwards. The arguments are the input
--- before and after, and the output before and after. The bytes of a file that is imported aren't known.
-abbrev pub DoesInFiles : Image → Image → Content → Option (List ℕ) → Option (List ℕ) → Option (List ℕ) → Option (List ℕ) → Asked → Result Outcome RunFault → Type 0
-DoesInFiles held found c input left old new (value denom issued month rate extension) result = found ≡ held
-DoesInFiles held found c input left old new (apply db) result = Did held found old new result (λ Has ended. Applies input left old new c ended Has)
-DoesInFiles held found c input left old new (imports kind file db desk number) result =
-    Did held found old new result (λ Has ended. Tries old new ended (ImportsInto kind None old new (desk, number) c ended Has) (Has c []))
-DoesInFiles held found c input left old new (export customer db) result = Did held found old new result (λ Has ended. ExportsFrom old new customer c ended Has)
-DoesInFiles held found c input left old new (sheet customer month db) result = Did held found old new result (λ Has ended. ShowsSheet old new customer month c ended (Has c []))
-DoesInFiles held found c input left old new (serve db port connections) result =
-    Did held found old new result (λ Has ended. Tries old new ended (ServesAll connections old new c ended Has) (Has c []))
+-- What a command did that ended so over two files which held this content; these are found afterwards. `files` are the bytes of the file
+-- at each path, and `coming` those that each connection sends which comes to a port, if they are known. The other arguments are the input
+-- before and after, and the output before and after.
+abbrev pub DoesInFiles : Image → Image → Content → (Text → Option (List ℕ)) → (ℕ → Option (List (List ℕ))) → Option (List ℕ) → Option (List ℕ) → Option (List ℕ) → Option (List ℕ) → Asked → Result Outcome RunFault → Type 0
+DoesInFiles held found c files coming input left old new (value denom issued month rate extension) result = found ≡ held
+DoesInFiles held found c files coming input left old new (apply db) result = Did held found old new result (λ Has ended. Applies input left old new c ended Has)
+DoesInFiles held found c files coming input left old new (imports kind file db desk number) result =
+    Did held found old new result (λ Has ended. Tries old new ended (ImportsInto kind (files file) old new (desk, number) c ended Has) (Has c []))
+DoesInFiles held found c files coming input left old new (export customer db) result = Did held found old new result (λ Has ended. ExportsFrom old new customer c ended Has)
+DoesInFiles held found c files coming input left old new (sheet customer month db) result = Did held found old new result (λ Has ended. ShowsSheet old new customer month c ended (Has c []))
+DoesInFiles held found c files coming input left old new (serve db port connections) result =
+    Did held found old new result (λ Has ended. Tries old new ended (ServesAll (coming port) connections old new c ended Has) (Has c []))

@@ -57,7 +57,7 @@ fn client_at(
 }
 
 /// Serves one connection: the line that is printed.
-fn serve_one(rt: &HostRuntime, abort: &impl Abort, listener: &TcpListener) -> String {
+fn serve_one(rt: &HostRuntime, abort: &impl Abort, listener: &mut TcpListener) -> String {
     let mut keeper = ListKeeper::empty(rt.alloc());
     let mut lines = Vec::new(rt.alloc());
     let patience = Duration::from_millis(100);
@@ -77,10 +77,10 @@ fn serve_one(rt: &HostRuntime, abort: &impl Abort, listener: &TcpListener) -> St
 
 /// Serves one connection, on which a client sends these bytes: the line that is printed, and the answers after it.
 fn exchange(rt: &HostRuntime, abort: &impl Abort, sent: &str, closes: bool) -> String {
-    let listener = listener(rt, abort);
+    let mut listener = listener(rt, abort);
     let port = port_of(abort, &listener);
     let client = client_at(rt, abort, port, sent, closes);
-    let mut got = serve_one(rt, abort, &listener);
+    let mut got = serve_one(rt, abort, &mut listener);
     let answers = io::read_to_string(rt.alloc(), client).expect(abort, "the answers");
     add(abort, &mut got, answers.as_str());
     got

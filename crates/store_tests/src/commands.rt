@@ -2,7 +2,7 @@
 
 use crate::comparing::{assert_holds, assert_same};
 use ee_cli_program::{Stores, Unopened, run_words};
-use ee_cli_stores::{Untold, run_line};
+use ee_cli_stores::{StoreFiles, Untold, run_line};
 use ee_desk::ListKeeper;
 use std::alloc::Global;
 use std::process::Abort;
@@ -74,7 +74,8 @@ fn status_of(
     got: &mut Vec<u8>,
 ) -> u8 {
     let mut bytes = input.as_bytes();
-    run_line(rt, Untold, words, false, &mut bytes, printed, got).status
+    let stores = StoreFiles { rt, start: Untold };
+    run_line(rt, stores, words, false, &mut bytes, printed, got).status
 }
 
 /// Runs a line over stores in files.

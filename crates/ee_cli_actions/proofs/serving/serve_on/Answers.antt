@@ -14,7 +14,8 @@ returns-in_err-ended-clause-serves g c =
     let p = err_from_is_err_and c.from_residual.result c.from_residual.ensures.1 in
     λ clean d has. record {
       ended = s.0;
-      each = each_yet d s.0 (g.K.Keeper.has c.loop-connection.keeper) (g.K.Keeper.has c.serve_next.new.keeper)
+      others = g.L.Listens.coming c.loop-connection.listener;
+      each = each_yet (g.L.Listens.coming c.args.listener.now) (g.L.Listens.coming c.loop-connection.listener) d s.0 (g.K.Keeper.has c.loop-connection.keeper) (g.K.Keeper.has c.serve_next.new.keeper)
           (g.K.Keeper.went c.args.keeper.now) (g.K.Keeper.went c.loop-connection.keeper) (g.K.Keeper.went c.serve_next.new.keeper)
           (s.4 (c.serve_next.ensures.continues.clean clean) d has) (λ left x. (c.in_err-ended.ensures.serves clean left x).1);
       until = until_none s.0 s.2;
@@ -30,7 +31,8 @@ returns-in_err-print_line-clause-serves g c =
     let p = err_from_is_err_and c.from_residual-in_err-print_line.result c.from_residual-in_err-print_line.ensures.1 in
     λ clean d has. record {
       ended = s.0 ++ e ∷ [];
-      each = each_more d s.0 e (g.K.Keeper.has c.loop-connection.keeper) (g.K.Keeper.has c.serve_next.new.keeper)
+      others = g.L.Listens.coming c.serve_next.new.listener;
+      each = each_more (g.L.Listens.coming c.args.listener.now) (g.L.Listens.coming c.loop-connection.listener) (g.L.Listens.coming c.serve_next.new.listener) d s.0 e (g.K.Keeper.has c.loop-connection.keeper) (g.K.Keeper.has c.serve_next.new.keeper)
           (g.K.Keeper.went c.args.keeper.now) (g.K.Keeper.went c.loop-connection.keeper) (g.K.Keeper.went c.serve_next.new.keeper)
           (s.4 (c.serve_next.ensures.continues.clean clean) d has) (c.in_ok-ended.ensures.serves clean);
       until = until_more s.0 e s.2;
@@ -46,7 +48,8 @@ returns-then-ended-clause-serves g c =
     let few : length (s.0 ++ e ∷ []) ≤ c.args.connections = omega (arith, count, c.loop-connection-test.true) in
     λ clean d has. record {
       ended = s.0 ++ e ∷ [];
-      each = each_more d s.0 e (g.K.Keeper.has c.loop-connection.keeper) (g.K.Keeper.has c.serve_next.new.keeper)
+      others = g.L.Listens.coming c.serve_next.new.listener;
+      each = each_more (g.L.Listens.coming c.args.listener.now) (g.L.Listens.coming c.loop-connection.listener) (g.L.Listens.coming c.serve_next.new.listener) d s.0 e (g.K.Keeper.has c.loop-connection.keeper) (g.K.Keeper.has c.serve_next.new.keeper)
           (g.K.Keeper.went c.args.keeper.now) (g.K.Keeper.went c.loop-connection.keeper) (g.K.Keeper.went c.serve_next.new.keeper)
           (s.4 (c.serve_next.ensures.continues.clean clean) d has) (c.in_ok-ended.ensures.serves clean);
       until = until_more s.0 e s.2;
@@ -68,14 +71,14 @@ loop-connection-preserved g c =
           c.serve_next.ensures.ready clean held.0 held.1 n (i.ready before d has (n + 1000) (subst (λ m. g.K.Keeper.takes m c.args.keeper.now) less takes));
       held = λ clean d has.
           let held = i.held (c.serve_next.ensures.continues.clean clean) d has in
-          let last = left_of held.0 e (HasAfter (g.K.Keeper.has c.serve_next.new.keeper) (g.K.Keeper.went c.loop-connection.keeper) (g.K.Keeper.went c.serve_next.new.keeper)) (c.in_ok-ended.ensures.serves clean held.0 held.1) in
+          let last = left_of (g.L.Listens.coming c.loop-connection.listener) (g.L.Listens.coming c.serve_next.new.listener) held.0 e (HasAfter (g.K.Keeper.has c.serve_next.new.keeper) (g.K.Keeper.went c.loop-connection.keeper) (g.K.Keeper.went c.serve_next.new.keeper)) (c.in_ok-ended.ensures.serves clean held.0 held.1) in
           (last.0, last.1.1.0);
       so_far = (
         s.0 ++ e ∷ [],
         count_more s.0 e c.loop-connection.connection s.1,
         failed_more s.0 e s.2 ∙ c.if-ended.false,
         printed_more _ _ _ s.0 e c.loop-connection.connection s.1 s.3 c.in_ok-print_line.ensures.printed,
-        λ clean d has. each_more d s.0 e (g.K.Keeper.has c.loop-connection.keeper) (g.K.Keeper.has c.serve_next.new.keeper)
+        λ clean d has. each_more (g.L.Listens.coming c.args.listener.now) (g.L.Listens.coming c.loop-connection.listener) (g.L.Listens.coming c.serve_next.new.listener) d s.0 e (g.K.Keeper.has c.loop-connection.keeper) (g.K.Keeper.has c.serve_next.new.keeper)
             (g.K.Keeper.went c.args.keeper.now) (g.K.Keeper.went c.loop-connection.keeper) (g.K.Keeper.went c.serve_next.new.keeper)
             (s.4 (c.serve_next.ensures.continues.clean clean) d has) (c.in_ok-ended.ensures.serves clean),
       );
@@ -87,6 +90,7 @@ returns-clause-serves g c =
     let all : length s.0 ≡ c.args.connections = omega (arith, s.1) in
     λ clean d has. record {
       ended = s.0;
+      others = g.L.Listens.coming c.loop-connection.listener;
       each = s.4 clean d has;
       until = until_none s.0 s.2;
       printed = (refl, all, s.2, s.3);
@@ -97,7 +101,7 @@ loop-connection-init g c = record {
   continues = continues_itself g.K.Keeper.is_clean g.K.Keeper.is_guarded g.K.Keeper.is_open g.K.Keeper.faults c.args.keeper.now;
   ready = λ clean d has n takes. subst (λ m. g.K.Keeper.takes m c.args.keeper.now) (let none : n + 0 * 1000 ≡ n = omega arith in none) takes;
   held = λ clean d has. (d, has);
-  so_far = ([], refl, refl, Appends-nil (g.W.Write.contents c.args.output.now), λ clean d has. (has, lead_nowhere (g.K.Keeper.went c.args.keeper.now)));
+  so_far = ([], refl, refl, Appends-nil (g.W.Write.contents c.args.output.now), λ clean d has. (refl, (has, lead_nowhere (g.K.Keeper.went c.args.keeper.now))));
 }
 
 pub returns-in_err-ended-clause-continues : goal.returns-in_err-ended-clause-continues

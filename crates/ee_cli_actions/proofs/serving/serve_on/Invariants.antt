@@ -15,5 +15,5 @@ invariant-loop-connection g l = record {
   held : g.K.Keeper.is_clean l.keeper → (c : Content) → g.K.Keeper.has l.fn.keeper c → (d : Content) × g.K.Keeper.has l.keeper d;
   so_far : (ended : List Ended) × (length ended ≡ l.connection) × (any_failed ended ≡ false)
       × Appends (g.W.Write.contents l.fn.output) (g.W.Write.contents l.output) (connection_lines 0 ended)
-      × (g.K.Keeper.is_clean l.keeper → (c : Content) → g.K.Keeper.has l.fn.keeper c → ServesEach c ended (HasAfter (g.K.Keeper.has l.keeper) (g.K.Keeper.went l.fn.keeper) (g.K.Keeper.went l.keeper)));
+      × (g.K.Keeper.is_clean l.keeper → (c : Content) → g.K.Keeper.has l.fn.keeper c → ServesEach (g.L.Listens.coming l.fn.listener) (g.L.Listens.coming l.listener) c ended (HasAfter (g.K.Keeper.has l.keeper) (g.K.Keeper.went l.fn.keeper) (g.K.Keeper.went l.keeper)));
 }

@@ -1,4 +1,4 @@
-use Rattle.std.proofs.Common.{refl, inr, inl, [], None}
+use Rattle.std.proofs.Common.{refl, inr, inl, []}
 use Rattle.ee_cli_actions.specs.Actions.{ImportsInto}
 use Rattle.ee_keeper.specs.Keeping.{HasAfter}
 use Rattle.ee_cli_actions.proofs.Lemmas.{imports_with}
@@ -30,8 +30,8 @@ returns-in-Ok-clause-over g c = λ content holds.
       carried = λ clean.
           let before = c.import_path-tried.ensures.continues.clean clean in
           let since = since_opened Has Opens Went Left (c.in-Ok.ensures.gone before) in
-          tries_with old new c.import_path-tried.result.ended (ImportsInto c.args.kind None old new (c.args.desk, c.args.number) content c.import_path-tried.result.ended (HasAfter Has Went Left)) (ImportsInto c.args.kind None old new (c.args.desk, c.args.number) content c.import_path-tried.result.ended (HasAfter Has Opens Left))
-          (HasAfter Has Went Left content []) (HasAfter Has Opens Left content []) (imports_with (HasAfter Has Went Left) (HasAfter Has Opens Left) since c.args.kind None old new (c.args.desk, c.args.number) content c.import_path-tried.result.ended) (since content [])
+          tries_with old new c.import_path-tried.result.ended (ImportsInto c.args.kind (g.H.Host.file c.args.host.now c.args.file.now) old new (c.args.desk, c.args.number) content c.import_path-tried.result.ended (HasAfter Has Went Left)) (ImportsInto c.args.kind (g.H.Host.file c.args.host.now c.args.file.now) old new (c.args.desk, c.args.number) content c.import_path-tried.result.ended (HasAfter Has Opens Left))
+          (HasAfter Has Went Left content []) (HasAfter Has Opens Left content []) (imports_with (HasAfter Has Went Left) (HasAfter Has Opens Left) since c.args.kind (g.H.Host.file c.args.host.now c.args.file.now) old new (c.args.desk, c.args.number) content c.import_path-tried.result.ended) (since content [])
           (c.import_path-tried.ensures.imports clean content (c.in-Ok.ensures.opened before content holds));
       closes = c.end.ensures.closes;
     }

@@ -30,8 +30,8 @@ returns-in-Ok-clause-over g c = λ content holds.
       carried = λ clean.
           let before = c.serve_port-tried.ensures.continues.clean clean in
           let since = since_opened Has Opens Went Left (c.in-Ok.ensures.gone before) in
-          tries_with old new c.serve_port-tried.result.ended (ServesAll c.args.connections old new content c.serve_port-tried.result.ended (HasAfter Has Went Left)) (ServesAll c.args.connections old new content c.serve_port-tried.result.ended (HasAfter Has Opens Left))
-          (HasAfter Has Went Left content []) (HasAfter Has Opens Left content []) (serves_all_with (HasAfter Has Went Left) (HasAfter Has Opens Left) since c.args.connections old new content c.serve_port-tried.result.ended) (since content [])
+          tries_with old new c.serve_port-tried.result.ended (ServesAll (g.H.Host.coming c.args.host.now c.args.port) c.args.connections old new content c.serve_port-tried.result.ended (HasAfter Has Went Left)) (ServesAll (g.H.Host.coming c.args.host.now c.args.port) c.args.connections old new content c.serve_port-tried.result.ended (HasAfter Has Opens Left))
+          (HasAfter Has Went Left content []) (HasAfter Has Opens Left content []) (serves_all_with (HasAfter Has Went Left) (HasAfter Has Opens Left) since (g.H.Host.coming c.args.host.now c.args.port) c.args.connections old new content c.serve_port-tried.result.ended) (since content [])
           (c.serve_port-tried.ensures.over clean content (c.in-Ok.ensures.opened before content holds));
       closes = c.end.ensures.closes;
     }
