@@ -165,7 +165,7 @@ def test_sectors_of_a_short_log(kind: str, place: Place, young: Killed) -> None:
 
 @pytest.mark.parametrize("size", [512, 4096])
 def test_an_older_header(size: int, place: Place, young: Killed) -> None:
-    """Controls: SQLite loses every reply of such a log without a word; and beside a file that has
+    """Controls: SQLite loses every reply of such a log without a word; and over a file that has
     its pages it is opened."""
     assert len(young.older) == logs.NEW_LOG
     log = with_bytes(young.content, 0, young.older.ljust(size, b"\0"))
