@@ -184,10 +184,11 @@ def other(bank: Bank) -> Iterator[Machine]:
     """The machine with the store kept apart, without its archives."""
     m, drop_ins = bank.machine, f"{UNITS}/counter.service.d"
     m.shell("systemctl stop counter.service counter-archive.service; mkdir good")
-    m.shell(f"mv {STORE}* good/; mv {drop_ins}/archives.conf /root/; systemctl daemon-reload")
+    m.shell(f"mv {STORE} {STORE}-wal good/; mv {drop_ins}/archives.conf /root/")
+    m.shell("systemctl daemon-reload")
     yield m
-    m.shell(f"systemctl stop counter.service; rm -f {STORE}*")
-    m.shell("mv good/day.db* /var/lib/counter/; rmdir good")
+    m.shell(f"systemctl stop counter.service; rm -f {STORE} {STORE}-wal")
+    m.shell("mv good/* /var/lib/counter/; rmdir good")
     m.shell(f"mv /root/archives.conf {drop_ins}/; systemctl daemon-reload; systemctl reset-failed")
     m.shell("systemctl start counter-archive.service counter.service")
     bank.gives_all_replies_again()
@@ -231,7 +232,7 @@ def test_control_without_the_guard(bank: Bank, other: Machine, program: Path, fo
 
 def test_store_in_use(bank: Bank, other: Machine) -> None:
     """It is tried again after growing pauses, and served without a hand once it can be."""
-    other.shell("cp -p good/day.db* /var/lib/counter/; systemctl reset-failed counter.service")
+    other.shell("cp -p good/* /var/lib/counter/; systemctl reset-failed counter.service")
     serves = f"/opt/counter/ee_cli serve --db {STORE} --port 9999"
     other.shell(f"systemd-run -q --unit other -p User=counter {serves}")
     time.sleep(3)
