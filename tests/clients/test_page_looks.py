@@ -8,7 +8,7 @@ from typing import Sequence
 
 import pytest
 
-from tests.browser.bank import TOO_YOUNG, Bank, bond
+from tests.browser.bank import DAY, TOO_YOUNG, USER, Bank, bond
 from tests.clients.conftest import NewPage
 
 pytest.importorskip("selenium")
@@ -26,7 +26,7 @@ from tests.browser.measures import (
     unseen_acts,
     whole_bonds,
 )
-from tests.browser.page import VALUES, Page, dollars
+from tests.browser.page import DOUBT, VALUES, Page, dollars
 from tests.browser.rules import BREAKS, HELPERS, RULES, broken, least_contrast
 
 pytestmark = [pytest.mark.browser, pytest.mark.nginx]
@@ -44,54 +44,62 @@ def unnamed(page: Page) -> list[str]:
 # ---- the rules
 
 
-def test_rules(bank: Bank, new_page: NewPage) -> None:
-    """The rules, in each state of the page."""
+#: By name: 720 by 450 is 1440 by 900 at 200 %.
+WINDOWS = {
+    **{"1440": (1440, 900), "1366": (1366, 768), "1024": (1024, 768), "768": (768, 1024)},
+    **{"360": (360, 740), "zoomed": (720, 450)},
+}
+
+
+class Looks:
+    """Looks at the page in one state after another."""
+
+    def __init__(self, page: Page, pictures: Path | None) -> None:
+        self.page, self.pictures = page, pictures
+
+    def right(self, state: str) -> None:
+        """The rules hold in each window, and all that a screen reader is given has a name. A picture of each is left if there is a folder for them."""
+        for name, size in WINDOWS.items():
+            self.page.resize(*size)
+            if self.pictures is not None:
+                self.page.sleep(0.3)
+                self.page.picture(self.pictures / f"state_{state}_{name}-{self.page.name}.png")
+            assert broken(self.page) == {}, (state, name)
+        self.page.resize(1100, 820)
+        assert unnamed(self.page) == [] and least_contrast(self.page) >= 4.5, state
+
+
+def test_rules(bank: Bank, new_page: NewPage, pictures: Path | None) -> None:
+    """In the states before a payment."""
     bank.begin([7, 9])
     page = new_page(None)
+    looks = Looks(page, pictures)
     page.waits_for("Choose a desk")
-    assert broken(page) == {}
+    looks.right("desk")
     page.choose_desk(5)
     for view in ("day", "pay"):
         page.go(view)
-        assert broken(page) == {}, "without a day"
+        looks.right(f"no_day_{view}")
     page.joins()
     page.chooses(7, "L7EE")
     page.add(9, "K9EE")
+    page.go("walkin")
+    page.add_walk_in("L21EE", "50")
     for view in VIEWS:
         page.go(view)
-        assert broken(page) == {} and unnamed(page) == [], view
-        assert least_contrast(page) >= 4.5
-    page.show_sheet(7, "2012-08")
-    page.waits_for("Nothing can be chosen here", "#sheet")
-    assert broken(page) == {}, "another month"
-    page.press("#sheet button")
-    page.waits_for("Customer 7 · February 2012", "#folded")
-    page.ask_to_add("x", "y")
-    page.until(lambda: len(page.all(".error")) == 2, "both fields are marked")
-    assert broken(page) == {}, "fields that are marked"
-    page.choose("L7EE")
-    page.ask_to_pay()
-    assert broken(page) == {}, "the question"
-    dialog = page.find("#confirm")
-    assert dialog.accessible_name == page.text("#confirm-title")
-    assert dialog.get_attribute("aria-describedby") == "confirm-text confirm-scanned"
-    page.press("#confirm-no")
-    bank.gate.faults = ["lost request"] * 3
-    page.pay(8)
-    page.waits_for("sent again in 2 seconds", "#progress")
-    page.hears("no reply yet. Nothing may be paid out yet.")
-    assert broken(page) == {}, "while a request is retried"
-    not_payee = "The payee is neither the owner nor the coowner of bond L7EE."
-    page.waits_for(not_payee, "#notices")
-    page.hears(not_payee)
-    assert broken(page) == {}, "with a refusal"
+        looks.right(f"view_{view}")
+    page.scan("L9EE")
+    page.waits_for("Scanned: L9EE.", "#scanned")
+    looks.right("scan_waits")
     page.show_sheet(7)
+    page.waits_for("Not chosen: 1", "#missed")
+    looks.right("not_chosen")
+    page.press("#all-columns")
+    looks.right("all_columns")
+    roles = "return ['table', 'rowgroup', 'row', 'columnheader', 'rowheader', 'cell'].map((role) => document.querySelectorAll(`#sheet [role=${role}]`).length)"
     for width in (1100, 320):
         page.resize(width, 820)
-        roles = page.run(
-            "return ['table', 'rowgroup', 'row', 'columnheader', 'rowheader', 'cell'].map((role) => document.querySelectorAll(`#sheet [role=${role}]`).length)"
-        )
-        assert roles == [1, 3, 5, 11, 4, 40], "a table with headings for a screen reader"
+        assert page.run(roles) == [1, 3, 5, 11, 4, 40], "a table with headings for a screen reader"
     page.press("#change")
     for width, least in ((320, 2), (1100, 3)):
         page.resize(width, 820)
@@ -99,6 +107,85 @@ def test_rules(bank: Bank, new_page: NewPage) -> None:
         page.tab_to("#customer", back=True)
         (style, thick), (other, _) = page.run(OUTLINES)
         assert (style, other) == ("solid", "none") and thick >= least, "what has the keyboard"
+    page.show_sheet(7, "2012-08")
+    page.waits_for("Nothing can be chosen here", "#sheet")
+    looks.right("other_month")
+    page.press("#sheet button")
+    page.waits_for("Customer 7 · February 2012", "#folded")
+    page.ask_to_add("x", "y")
+    page.until(lambda: len(page.all(".error")) == 2, "both fields are marked")
+    looks.right("marked")
+    bank.nginx.regroup(USER, "office")
+    page.reload()
+    page.waits_for("This user may not pay bonds", "#pay-barred")
+    looks.right("barred_pay")
+    page.go("day")
+    looks.right("barred_day")
+
+
+def test_rules_of_payments(
+    bank: Bank, page: Page, new_page: NewPage, pictures: Path | None
+) -> None:
+    """In a payment's states and after it."""
+    looks = Looks(page, pictures)
+    page.chooses(7, "L7EE", "M7EE")
+    page.press("#pay-button")
+    page.asks()
+    assert page.text("#confirm-title") == DOUBT
+    looks.right("doubt")
+    page.press("#confirm-no")
+    page.choose("M7EE")
+    page.press("#in-hand")
+    page.scan("K9EE")
+    page.ask_to_pay()
+    page.scan("K7EE")
+    page.waits_for("Scanned, and not in this question: K7EE.", "#confirm-scanned")
+    looks.right("question")
+    dialog = page.find("#confirm")
+    assert dialog.accessible_name == page.text("#confirm-title")
+    assert dialog.get_attribute("aria-describedby") == "confirm-text confirm-scanned"
+    page.press("#confirm-no")
+    page.choose("K7EE")
+    bank.gate.faults = ["lost request"] * 4
+    page.run(HELD.replace("8000", "2000"))
+    page.pay(99)
+    page.waits_for("sent again in 2 seconds", "#progress")
+    page.hears("no reply yet. Nothing may be paid out yet.")
+    looks.right("retry")
+    page.press("#send-now")
+    not_payee = "The payee is neither the owner nor the coowner of bond L7EE."
+    page.waits_for(not_payee, "#notices")
+    page.hears(not_payee)
+    looks.right("refusal")
+    page.pay(7)
+    page.is_paid(1, L)
+    looks.right("ticket")
+    page.press("#next-customer")
+    page.takes_keyboard("#customer")
+    looks.right("next_customer")
+    page.go("walkin")
+    page.add_walk_in("L21EE", "50")
+    page.type("#walkin-owner", "21")
+    page.press("#walkin-button")
+    page.asked_without_doubt()
+    looks.right("walk_in_question")
+    page.press("#confirm-no")
+    page.ask_to_close()
+    looks.right("close")
+    page.press("#confirm-yes")
+    page.waits_for("Tickets of February 6, 2012", "#batch")
+    page.settled()
+    looks.right("batch")
+    page.go("interest")
+    page.type("#interest-day", DAY)
+    page.press("#ask-interest-day button")
+    page.waits_for("$", "#interest-of")
+    looks.right("interest")
+    before = page.new_tab()
+    page.open(bank.url)
+    page.waits_for("another tab", "#waiting")
+    looks.right("second_tab")
+    page.close_tab(before)
 
 
 OUTLINES = """

@@ -3,10 +3,11 @@
 from __future__ import annotations
 
 import threading
+import time
 
 import pytest
 
-from tests.browser.bank import DAY, Bank
+from tests.browser.bank import DAY, Bank, bond
 from tests.clients.conftest import NewPage
 from tests.clients.test_page_faults import held
 
@@ -175,27 +176,57 @@ def test_walk_ins_scanned(bank: Bank, page: Page) -> None:
     assert not page.is_shown("#scanned")
 
 
-def test_keys_of_a_bond(bank: Bank, page: Page) -> None:
-    """From one customer's number to the next one's: six keys beside the number's digits and the scanner's own."""
+#: What has the keyboard while a fifth each of the bonds is scanned. Nothing has it for "".
+PLACES = ("#in-hand", "#payee", "#sheet input", "#all-columns", "")
+
+
+def scan_into(page: Page, place: str, serials: list[str]) -> None:
+    """All at once, as fast as the browser takes keys."""
+    page.run(FOCUS if place else "document.activeElement.blur()", place)
+    page.keys("".join(serial + Keys.ENTER for serial in serials))
+
+
+@pytest.mark.parametrize("count", [1, 60])
+def test_keys_and_seconds(bank: Bank, page: Page, count: int) -> None:
+    """From one customer's number to the next one's: six keys beside the number's digits and the scanner's own, which come at full speed into anything. The seconds are printed."""
     page.run(NO_PRINTER)
+    of = {owner: [f"L{owner}{place:02}EE" for place in range(count)] for owner in ("61", "62")}
+    for owner, serials in of.items():
+        bank.registers(*(bond(serial, 50, "2010-11", int(owner)) for serial in serials))
     page.go("pay")
     page.run(FOCUS, "#customer")
-    for ticket, (owner, serial) in enumerate([("7", "K7EE"), ("9", "K9EE")], 1):
-        page.keys(owner, Keys.ENTER)
+    found = []
+    for ticket, (owner, serials) in enumerate(of.items(), 1):
+        keys, begun = 0, time.monotonic()
+
+        def press(key: str) -> None:
+            nonlocal keys
+            keys += 1
+            page.tab() if key == Keys.TAB else page.keys(key)
+
+        page.keys(owner)
+        press(Keys.ENTER)
         page.takes_keyboard("#in-hand")
-        page.scan(serial)
-        page.shows_sum(1, K)
+        for at, place in enumerate(PLACES if count > 1 else PLACES[:1]):
+            scan_into(page, place, serials[at * 12 : at * 12 + 12])
+        page.shows_sum(count, count * L)
+        assert page.all("#missed li") == [] and page.value("#payee") == owner
         page.sleep(0.4)
-        page.keys(Keys.ENTER)
+        page.run(FOCUS, "#in-hand")
+        press(Keys.ENTER)
         page.asks()
-        page.tab()
+        press(Keys.TAB)
         page.rested("#confirm-yes")
-        page.keys(Keys.ENTER)
-        page.is_paid(ticket, K)
+        press(Keys.ENTER)
+        page.is_paid(ticket, count * L)
         page.takes_keyboard("#ticket .print")
         page.sleep(0.6)
-        page.keys(Keys.ENTER)
+        press(Keys.ENTER)
         page.takes_keyboard("#next-customer")
-        page.keys(Keys.ENTER)
+        press(Keys.ENTER)
         page.takes_keyboard("#customer")
+        found.append((keys, time.monotonic() - begun))
         assert page.value("#customer") == "" and page.run("return window.prints") == ticket
+    (keys, _), (again, seconds) = found
+    print(f"{page.name}, {count} scanned: {keys} keys, {seconds:.1f} seconds")
+    assert keys == again == 6

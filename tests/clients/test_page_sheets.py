@@ -201,7 +201,9 @@ def test_sheet_of_a_thousand(bank: Bank, page: Page) -> None:
     """Everything works as on a short sheet, and nothing stops the page for 0.2 seconds."""
     bank.registers_many(60, 1000)
     page.resize(1280, 800)
-    assert max(stops(page, 60)) < limit()
+    found = stops(page, 60)
+    print(f"{page.name}: a sheet, a filter, a scan stop it for {[round(one) for one in found]} ms")
+    assert max(found) < limit()
     shows(page, 60)
     page.press("#in-hand")
     page.scan("S998EE")

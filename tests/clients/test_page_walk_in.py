@@ -3,6 +3,7 @@
 import json
 import time
 from pathlib import Path
+from statistics import median
 
 import pytest
 from ee_counter_client.testing.gate import JSON, response
@@ -79,12 +80,13 @@ def test_walk_in(bank: Bank, page: Page) -> None:
 
 @pytest.mark.slow
 def test_sixty_walk_ins(bank: Bank, page: Page) -> None:
-    """Sixty walk-ins of a bond, by keys as fast as the page takes them: 24 each beside the digits of the customer's number, and how long one takes."""
+    """Sixty walk-ins of a bond, by keys as fast as the page takes them: 24 each beside the digits of the customer's number, and how long each takes."""
     page.run(NO_PRINTER)
     page.go("walkin")
     page.run("document.getElementById('walkin-serial').focus()")
-    begun = time.monotonic()
+    seconds = []
     for number in range(1, 61):
+        begun = time.monotonic()
         page.keys(f"L{100 + number}EE", Keys.ENTER, "50", Keys.ENTER, "112010", Keys.ENTER)
         page.until(lambda: len(page.all("#walkin-bonds li")) == 1, "the bond is in the list")
         page.keys(Keys.ENTER)
@@ -101,7 +103,8 @@ def test_sixty_walk_ins(bank: Bank, page: Page) -> None:
         page.takes_keyboard("#next-customer")
         page.keys(Keys.ENTER)
         page.takes_keyboard("#walkin-serial")
-    print(f"{(time.monotonic() - begun) / 60:.1f} seconds each")
+        seconds.append(time.monotonic() - begun)
+    print(f"{page.name}: {median(seconds):.1f} seconds by the median, {max(seconds):.1f} at most")
     assert page.run("return window.prints") == 60
     assert bank.books().one("SELECT count(*) FROM tickets") == 60
 
