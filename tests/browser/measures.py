@@ -115,6 +115,18 @@ def broken_cells(page: Browser, texts: Mapping[str, str]) -> list[str]:
     return found
 
 
+EDGES = """
+    const rows = [...document.querySelectorAll(".sheet :is(thead, tbody) tr")];
+    const edges = (place) => new Set(rows.map((row) => row.children[place].getBoundingClientRect().left)).size;
+    return Math.max(...[0, 1, 2, 3, 4, 5].map(edges));
+"""
+
+
+def edges_of_a_column(page: Browser) -> int:
+    """At how many places the cells of a column begin, in the column with the most."""
+    return int(page.run(EDGES))
+
+
 MEETING = """
     const cells = [...document.querySelector(".sheet tbody tr").cells].filter((cell) => cell.checkVisibility() && cell.textContent !== "");
     const boxes = cells.map(rects);

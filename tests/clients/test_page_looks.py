@@ -8,7 +8,7 @@ from typing import Sequence
 
 import pytest
 
-from tests.browser.bank import DAY, TOO_YOUNG, USER, Bank, bond
+from tests.browser.bank import DAY, OLDER, TOO_YOUNG, USER, Bank, bond
 from tests.clients.conftest import NewPage
 
 pytest.importorskip("selenium")
@@ -18,6 +18,7 @@ from tests.browser.measures import (
     broken_cells,
     broken_words,
     covered,
+    edges_of_a_column,
     first_cells,
     in_window,
     lines_of_a_bond,
@@ -32,12 +33,14 @@ from tests.browser.rules import BREAKS, HELPERS, RULES, broken, least_contrast
 pytestmark = [pytest.mark.browser, pytest.mark.nginx]
 L, K, M = VALUES["L"], VALUES["K"], VALUES["M"]
 VIEWS = ("day", "pay", "walkin", "tickets", "batches", "interest")
+#: Beside an open question nothing is reached.
+REACHED = "const open = document.querySelector('dialog[open]'); return [...document.querySelectorAll(arguments[0])].filter((one) => open === null || open.contains(one));"
 NAMED = "button, a[href], input, dialog[open], [role=region], table, nav, progress"
 
 
 def unnamed(page: Page) -> list[str]:
     """What a screen reader is given without a name, by the browser's own computing."""
-    elements = [element for element in page.all(NAMED) if element.is_displayed()]
+    elements = [element for element in page.run(REACHED, NAMED) if element.is_displayed()]
     return [one.get_attribute("outerHTML")[:120] for one in elements if one.accessible_name == ""]
 
 
@@ -355,6 +358,17 @@ def test_widest_texts(bank: Bank, page: Page) -> None:
         "document.querySelector('#confirm .bonds li:first-child').style.gridTemplateColumns = '8.5rem 4.5rem 3rem auto'"
     )
     assert lines_of_a_bond(page) > 1, "control: if the month has less room"
+
+
+def test_columns(bank: Bank, page: Page) -> None:
+    """The cells of a column stand below one another, beside a note and without one."""
+    bank.registers(OLDER)
+    page.show_sheet(7)
+    for width in (1440, 1024, 768, 660):
+        page.resize(width, 800)
+        assert edges_of_a_column(page) == 1, width
+    page.run("document.querySelector('.of-note:empty').style.display = 'none'")
+    assert edges_of_a_column(page) > 1, "control: without the cell of a note"
 
 
 #: By the window's size, 720 x 450 being 1440 x 900 at 200 %: the least number of whole bonds in view as a sheet is shown.
