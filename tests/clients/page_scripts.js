@@ -50,23 +50,24 @@ export function room() {
 }
 
 /** Opens the question with the pointer far away, and then at nine places of each box in which its button lay so far; at which of them the button is less than 16 pixels away, and how many there were. */
-export function near() {
+export async function near() {
     const yes = document.getElementById("confirm-yes");
-    const box = (x, y) => {
+    const box = async (x, y) => {
         dispatchEvent(new PointerEvent("pointermove", { clientX: x, clientY: y }));
         document.getElementById("pay-bonds").requestSubmit();
+        while (!document.getElementById("confirm").open) await new Promise((resolve) => setTimeout(resolve));
         const { left, right, top, bottom } = yes.getBoundingClientRect();
         document.getElementById("confirm").close("no");
         return { left, right, top, bottom };
     };
     const name = (one) => JSON.stringify(Object.values(one).map(Math.round));
-    const boxes = new Map([box(-99, -99)].map((one) => [name(one), one]));
+    const boxes = new Map([await box(-99, -99)].map((one) => [name(one), one]));
     const near = [];
     let count = 0;
     for (const { left, right, top, bottom } of boxes.values()) {
         for (const x of [left - 12, (left + right) / 2, right + 12]) {
             for (const y of [top - 12, (top + bottom) / 2, bottom + 12]) {
-                const other = box(x, y);
+                const other = await box(x, y);
                 if (x >= other.left - 16 && x <= other.right + 16 && y >= other.top - 16 && y <= other.bottom + 16) near.push([Math.round(x), Math.round(y), name(other)]);
                 boxes.set(name(other), other);
                 count += 1;

@@ -60,7 +60,7 @@ def test_double_clicks(bank: Bank, new_page: NewPage) -> None:
         choose_all(page, count)
         for width, height in windows():
             page.resize(width, height)
-            near, tried = page.run(SCRIPTS["near"])
+            near, tried = page.run_module(SCRIPTS["near"])
             assert near == [] and tried > 0, (count, width, height)
             page.double_click("#pay-button")
             page.asks()
