@@ -58,7 +58,6 @@ def built() -> Iterator[Path]:
 
 @pytest.fixture(scope="session")
 def library(built: Path) -> Library:
-    """The machine as a library of C."""
     return Library(built / "libee_client.so")
 
 

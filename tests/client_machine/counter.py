@@ -8,8 +8,6 @@ DAY, PAYEE = "2012-02-06", 7
 
 
 class Fate(enum.Enum):
-    """What becomes of one sending."""
-
     DONE = "decided, and answered"
     REFUSED = "decided as refused, and answered"
     LOST = "never there"
@@ -25,8 +23,6 @@ class Fate(enum.Enum):
 
 
 class Response(NamedTuple):
-    """The status and the text of an answer."""
-
     status: int
     text: str
 
@@ -47,13 +43,11 @@ def redemption(act: int) -> tuple[str, Json]:
 
 
 def registration(act: int) -> tuple[str, Json]:
-    """The registration with this name."""
     bond = {"serial": f"L{act}EE", "denom": 50, "issued": "2010-05", "owner": PAYEE}
     return "/bonds", {"bonds": [bond]}
 
 
 def name_of(fields: Json) -> int:
-    """The name of the act with these fields."""
     serial = fields["bonds"][0]["serial"] if "bonds" in fields else fields["serials"][0]
     return int(serial[1:-2])
 
@@ -68,7 +62,6 @@ class Counter:
         self.tickets = 0
 
     def uses(self, number: int) -> None:
-        """Another request of the desk has the number."""
         self.kept.setdefault(number, ("another", Response(200, "{}")))
 
     def decided(self, path: str, body: Json, refuses: bool) -> Response:
@@ -109,6 +102,5 @@ class Counter:
         return Response(response.status, response.text[:-1]) if fate is Fate.CUT else response
 
     def late_ones_come(self) -> None:
-        """The requests that were late reach it."""
         for path, body in self.late:
             self.decided(path, body, False)

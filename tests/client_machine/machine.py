@@ -21,8 +21,6 @@ class Record(NamedTuple):
 
 
 class Event(NamedTuple):
-    """What happens to a client."""
-
     kind: int
     number: int = 0
     act: int = 0
@@ -42,21 +40,16 @@ class Turn(NamedTuple):
 
 
 class Machine(Protocol):
-    """Where the machine runs."""
-
     def turn(self, most: int, journal: Record, events: Sequence[Event]) -> Turn:
         """The last turn of a client that starts with a journal, after these events."""
 
 
 def turn_of(numbers: Sequence[int]) -> Turn:
-    """The turn in these numbers."""
     action, number, act, outcome = numbers[:4]
     return Turn(action, number, act, outcome, Record(*numbers[4:10]), Record(*numbers[10:16]))
 
 
 class Library:
-    """The machine as a library of C."""
-
     def __init__(self, path: Path) -> None:
         number, pointer = ctypes.c_uint64, ctypes.c_void_p
         self.call = ctypes.CDLL(str(path)).ee_client_turn
@@ -84,7 +77,6 @@ class Beside:
     def happens(
         self, kind: int, number: int = 0, act: int = 0, follower: int = 0, detail: int = 0
     ) -> None:
-        """Something happens to the client."""
         self.events.append(Event(kind, number, act, follower, detail))
         self.turn = self.machine.turn(self.most, self.start, self.events)
         self.steps += 1
@@ -99,7 +91,6 @@ class Beside:
         assert written == (WRITE, record), f"the client writes {record}, the machine: {self.turn}"
 
     def sends(self, number: int, act: int) -> None:
-        """The client sends a request."""
         sent = self.turn.action, self.turn.number, self.turn.act
         wanted = (SEND, number, act)
         assert sent == wanted, f"it sends act {act} under {number}, and not {self.turn}"
@@ -110,5 +101,4 @@ class Beside:
         assert shown == (act, outcome), f"it shows {outcome} of act {act}, and the machine {shown}"
 
     def holds(self, record: Record) -> None:
-        """What the client's journal holds."""
         assert self.turn.journal == record, f"the journal holds {record}, and not {self.turn}"

@@ -5,10 +5,10 @@ import subprocess
 from pathlib import Path
 from typing import Any, Optional, Sequence
 
-from tests.client_machine.counter import Counter, Fate, Json, name_of, redemption, registration
+from tests.client_machine.counter import Fate, Json, name_of, redemption, registration
 from tests.client_machine import machine as proved
-from tests.client_machine.machine import Beside, Event, Record, Turn, turn_of
-from tests.client_machine.python_client import Edit, answered_kind, edited, record_of
+from tests.client_machine.machine import Event, Record, Turn, turn_of
+from tests.client_machine.python_client import Edit, Told, answered_kind, edited, record_of
 
 HERE = Path(__file__).resolve().parent
 PAGE = HERE.parents[1] / "clients" / "teller"
@@ -36,17 +36,14 @@ class Node:
         self.process = subprocess.Popen(words, stdin=pipe, stdout=pipe, text=True)
 
     def close(self) -> None:
-        """Ends it."""
         self.process.communicate(timeout=10)
 
     def does(self, command: str, **more: Any) -> None:
-        """Gives a command."""
         assert self.process.stdin is not None
         self.process.stdin.write(json.dumps({"do": command, **more}) + "\n")
         self.process.stdin.flush()
 
     def said(self) -> Json:
-        """What it does next."""
         assert self.process.stdout is not None
         found: Json = json.loads(self.process.stdout.readline())
         return found
@@ -82,17 +79,13 @@ class InBrowser(Node):
         return found
 
 
-class PageClient:
+class PageClient(Told):
     """The page's sender, whose journal is kept here, with the machine beside it."""
 
     def __init__(self, node: Node, first: int) -> None:
-        self.node, self.counter = node, Counter()
-        self.fates: list[Fate] = []
-        self.writes: list[str] = []
+        super().__init__(node, MOST, first)
+        self.node = node
         self.record: Json = {"desk": 3, "next": first, "open": None}
-        self.beside = Beside(node, MOST, Record(first))
-        self.shown: dict[int, int] = {}
-        self.followers: dict[int, int] = {}
         self.start()
 
     def close(self) -> None:
@@ -119,7 +112,6 @@ class PageClient:
         return True
 
     def sent(self, path: str, body: Json) -> None:
-        """It sends a request."""
         number, act = body["number"], name_of(body)
         self.beside.sends(number, act)
         fate = self.fates.pop(0) if self.fates else Fate.LOST
@@ -147,9 +139,7 @@ class PageClient:
                 return said
 
     def ends(self) -> None:
-        """A request is sent until it ends. A reply is shown, and then the request is dropped.
-
-        That it wasn't done is shown once it was dropped."""
+        """A request is sent until it ends. That it wasn't done is shown once it was dropped."""
         said = self.called()
         if said is None:
             return
@@ -173,15 +163,8 @@ class PageClient:
         else:
             assert why == "unstored", why
 
-    def told(self, outcome: int) -> None:
-        """What the teller was told of the act that the machine showed last."""
-        assert self.beside.last_shown is not None
-        self.beside.shows(self.beside.last_shown.act, outcome)
-        self.shown[self.beside.last_shown.act] = outcome
-
     @property
     def is_open(self) -> bool:
-        """Whether a request is open."""
         return self.record["open"] is not None
 
     def submit(self, act: int, follower: int = 0) -> None:
@@ -200,7 +183,6 @@ class PageClient:
         self.ends()
 
     def go_on(self) -> None:
-        """Sends the open request."""
         if self.is_open:
             self.node.does("finish")
             self.ends()
@@ -211,6 +193,5 @@ class PageClient:
         """The page gives nothing up."""
 
     def kill(self) -> None:
-        """Kills it at rest."""
         self.beside.happens(proved.KILLED)
         self.start()

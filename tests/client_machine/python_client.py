@@ -72,28 +72,40 @@ def answered_kind(status: int, text: str) -> int:
     return proved.FAULT if is_fault or (status, text) == STOPPED[Fate.FORBIDDEN] else proved.NOTHING
 
 
-class PythonClient:
+class Told:
+    """A client beside the machine, whose journal begins with a number."""
+
+    def __init__(self, machine: Machine, most: int, first: int) -> None:
+        self.counter, self.beside = Counter(), Beside(machine, most, Record(first))
+        self.fates: list[Fate] = []
+        self.writes: list[str] = []
+        self.shown: dict[int, int] = {}
+        self.followers: dict[int, int] = {}
+
+    def told(self, outcome: int) -> None:
+        """What the caller was told of the act that the machine showed last."""
+        assert self.beside.last_shown is not None
+        self.beside.shows(self.beside.last_shown.act, outcome)
+        self.shown[self.beside.last_shown.act] = outcome
+
+
+class PythonClient(Told):
     """A client whose journal is in a folder, with the machine beside it."""
 
     def __init__(self, package: ModuleType, machine: Machine, first: int) -> None:
-        self.package, self.counter = package, Counter()
+        super().__init__(machine, MOST, first)
+        self.package = package
         self.folder = Path(tempfile.mkdtemp(dir=MEMORY if os.path.isdir(MEMORY) else None))
         self.journal = str(self.folder / "journal")
-        self.fates: list[Fate] = []
-        self.writes: list[str] = []
         start: Json = {"desk": 3, "next": first, "open": None, "last": None, "bookmark": None}
         start |= {"abandoned": [], "keyed": 0}
         Path(self.journal).write_text(json.dumps(start, separators=(",", ":")) + "\n")
-        self.beside = Beside(machine, MOST, Record(first))
-        self.shown: dict[int, int] = {}
-        self.followers: dict[int, int] = {}
         self.trials = importlib.import_module(f"{package.__name__}.lookups").Trials
         self.true_pause = self.trials.pause
         self.trials.pause = lambda trials: bool(self.fates)
         self.client = self.started()
 
     def close(self) -> None:
-        """Ends it."""
         self.trials.pause = self.true_pause
         self.dropped()
         shutil.rmtree(self.folder)
@@ -172,15 +184,8 @@ class PythonClient:
         if not self.is_ended:
             self.beside.holds(record_of(self.client._journal.record))
 
-    def told(self, outcome: int) -> None:
-        """What the caller was told of the act that the machine showed last."""
-        assert self.beside.last_shown is not None
-        self.beside.shows(self.beside.last_shown.act, outcome)
-        self.shown[self.beside.last_shown.act] = outcome
-
     @property
     def is_open(self) -> bool:
-        """Whether a request is open."""
         return self.client._journal.record["open"] is not None
 
     @property
@@ -207,7 +212,6 @@ class PythonClient:
         self.called(self.client.finish)
 
     def give_up(self) -> None:
-        """Gives the open request up."""
         if not self.is_open:
             return
         self.beside.happens(proved.GIVE_UP)
@@ -219,7 +223,6 @@ class PythonClient:
         self.called(call)
 
     def kill(self) -> None:
-        """Kills it at rest."""
         self.beside.happens(proved.KILLED)
         self.dropped()
         self.client = self.started()

@@ -54,11 +54,7 @@ Client = Union[PythonClient, PageClient]
 
 
 def rules(started: Callable[[int], Client], steps: list[int]) -> type[RuleBasedStateMachine]:
-    """The rules over one client."""
-
     class Rules(RuleBasedStateMachine):
-        """A teller, a network and a counter."""
-
         client: Client
 
         @initialize(first=st.integers(1, 1000) | st.integers(MOST - 4, MOST))
@@ -126,7 +122,6 @@ def run(started: Callable[[int], Client], examples: int, is_shrunk: bool = False
 
 
 def test_header(built: Path) -> None:
-    """The header says what the library has."""
     program = TOP / "tests/client_machine/program.c"
     words = ["cc", "-Wall", "-Werror", f"-I{TOP / 'include'}", str(program), "libee_client.so"]
     subprocess.run([*words, "-Wl,-rpath,.", "-o", "program"], cwd=built, check=True)

@@ -103,7 +103,6 @@ class Calculator(Browser):
         self.engine.downloads(self.downloads)
 
     def ends(self) -> None:
-        """One tab is left."""
         first, *others = self.driver.window_handles
         self.driver.switch_to.window(first)
         for tab in others:
@@ -268,7 +267,6 @@ class Calculator(Browser):
         return str(found["inventory"])
 
     def kept_serials(self) -> list[str]:
-        """The bonds that the browser keeps."""
         return [line.split(",")[0] for line in self.inventory().splitlines()[1:]]
 
     def is_ticked(self) -> bool:

@@ -4,6 +4,7 @@ import json
 import random
 import subprocess
 import tempfile
+import tomllib
 from concurrent.futures import ThreadPoolExecutor
 from pathlib import Path
 from typing import Iterable, Iterator, NamedTuple
@@ -20,7 +21,6 @@ Rates = dict[int, tuple[int, int]]
 Bond = tuple[str, int, int, int, int | None]
 #: The name of a file, its bytes, and what the program says of it.
 Case = tuple[str, bytes, str]
-
 PUBLISHED = TOP / "crates/published_values/data"
 SHIPPED = (TOP / "samples/rates.csv").read_bytes()
 #: The rate periods that the page ships, and the issue months from 2005-05 on that they cover.
@@ -91,7 +91,6 @@ def inventory_file(bonds: Iterable[Bond], dice: random.Random | None = None) -> 
 
 
 # ---- files with each fault
-
 GOOD = b"L1EE,50,2010-11,7,\n"
 SERIALS = [b"", b"L1", b"L0EE", b"l1EE", b"L1ee", b"LEE", b"L--1EE", b"L12345678901EE", b" L1EE"]
 SERIALS += [b"L00000000000EE", b"L1EE ", b"11EE", b"L1-2EE", b"L1EEE", b"LL1EE", b"\xffL1EE"]
@@ -99,6 +98,7 @@ SERIALS += [b"L\xc2\xb9EE", b"L1EE\x00"]
 DENOMS = b"|25|050|50.00|$50|1,000|1e3|+50| 50|-50|10001".split(b"|")
 MONTHS = b"|2005-04|2100-01|2010-00|2010-13|2010-1|1/2010|10/10|2010/11|11-2010".split(b"|")
 MONTHS += [b"2010-11-01", b"Nov-10", b"20100-1", b"99999-11"]
+SIZES = (1_048_576, 1_048_577)
 OWNERS = b"|0|1000000000|-7|7.0|000000000|seven".split(b"|")
 
 
@@ -111,70 +111,20 @@ def bad_fields() -> Iterator[bytes]:
     yield from (b"L1EE,50,2010-11,7," + coowner for coowner in (b"0", b"x", b" 8", b"0000000008"))
 
 
-#: Each refusal of the reader and of the register, and spellings that are read all the same.
-INVENTORIES: dict[str, bytes] = {
-    **{f"field {n}": INVENTORY + GOOD + line + b"\n" for n, line in enumerate(bad_fields())},
-    "left fault first": INVENTORY + b"x,x,x,x,x\n",
-    "first row first": INVENTORY + GOOD + b"x,50,2010-11,7,\nL2EE,50\n",
-    "no byte": b"",
-    "header alone": INVENTORY,
-    "empty lines": b"\n\r\n\r\r\n" + INVENTORY + b"\n\n" + GOOD + b"\r\r",
-    "other header": b"serial,denom,issued,owner\n" + GOOD,
-    "header in capitals": INVENTORY.upper() + GOOD,
-    "header with spaces": b"serial, denom, issued, owner, coowner\n" + GOOD,
-    "header in quotes": b'"serial","denom",issued,owner,"coowner"\n' + GOOD,
-    "a header of six": b"serial,denom,issued,owner,coowner,x\n" + GOOD,
-    "byte order mark": b"\xef\xbb\xbf" + INVENTORY + GOOD,
-    "two byte order marks": b"\xef\xbb\xbf\xef\xbb\xbf" + INVENTORY + GOOD,
-    "half a byte order mark": b"\xef\xbb" + INVENTORY + GOOD,
-    "four fields": INVENTORY + b"L1EE,50,2010-11,7\n",
-    "six fields": INVENTORY + b"L1EE,50,2010-11,7,,\n",
-    "cut": INVENTORY + GOOD + b"M3EE,10000,2011-02",
-    "a space as a line": INVENTORY + GOOD + b" \n",
-    "quotes as a line": INVENTORY + GOOD + b'""\n',
-    "an open quote": INVENTORY + b'"L1EE,50,2010-11,7,\n',
-    "a quote inside": INVENTORY + b'L"1EE,50,2010-11,7,\n',
-    "bytes after a quote": INVENTORY + b'"L1"EE,50,"2010"-11,7,\n',
-    "doubled quotes": INVENTORY + b'"L1""EE",50,2010-11,7,\n',
-    "a line end in quotes": INVENTORY + b'"L1EE\n",50,2010-11,7,\n' + GOOD,
-    "carriage returns": (INVENTORY + GOOD).replace(b"\n", b"\r"),
-    "no last line end": INVENTORY + GOOD[:-1],
-    "semicolons": (INVENTORY + GOOD).replace(b",", b";"),
-    "a byte 0": INVENTORY + b"L1EE\x00,50,2010-11,7,\n",
-    "no text in the header": b"serial\xff,denom,issued,owner,coowner\n" + GOOD,
-    "1,048,576 bytes": (INVENTORY + GOOD).ljust(1_048_576, b"\n"),
-    "1,048,577 bytes": (INVENTORY + GOOD).ljust(1_048_577, b"\n"),
-    "1,048,577 bytes and no header": b"x" * 1_048_577,
-    "repeated": INVENTORY + GOOD + b"L-01-EE,75,2010-11,7,\n",
-    "same coowner": INVENTORY + GOOD + b"L2EE,50,2010-11,7,7\n",
-    "no rate": INVENTORY + b"L2EE,50,2021-05,7,\n",
-    "same coowner before no rate": INVENTORY + b"L2EE,50,2099-12,7,\nL3EE,50,2010-11,7,7\n",
-    "most of each": INVENTORY + b"Z9999999999EE,10000,2020-12,999999999,999999998\n",
-}
+FILES = tomllib.loads((TOP / "tests/clients/calculator_files.toml").read_text())
+INVENTORIES = {f"field {n}": INVENTORY + GOOD + one + b"\n" for n, one in enumerate(bad_fields())}
+INVENTORIES |= {name: text.encode("latin-1") for name, text in FILES["inventory"].items()}
+INVENTORIES |= {f"{size:,} bytes": (INVENTORY + GOOD).ljust(size, b"\n") for size in SIZES}
+INVENTORIES["1,048,577 bytes and no header"] = b"x" * 1_048_577
 STARTS = b"|2010|2005-04|2100-05|05-2010|2010-5".split(b"|")
 RATE_FIELDS = b"|20.01|100|3.505|3,50|+3.50|.50|3.|3.5%%|% 3|3 %|3.50 |-0".split(b"|")
-RATE_FILES: dict[str, bytes] = {
-    **{f"rate {n}": RATES + b'2010-05,"' + one + b'"\n' for n, one in enumerate(RATE_FIELDS)},
-    **{
-        f"extended {n}": EXTENDED + b'2010-05,3.40,"' + f + b'"\n'
-        for n, f in enumerate(RATE_FIELDS)
-    },
-    **{f"from {n}": RATES + begins + b",3.50\n" for n, begins in enumerate(STARTS)},
-    "spellings": RATES + b"05/2010,3\n2010-11,3.5\n2011-05,03.50%\n2011-11,0%\n2012-05,20.00\n",
-    "no byte": b"",
-    "header alone": EXTENDED,
-    "other header": b"from,rate,extended\n2010-05,3.50,\n",
-    "two fields under three": EXTENDED + b"2010-05,3.50\n",
-    "three fields under two": RATES + b"2010-05,3.50,\n",
-    "not announced": RATES + b"2010-05,3.50\n2010-06,3.50\n",
-    "conflict": RATES + b"2010-05,3.50\n2010-05,3.40\n",
-    "extension conflict": EXTENDED + b"2010-05,3.50,\n2010-05,3.50,3.40\n",
-    "the same twice": EXTENDED + b"2010-05,3.50,\n2010-05,3.5%,3.50\n",
-    "announcement before conflict": RATES + b"2010-05,3.50\n2010-05,3.40\n2010-06,3.50\n",
-    "500 rows": RATES + b"2010-05,3.50\n" * 500,
-    "501 rows": RATES + b"2010-05,3.50\n" * 501,
-    "1,048,577 bytes": (RATES + b"2010-05,3.50\n").ljust(1_048_577, b"\n"),
-}
+RATE_FILES = {f"rate {n}": RATES + b'2010-05,"' + one + b'"\n' for n, one in enumerate(RATE_FIELDS)}
+LONGER = EXTENDED + b'2010-05,3.40,"'
+RATE_FILES |= {f"extended {n}": LONGER + one + b'"\n' for n, one in enumerate(RATE_FIELDS)}
+RATE_FILES |= {f"from {n}": RATES + begins + b",3.50\n" for n, begins in enumerate(STARTS)}
+RATE_FILES |= {name: text.encode("latin-1") for name, text in FILES["rates"].items()}
+RATE_FILES |= {f"{rows} rows": RATES + b"2010-05,3.50\n" * rows for rows in (500, 501)}
+RATE_FILES["1,048,577 bytes"] = (RATES + b"2010-05,3.50\n").ljust(SIZES[1], b"\n")
 
 
 def damaged(dice: random.Random, content: bytes) -> bytes:
@@ -188,8 +138,6 @@ def damaged(dice: random.Random, content: bytes) -> bytes:
 
 
 # ---- what the program answers
-
-
 class Store:
     """A store of its own in memory, under one name of the program."""
 

@@ -3,29 +3,17 @@
 import datetime
 import random
 import subprocess
+import tomllib
 from pathlib import Path
+from typing import Any
 
 from tests.clients.calculator_data import SHIPPED_MONTHS
+from tests.conftest import TOP
 from tests.shared import exact
 from tests.shared.hostile.spelling import FIRST_MONTH as FIRST
 from tests.shared.hostile.spelling import sheet_month_text as month
 
-MONEY = ["General", "0.00", "#,##0", "$#,##0", "$#,##0.00", '"USD" 0', '0" USD"']
-MONEY += ['_($* #,##0.00_);_($* (#,##0.00);_($* "-"??_);_(@_)', "$#,##0_);($#,##0)"]
-MONEY += ["[$$-409]#,##0.00"]
-DATES = ["mmm-yy", "mmmm yyyy", "mmm yyyy", "m/d/yyyy", "mm/dd/yy", "m/yyyy", "mm/yyyy", "yyyy-mm"]
-DATES += ["yyyy-mm-dd", "yyyy-mm-dd hh:mm:ss", "mmmm d, yyyy", "dddd, mmmm dd, yyyy", "d-mmm-yyyy"]
-DATES += ["d mmmm yyyy", "dd.mm.yyyy", "[$-409]mmm-yy;@", "[$-409]mmmm d, yyyy;@", "m/d/yy h:mm"]
-HEADINGS = {
-    "serial": "Serial|Serial Number|serial no.|Serial #|Bond Serial Number|BOND NUMBER",
-    "denom": "Denom|Denomination|Face Value|face amount|Amount|DENOM ($)|Face|Par Value",
-    "issued": "Issued|Issue Date|Issue month|date of issue|ISSUE DATE|Date|Purchase Date|Bought",
-    "price": "Price|Cost|Purchase Price|Amount Paid|Issue Price",
-    "matures": "Maturity|Matures|Final Maturity|Maturity Date",
-    "series": "Series",
-    "note": "Notes|Where|Comment",
-}
-TOTALS = ("Total", "TOTAL:", "Totals", "Grand Total", "Sum")
+FORMS: dict[str, Any] = tomllib.loads((TOP / "tests/clients/lists.toml").read_text())
 #: The letter with which the serial numbers of each denomination begin, by the Treasury's numbering.
 LETTERS = {50: "L", 75: "K", 100: "C", 200: "R", 500: "D", 1000: "M", 5000: "V", 10000: "X"}
 #: A serial number or "", dollars, and the issue month.
@@ -82,10 +70,10 @@ def random_sheet(dice: random.Random) -> tuple[list[list[Cell]], list[Bond]]:
     columns += [column for column in ("series", "price", "matures") if dice.random() < 0.4]
     dice.shuffle(columns)
     columns += ["note"] if dice.random() < 0.4 else []
-    formats = {"denom": dice.choice(MONEY), "issued": dice.choice(DATES)}
+    formats = {"denom": dice.choice(FORMS["money"]), "issued": dice.choice(FORMS["dates"])}
     rows = [[cell_of(dice, column, bond, formats) for column in columns] for bond in bonds]
     if dice.random() < 0.6:
-        rows.insert(0, [(dice.choice(HEADINGS[one].split("|")), "General") for one in columns])
+        rows.insert(0, [(dice.choice(FORMS["headings"][one]), "General") for one in columns])
         if dice.random() < 0.4:
             title = dice.choice(("Savings bonds", "Bonds of May 2010", "From the safe"))
             rows[:0] = [[(title, "General")], []]
@@ -93,7 +81,7 @@ def random_sheet(dice: random.Random) -> tuple[list[list[Cell]], list[Bond]]:
         cells: list[Cell] = [EMPTY for _ in columns]
         cells[columns.index("denom")] = (sum(bond[1] for bond in bonds), formats["denom"])
         if columns[0] != "denom":
-            cells[0] = (dice.choice(TOTALS), "General")
+            cells[0] = (dice.choice(FORMS["totals"]), "General")
         rows += [[], cells] if dice.random() < 0.5 else [cells]
     return rows, bonds
 

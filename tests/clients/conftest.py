@@ -29,7 +29,6 @@ def bank(program: Path, folder: Path) -> Iterator[Bank]:
 
 @pytest.fixture(params=["chromium", pytest.param("firefox", marks=pytest.mark.slow)])
 def browser(request: pytest.FixtureRequest) -> str:
-    """Each browser by turns."""
     return str(request.param)
 
 

@@ -29,8 +29,6 @@ logging.getLogger("ee_counter_client").addHandler(logging.NullHandler())
 
 
 # ---- controls
-
-
 def controls(**parts: ContextManager[object]) -> pytest.MarkDecorator:
     """Runs a test as it is, and again with each broken part in place: then `holds_not(part)` wants it to fail."""
     names = [name.replace("_", " ") for name in parts]
@@ -57,8 +55,6 @@ def within(most: float, least: float = 0.0) -> Iterator[None]:
 
 
 # ---- a desk at the fake counter
-
-
 class Desk:
     """A folder, a fake counter in which a day is open and customer 7 has bonds of 50 dollars, and a gate before it."""
 
@@ -94,8 +90,6 @@ class Desk:
 
 
 # ---- the true counter
-
-
 class TrueCounter:
     """The program over a new store; `kill` kills it, and it is started again."""
 
@@ -123,8 +117,6 @@ class TrueCounter:
 
 
 # ---- other programs
-
-
 @contextlib.contextmanager
 def listening(serve: Serving) -> Iterator[int]:
     """A server that isn't a counter: `serve` is called with each connection, in a thread of its own. Yields its port."""
@@ -175,7 +167,6 @@ def ran(*words: object, **more: Any) -> tuple[int, str, str]:
 
 
 def command(*words: object, **more: Any) -> tuple[int, str, str]:
-    """The client's command."""
     return ran(sys.executable, "-W", "error", "-B", TOP / "clients/counter.py", *words, **more)
 
 

@@ -84,7 +84,6 @@ def resolved(api: Api, part: dict[str, Any]) -> dict[str, Any]:
 
 
 def examples_of(api: Api) -> Iterator[Example]:
-    """Each example of an answer."""
     for path, item in api["paths"].items():
         for operation in item.values():
             sent = {}

@@ -165,7 +165,6 @@ def differing(calc: Calculator, first: str, second: str) -> None:
 
 @variants(no_more_than_a_file=script("), Infinity))", ")))"))
 def test_many(calc: Calculator, changes: Changes) -> None:
-    """50,000 bonds are kept."""
     calc.serve(changes)
     calc.run(SCRIPTS["many_pasted"])
     is_read = lambda: "Add these 50,000" in calc.texts("#paste-add")[0]
@@ -201,8 +200,6 @@ def test_full(calc: Calculator, changes: Changes) -> None:
 
 
 ASKED = "return !window.dispatchEvent(new Event('beforeunload', { cancelable: true }))"
-
-
 STOP = "stop(TEXTS.keep_ended)"
 
 

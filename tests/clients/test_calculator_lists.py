@@ -11,7 +11,6 @@ from tests.clients.scripts import scripts
 
 pytestmark = NEEDS
 SCRIPTS = scripts("calculator_scripts.js")
-
 LIST = """Serial\tDenomination\tIssued
 L1EE\t50\t05/2010
 L2EE\t60\t05/2010

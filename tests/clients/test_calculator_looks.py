@@ -22,7 +22,6 @@ BONDS = """C1204415EE,100,2006-03,7, C1204416EE,100,2006-03,7, K20488EE,75,2010-
 L77031EE,50,2010-11,7, L77032EE,50,2010-11,7,8 D9910EE,500,2005-05,7, D9911EE,500,2007-12,7,
 M801EE,1000,2011-08,7, R802EE,200,2011-11,7, V4400127EE,5000,2009-06,7, X300519EE,10000,2011-02,7,"""
 FILE = INVENTORY + "".join(f"{line}\n" for line in BONDS.split()).encode()
-
 DETAILS = "for (const one of document.querySelectorAll('details')) one.open = true"
 LONG = "Serial\tDenom\tIssued\tOwner\tCoowner\nW9999999999EE\t10000\tSeptember 2010\t999999999\t999999998\nC1EE\t50\t5/2010\t7\t\n"
 SHORT = "W9999999999EE\t10000\tSeptember 2010\nC1EE\t50\t5/2010\n"
@@ -146,7 +145,6 @@ def test_dialogs(calc: Calculator, changes: Changes) -> None:
 
 
 def paper(calc: Calculator) -> list[str]:
-    """The printed pages as texts."""
     path = calc.folder / "page.pdf"
     path.write_bytes(calc.engine.pdf(colored=True))
     words = ["pdftotext", "-layout", str(path), "-"]

@@ -253,8 +253,6 @@ def units() -> dict[tuple[str, str], int]:
 
 
 ABOVE = "const top = (one) => one.getBoundingClientRect().top; const [first, ...others] = document.querySelectorAll('main > section'); return first.id === 'one' && others.every((one) => !one.checkVisibility() || top(one) > top(first)) && document.querySelector('#one-words').getBoundingClientRect().bottom < innerHeight;"
-
-
 ON_INPUT = 'addEventListener("input", showOne)'
 
 
@@ -290,8 +288,6 @@ def test_value_at_once(calc: Calculator, changes: Changes) -> None:
 
 
 SUMS = "return Object.fromEntries([...document.querySelectorAll('#sums dt')].map((one) => [one.textContent, one.nextSibling.textContent]));"
-
-
 YEAR = "Math.floor(state.month / 12)"
 
 

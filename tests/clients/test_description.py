@@ -16,13 +16,11 @@ from tests.fence.conftest import Counter, MakeSite, counter, site
 from tests.fence.site import CLIENT, Answer, Site
 
 __all__ = ["counter", "site"]
-
 DESCRIPTION = json.loads((TOP / "docs/openapi.json").read_text())
 CALL = Path(__file__).parent / "description_parts/call.pl"
 DAY = {"day": "2012-02-06"}
 #: A number that 32 bits don't hold.
 NUMBER = 5_000_000_000
-
 needs_client = pytest.mark.needs(
     "perl", "file:/usr/share/perl5/OpenAPI/Client.pm", "file:/usr/share/perl5/IO/Socket/SSL.pm"
 )

@@ -54,7 +54,6 @@ class Desk(threading.Thread):
 
 
 def busy(nginx: Front) -> int:
-    """How many requests nginx answered 429."""
     lines = (nginx.folder / "log/access.log").read_text().splitlines()
     return sum('" 429 ' in line for line in lines)
 

@@ -83,7 +83,6 @@ def test_a_day(bank: Bank, new_page: NewPage) -> None:
 
 
 # ---- which days
-
 ONCE, TWICE = "Open the day", "Continue"
 
 
@@ -190,7 +189,6 @@ def test_wrong_year(bank: Bank, new_page: NewPage) -> None:
 
 
 # ---- who may
-
 #: The buttons in the order of the page, each with whether it is a main one.
 DAY_BUTTONS = "return [...document.querySelectorAll('#day button')].filter((one) => one.checkVisibility()).map((one) => [one.textContent, !one.classList.contains('plain')])"
 
@@ -233,8 +231,6 @@ def test_supervisors_acts(bank: Bank, new_page: NewPage) -> None:
 
 
 # ---- which sums
-
-
 def test_sums_of_day(bank: Bank, page: Page) -> None:
     """The day's sums of this desk and of all desks; a ticket that another desk pays while the question is open."""
     bank.registers_many(60, 12)

@@ -23,8 +23,6 @@ ONE_TICKET = "SELECT count(*) FROM tickets"
 
 
 # ---- days of faults
-
-
 def interrupted(
     bank: Bank, page: Page, fault: str, reloads: bool, act: Callable[[], object], shown: str
 ) -> None:
@@ -142,7 +140,6 @@ def test_silent_counter(bank: Bank, new_page: NewPage) -> None:
 
 
 # ---- an answer to one sending
-
 NO_CERTIFICATE = "This browser sent no certificate of the staff, or it was revoked or has run out."
 NOTHING = "This says nothing about the earlier attempts."
 RESENT = {
@@ -204,7 +201,6 @@ def test_first_sendings(bank: Bank, page: Page) -> None:
 
 
 # ---- a connection that breaks
-
 #: Connections are kept, and repeats of a POST passed on.
 KEPT = {**RATE, "keepalive_timeout 0": "keepalive_timeout 60s"}
 REPEATED = {**KEPT, "limit_req zone=sendings;": ""}
@@ -253,8 +249,6 @@ def test_repeats_passed_on_are_found(bank: Bank, new_page: NewPage) -> None:
 
 
 # ---- certificates
-
-
 def test_revoked_while_paying(bank: Bank, page: Page, new_page: NewPage) -> None:
     """The user's certificate is revoked while a teller works: the page says so, and keeps the request and what was typed. With another certificate it is paid, once."""
     page.waits_for(f"Teller {USER}", "#user")
@@ -283,8 +277,6 @@ def test_revoked_while_paying(bank: Bank, page: Page, new_page: NewPage) -> None
 
 
 # ---- look-ups
-
-
 def held(event: threading.Event, text: bytes) -> bytes:
     """An answer that waits for an event, which has to come."""
     assert event.wait(60)

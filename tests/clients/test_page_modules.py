@@ -31,7 +31,6 @@ def in_node(script: str, *given: object) -> Any:
 
 
 # ---- words
-
 REFUSALS = tomllib.loads((TOP / "tests/documents/refusals.toml").read_text())["refusal"]
 NAMES = {
     "refused": {row["code"]: name for name, row in REFUSALS.items()},
@@ -116,26 +115,10 @@ def test_entries() -> None:
     assert found == [None] * 6 + [ENTRY] * 2
 
 
-#: What an amount is in words, by hand.
-AMOUNTS = {
-    0: "Zero dollars and 00/100",
-    5: "Zero dollars and 05/100",
-    100: "One dollar and 00/100",
-    2516: "Twenty-five dollars and 16/100",
-    10000: "One hundred dollars and 00/100",
-    11300: "One hundred thirteen dollars and 00/100",
-    506207: "Five thousand sixty-two dollars and 07/100",
-    1000001: "Ten thousand dollars and 01/100",
-    99999999: "Nine hundred ninety-nine thousand nine hundred ninety-nine dollars and 99/100",
-    100000000: "One million dollars and 00/100",
-    1234567890: "Twelve million three hundred forty-five thousand six hundred seventy-eight dollars and 90/100",
-}
-
-
 def test_amounts_and_times() -> None:
     words = "return given[0].map((cents) => page.amountInWords(BigInt(cents)));"
-    found = in_node(words, [*AMOUNTS])
-    assert dict(zip(AMOUNTS, found)) == AMOUNTS
+    amounts = tomllib.loads((TOP / "tests/clients/page.toml").read_text())["amounts"]
+    assert dict(zip(amounts, in_node(words, [*amounts]))) == amounts
     times = ("12:05 AM", "9:30 AM", "12:00 PM", "11:59 PM")
     wanted = [*(f"February 6, 2012, {time}" for time in times), "December 31, 2012"]
     assert in_node(SCRIPTS["times"]) == wanted
@@ -150,7 +133,6 @@ def test_rows_of_sheets() -> None:
 
 
 # ---- doubts
-
 #: The letters of paper bonds of Series EE, by their denominations.
 LETTERS = {"L": 50, "K": 75, "C": 100, "R": 200, "D": 500, "M": 1000, "V": 5000, "X": 10000}
 DOUBTS = "return given[0].map((bonds) => page.doubtsOf(bonds.map(([serial, denom, issued]) => ({ serial, denom: String(denom), issued }))));"
@@ -189,8 +171,6 @@ def dated(changelog: str) -> str:
 
 
 # ---- sheets
-
-
 def test_sheets(bank: Bank) -> None:
     """Sheets of the true counter are read; with a byte less, a byte twice, cut, or other money they are none."""
     bank.begin([7])

@@ -30,7 +30,6 @@ LACKS = "Without denominations, issue months, prices and interest"
 
 
 def sheets(page: Page, paper: str = "Letter", to: Path | None = None, name: str = "") -> list[str]:
-    """The texts of a print's sheets."""
     path = page.profile / "printed.pdf"
     path.write_bytes(page.engine.pdf(*PAPERS[paper]))
     if to is not None:
@@ -59,8 +58,6 @@ def has_heads(found: list[str], title: str) -> None:
 
 
 # ---- tickets
-
-
 def test_hundred_bonds(bank: Bank, page: Page, pictures: Path | None) -> None:
     """A ticket of 100 bonds, then its copy; the total once, heads and pages on each sheet."""
     bank.registers_many(60, 100)
@@ -143,7 +140,6 @@ def test_batch(bank: Bank, page: Page, pictures: Path | None) -> None:
 
 
 # ---- receipts
-
 SERIES = "United States Savings Bonds, Series EE"
 
 
@@ -251,7 +247,6 @@ def test_receipt_unknown(bank: Bank, page: Page, pictures: Path | None) -> None:
 
 
 # ---- interest
-
 HEAD = "Day,Ticket,Payee,Serial number,Denomination,Issue month,Price,Interest,Value"
 #: By hand, from docs/FIRST_DAY.md: the price is half of the denomination, and the interest is the value less the price.
 FIRST = (
@@ -350,8 +345,6 @@ def test_interest_of_a_long_span(bank: Bank, page: Page, pictures: Path | None) 
 
 
 # ---- records that are deleted
-
-
 def kept(page: Page) -> list[int]:
     return [one["ticket"] for one in page.receipts()]
 

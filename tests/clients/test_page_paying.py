@@ -16,9 +16,7 @@ SCRIPTS = scripts("page_scripts.js")
 L, K, M = VALUES["L"], VALUES["K"], VALUES["M"]
 ROW = "return document.querySelector(`[data-serial='${arguments[0]}']`).closest('tr').innerText"
 
-
 # ---- double clicks
-
 #: Windows in pixels of the screen, and zooms. A window that is zoomed in has fewer pixels of the page.
 WINDOWS = (
     *((1920, 1080), (1440, 900), (1366, 768), (1280, 1024), (1024, 768), (820, 1180)),
@@ -104,8 +102,6 @@ def test_an_unguarded_double_click_is_found(bank: Bank, new_page: NewPage) -> No
 
 
 # ---- sums
-
-
 def test_changed_month(bank: Bank, page: Page) -> None:
     """A sheet of February, then a day in August: nothing of February's sum can be confirmed."""
     page.chooses(7, "L7EE", "K7EE")
@@ -207,8 +203,6 @@ def test_selected_all(bank: Bank, page: Page) -> None:
 
 
 # ---- paid meanwhile
-
-
 def test_paid_meanwhile(bank: Bank, page: Page) -> None:
     """A bond that another desk paid: the row says so, can't be chosen, and isn't counted."""
     page.chooses(7, "K7EE")
@@ -238,8 +232,6 @@ def test_paid_meanwhile(bank: Bank, page: Page) -> None:
 
 
 # ---- the next customer
-
-
 def awaited(bank: Bank, page: Page) -> None:
     """Pays; the reply is lost, and no later sending gets through while there are faults."""
     bank.gate.faults = ["lost answer", *["lost request"] * 20]
@@ -277,8 +269,6 @@ def test_next_customer(bank: Bank, page: Page) -> None:
 
 
 # ---- doubts
-
-
 def test_doubts_asked(bank: Bank, new_page: NewPage) -> None:
     """Before a payment: Back sends nothing, and a bond that fits isn't asked about."""
     bank.begin([7], day="2013-06-03")
@@ -359,8 +349,6 @@ def test_right_day_and_sum(bank: Bank, new_page: NewPage) -> None:
 
 
 # ---- refusals of the true counter
-
-
 def refused(page: Page, words: str, code: int) -> None:
     page.refuses(words, f"code {code}. Nothing was changed.")
 
@@ -425,8 +413,6 @@ def test_refused_payments(bank: Bank, page: Page) -> None:
 
 
 # ---- the keyboard alone
-
-
 def test_keyboard_alone(bank: Bank, new_page: NewPage) -> None:
     """A whole payment with Tab, Space, Enter and typing; no pointer."""
     bank.begin([7])

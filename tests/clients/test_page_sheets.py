@@ -1,6 +1,7 @@
 """The bonds in a teller's hand, and their sheet: one field takes serial numbers, typed or scanned; the way to Pay by the keyboard; long sheets, which stop nothing; the filter; what is heard."""
 
 import os
+import tomllib
 from typing import Callable
 
 import pytest
@@ -8,6 +9,7 @@ import pytest
 from tests.browser.bank import DAY, TOO_YOUNG, Bank
 from tests.clients.conftest import NewPage
 from tests.clients.scripts import scripts
+from tests.conftest import TOP
 
 pytest.importorskip("selenium")
 from tests.browser.browser import Keys
@@ -21,8 +23,6 @@ SCANNED = ("L{}EE", "l{}ee", "L {} EE", "L-{}-EE", "L{:010}EE")
 
 
 # ---- in hand
-
-
 def test_sixty_scanned(bank: Bank, new_page: NewPage) -> None:
     """Sixty bonds by the scanner, and the rest by the keyboard alone in under 60 keystrokes."""
     bank.begin([])
@@ -135,7 +135,6 @@ def test_headings_seen(bank: Bank, page: Page) -> None:
 
 
 # ---- long sheets
-
 #: Nothing may stop the page longer than this, in milliseconds, on a machine whose processors have nothing else to do.
 LIMIT = 200
 IS_WRITTEN = "return document.querySelector('table.sheet')?.ariaBusy === 'false' && document.querySelector('table.sheet').caption.textContent.includes(arguments[0])"
@@ -255,22 +254,6 @@ def test_sheet_of_five_thousand(bank: Bank, page: Page, new_page: NewPage) -> No
 
 
 # ---- the filter
-
-#: What is typed, and which bonds of customer 7 are left.
-FILTERS = {
-    "l7": ["L7EE"],
-    "S-0-": [],
-    "l 0007 ee": ["L7EE"],
-    "$75": ["K7EE"],
-    "10,000": ["M7EE"],
-    "11/2010": ["L7EE"],
-    "2010": ["K7EE", "L7EE"],
-    "2010-10": ["K7EE"],
-    "nov": ["L7EE"],
-    "September 500": ["N7EE"],
-    "2010 50": ["L7EE"],
-    " ": ["K7EE", "L7EE", "M7EE", "N7EE"],
-}
 SHOWN = "return [...document.querySelectorAll('#sheet tbody th')].map((one) => one.textContent)"
 
 
@@ -280,7 +263,8 @@ def test_filtered(bank: Bank, page: Page) -> None:
     page.go("pay")
     assert not page.is_shown("#filter"), "without a sheet there is none"
     page.show_sheet(7)
-    for typed, wanted in FILTERS.items():
+    filters = tomllib.loads((TOP / "tests/clients/page.toml").read_text())["filters"]
+    for typed, wanted in filters.items():
         page.type("#filter", typed)
         assert page.run(SHOWN) == wanted, typed
     page.type("#filter", "L7")

@@ -14,7 +14,6 @@ SCRIPTS = scripts("page_scripts.js")
 L, K = VALUES["L"], VALUES["K"]
 
 # ---- writings that fail
-
 QUOTA = "This browser has no room left for the journal of this page."
 UNWRITTEN = "This browser couldn't write the journal of this page."
 
@@ -113,7 +112,6 @@ def test_changes_at_once(new_page: NewPage) -> None:
 
 
 # ---- storage that isn't kept
-
 FORGETS = "This browser may forget an open payment"
 PUT = "IDBObjectStore.prototype.put = function () { throw new DOMException('no', '%s'); };"
 #: A browser whose storage isn't kept, or works otherwise than it should, by a script that runs before the page's own; and what the page says beside the bonds.
@@ -163,8 +161,6 @@ def test_storage_unkept(bank: Bank, new_page: NewPage) -> None:
 
 
 # ---- files
-
-
 def loads(bank: Bank) -> int:
     """How often the browser asked for the page itself."""
     log = (bank.nginx.folder / "log/access.log").read_text()

@@ -110,7 +110,6 @@ def test_sixty_walk_ins(bank: Bank, page: Page) -> None:
 
 
 # ---- what goes wrong between
-
 FAULTS = ("lost answer", "killed after", "failed after", "lost request", "other page")
 #: The first pause doesn't end, so the page is loaded again in the middle of it.
 HELD = "const real = window.setTimeout; window.setTimeout = (act, wait, ...more) => (wait === 500 ? 0 : real(act, wait, ...more));"
@@ -176,8 +175,6 @@ def test_walk_in_once(bank: Bank, page: Page) -> None:
 
 
 # ---- refusals
-
-
 def confirm(page: Page) -> None:
     page.press("#walkin-button")
     page.asks()
@@ -217,7 +214,6 @@ def test_walk_in_refused(bank: Bank, page: Page) -> None:
 
 
 # ---- who may
-
 BARRED = "This user may not both register and pay bonds: ask a user who may."
 
 
@@ -259,7 +255,6 @@ def test_walk_in_of_unknown_groups(bank: Bank, new_page: NewPage) -> None:
 
 
 # ---- typing
-
 #: Genuine paper that this counter can't pay: a serial number, an issue month, and what the page says.
 EARLIER_PAPER = "This counter can't pay a bond that was issued before May 2005"
 OTHER_PAPER = "If the paper isn't of Series EE, this counter can't pay it"

@@ -20,7 +20,6 @@ NO_WORDS = r"\b(?:[A-Z]\d+EE|P5|NE|NI|MA|nora|First Bank of Testing|Main Street|
 
 
 def outside(text: str) -> re.Match[str] | None:
-    """A word outside of the brackets."""
     while (shorter := re.sub("\u27e6[^\u27e6\u27e7]*\u27e7", "", text)) != text:
         text = shorter
     return re.search(r"[A-Za-z]{2,}", re.sub(NO_WORDS, "", text))

@@ -24,8 +24,6 @@ from tests.fence.site import Site
 
 __all__ = ["counter", "site"]
 Part = ContextManager[object] | None
-
-
 COMMANDS = [one[:3] for one in (*ACTS, *LOOK_UPS)]
 
 
@@ -165,76 +163,14 @@ def through(site: Site, gate: Gate, folder: Path) -> None:
     assert run("ticket", "3")[0] == 1, "it was paid once"
 
 
-#: Rates of 0.00 % for each May and November, since the fake's values are those of such rates.
-STARTS = [f"{year}-{month}" for year in range(2005, 2013) for month in ("05", "11")]
-RATES = [{"from": start, "rate": "0.00"} for start in STARTS]
-#: The method, the path and the body of a message.
-Message = tuple[str, str, str | None]
+#: The method, the path and the body of each message to both, in an order in which each refusal of the fake comes about. Rates are 0.00 %, since the fake's values are those of such rates.
+MESSAGES = (TOP / "tests/clients/messages.jsonl").read_text().splitlines()
 
 
-def bond(serial: str, issued: str, denom: int = 50, owner: int = 7, **more: Any) -> dict[str, Any]:
-    return {"serial": serial, "denom": denom, "issued": issued, "owner": owner, **more}
-
-
-BONDS = [
-    *(bond("L1EE", "2010-11"), bond("K-002-EE", "10/2010", 75, coowner=8)),
-    *(bond("M3EE", "2005-06", 10000), bond("N4EE", "2011-09"), bond("O5EE", "2012-05")),
-    bond("L10EE", "2007-02", 200),
-]
-ACTS_SENT: list[tuple[str, dict[str, Any]]] = [
-    *(("/rates", {"rates": rates}) for rates in (RATES, RATES[1:])),
-    ("/rates", {"rates": RATES[:2] + [{"from": "2013-05", "rate": "0", "extension": "0.00%"}]}),
-    *(("/rates", {"rates": [{"from": month, "rate": "1.00"}]}) for month in ("2010-06", "2010-05")),
-    *(("/bonds", {"bonds": bonds}) for bonds in (BONDS, BONDS[:2], [BONDS[0], BONDS[0]], [])),
-    ("/bonds", {"bonds": [bond("P6EE", "2010-11", coowner=7)]}),
-    ("/bonds", {"bonds": [bond("L1EE", "2010-11", owner=9)]}),
-    ("/redeem", {"day": DAY, "payee": 7, "serials": ["L1EE"]}),
-    *((path, {"day": day}) for path, day in (("/day/close", DAY), ("/day/open", DAY))),
-    *((path, {"day": "2012-02-07"}) for path in ("/day/open", "/day/close")),
-    *(
-        ("/redeem", {"day": DAY, "payee": payee, "serials": serials})
-        for payee, serials in (
-            *((7, ["L1EE", "L-1-EE"]), (7, ["Z9EE"]), (8, ["L1EE"]), (7, ["O5EE"]), (7, ["N4EE"])),
-            *((7, []), (7, [f"A{n}EE" for n in range(1, 102)]), (7, ["M3EE", "L1EE"])),
-            *((8, ["K2EE"]), (7, ["L1EE"])),
-        )
-    ),
-]
-BODIES = ["", "{", "[]", '{"number":0}', '{"desk":1000,"number":1}']
-MISFITS: list[dict[str, Any]] = [{"day": "2012-02-30"}, {"day": DAY, "payee": "7"}]
-MISFITS += [{"day": DAY, "payee": 7, "serials": ["L1"]}]
-MISFITS += [{"day": DAY, "payee": 7, "serials": ["L1EE"], "teller": 3}]
-BODIES += [json.dumps({"number": 90, **fields}) for fields in MISFITS]
-MONTHS = ["2012-02", "2005-01", "2012-05", "2026-12", "2035-07", "2041-01"]
-PATHS = [f"/{what}/{month}" for what in ("inventory/7", "value/500/2006-03") for month in MONTHS]
-PATHS += [f"/ticket/{number}" for number in ("1", "2", "3", "0", "x")]
-PATHS += ["/batch/2012-02-06", "/batch/2012-2-6", "/inventory/0/2012-02", "/inventory/7/2012"]
-PATHS += ["/value/51/2010-11/2012-02", "/value/50/2005-04/2012-02", "/else", "/redeem"]
-
-
-def messages() -> Iterator[Message]:
-    """What is sent to both, in an order in which each refusal of the fake comes about."""
-
-    def post(number: int, path: str, fields: dict[str, Any]) -> Message:
-        return "POST", path, json.dumps({"desk": 3, "number": number, **fields})
-
-    yield post(1, *ACTS_SENT[0])
-    for number, act in enumerate(ACTS_SENT, 1):
-        yield post(number, *act)
-    yield post(len(ACTS_SENT), "/redeem", {"day": DAY, "payee": 7, "serials": ["M3EE", "L1EE"]})
-    yield from (("GET", path, None) for path in PATHS)
-    yield "POST", "/ticket/1", "{}"
-    yield from (("POST", "/redeem", body) for body in BODIES)
-    for number, path in enumerate(("/day/close", "/day/open"), 100):
-        yield post(number, path, {"day": DAY})
-    for path in (f"/batch/{DAY}", "/inventory/7/2012-02"):
-        yield "GET", path, None
-
-
-def answer(port: int, message: Message) -> tuple[int, str | None, str]:
-    """The status, the type and the text."""
+def answer(port: int, message: list[Any]) -> tuple[int, str | None, str]:
     connection = http.client.HTTPConnection("127.0.0.1", port, timeout=60)
-    connection.request(*message, {"Connection": "close"})
+    method, path, body = message
+    connection.request(method, path, body, {"Connection": "close"})
     response = connection.getresponse()
     found = response.status, response.getheader("Content-Type"), response.read().decode()
     connection.close()
@@ -251,7 +187,7 @@ def test_fake_counter(true: TrueCounter, part: Part) -> None:
     """The fake counter and the program give the same bytes; each refusal has its class, with what it names."""
     codes = set()
     with FakeCounter() as fake, holds_not(part):
-        for message in messages():
+        for message in map(json.loads, MESSAGES):
             found = answer(true.port, message)
             assert answer(fake.port, message) == found, message
             if found[0] != 200:
@@ -291,7 +227,6 @@ def test_values_and_refusals_of_a_test(desk: Desk) -> None:
 
 
 # ---- names that a user guesses
-
 #: What takes the seconds of a call.
 TIMED: dict[str, Callable[..., Any]] = {
     "Counter": lambda folder, **more: client.Counter(folder / "a.journal", desk=3, **more),
@@ -384,7 +319,7 @@ def test_examples_end_with_0(shell: Desk) -> None:
     for name, line in lines:
         if name in ("finish", "abandon"):
             shell.gate.faults = ["lost request"] * 99
-            more = ["--journal", "desk3.journal", "--timeout", "0.2"]
+            more = ["--journal", "desk3.journal", "--timeout", "1"]
             left = ["--at", shell.gate.address, *more, "redeem", "2012-02-06", "7", "X3EE"]
             assert in_shell(shell, *left)[0] == 3
             shell.gate.faults = []

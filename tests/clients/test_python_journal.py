@@ -25,8 +25,6 @@ from tests.clients.desk import DAY, Desk, controls, holds_not, within
 from tests.clients.interruptions import Failing, Interrupt, moments_of
 
 Part = ContextManager[object] | None
-
-
 #: Locks that keep nobody out.
 LOCKLESS = types.SimpleNamespace(RLock=mock.MagicMock)
 

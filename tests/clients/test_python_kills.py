@@ -236,8 +236,7 @@ def test_killed_pool(true: TrueCounter, gate: Gate, folder: Path, dice: random.R
 def test_random_kills(
     true: TrueCounter, gate: Gate, folder: Path, dice: random.Random, kills: int
 ) -> None:
-    """A client goes through days; it and the counter are killed at random, and messages harmed. Every act was done once, in its order, with the reply that the client was given
-    and that the rules give."""
+    """Client and counter are killed at random, and messages harmed: each act is done once."""
     begin(true.address, folder)
     line = [sys.executable, "-m", "tests.clients.worker", str(folder), gate.address]
     faults = [fault for fault in AFTER + BEFORE if fault not in ("silent", "dripping")]

@@ -175,8 +175,6 @@ with FakeCounter() as fake, Gate(fake) as gate, Counter("a.journal", gate.addres
 async def pay(counter: AsyncCounter) -> int:
     return (await counter.redeem("2012-02-06", 7, ["L1EE"], key="a", bookmark=[1])).number
 """
-
-
 USES = [("", ""), ("total: Decimal", "total: float"), ("refusal.ticket", "refusal.tickets")]
 USES += [("certificate=", "certificat="), ("patience=60", 'patience="60"'), ('key="a"', 'keys="a"')]
 USES += [("list(KEYS)", text) for text in ('"L1EE"', "KEYS", "frozenset(KEYS)")]

@@ -62,8 +62,6 @@ CALLS: dict[str, Callable[[client.Counter, Any], object]] = {
 #: Arguments that are no junk in these places.
 GOOD: dict[str, list[Any]] = {"a reason": ["x" * 300, "\0", "\x1b[2J\r", "caf\u00e9"]}
 GOOD["a ticket"] = [10**30]
-
-
 LOOSE = mock.patch.multiple(counter_module, serial_of=str.upper, bond_of=lambda bond: bond)
 
 

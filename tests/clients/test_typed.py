@@ -16,33 +16,12 @@ from tests.conftest import TOP
 TABLE: dict[str, dict[str, list[str]]] = tomllib.loads(
     (TOP / "tests/clients/typed.toml").read_text()
 )
+LISTS, WRONG = TABLE.pop("lists"), TABLE.pop("wrong")
 #: Every kind with a text, and what it is read as.
 ROWS = [
     (kind, text, found) for kind, texts in TABLE.items() for found in texts for text in texts[found]
 ]
 REFUSED = ("series", "early", "unclear", "none")
-LISTS = {
-    "S1EE S2EE S3EE": ["S1EE", "S2EE", "S3EE"],
-    "s1ee,s2ee;s3ee": ["S1EE", "S2EE", "S3EE"],
-    "S1EES2EES3EE": ["S1EE", "S2EE", "S3EE"],
-    "S 1 EE, S-2-EE ;S3EE,": ["S1EE", "S2EE", "S3EE"],
-    "S1EE\tS2EE": ["S1EE", "S2EE"],
-    "S1 s2,S3": ["S1EE", "S2EE", "S3EE"],
-    "R 123,456,791 R 5": ["R123456791EE", "R5EE"],
-    "S 1; 12EE S2": ["S1EE", None, "S2EE"],
-    "XS1EE": [None],
-    "": [],
-    " ,": [None],
-}
-#: A line of typed.js, and what stands there in a wrong one.
-WRONG = {
-    "a serial number needs its EE": ('series === "" || ', ""),
-    "a bond of another series is none": ("/^(?:E|F|G|H|HH|I|J|K)$/", "/^$/"),
-    "a year of two digits is of this century": ("FIRST_SERIES_E = 41", "FIRST_SERIES_E = 100"),
-    "the day may be any": ("!== 1) return refused", "< 1) return refused"),
-    "a month before May 2005 is none": ('refused("early")', 'refused("none")'),
-    "a comma is left out anywhere": ("(?:[, ][0-9]{3})+", "(?:[, ]?[0-9])+"),
-}
 pytestmark = pytest.mark.needs("node")
 
 

@@ -17,7 +17,7 @@ export async function calculator() {
 
 export async function lists() {
     const { serialsIn, readSerial } = await import(`${top}/teller/typed.js`);
-    return rows.map((text) => serialsIn(text).map(readSerial));
+    return rows.map((text) => serialsIn(text).map((one) => readSerial(one) ?? ""));
 }
 
 console.log(JSON.stringify(await { page, calculator, lists }[reader]()));

@@ -18,7 +18,6 @@ TERMS = {"L": {"denom": 50, "issued": "2010-11"}, "K": {"denom": 75, "issued": "
 
 
 def act_at(place: int) -> tuple[str, dict[str, Any]]:
-    """The path and the fields of an act."""
     turn, step = divmod(place, ACTS)
     day: dict[str, Any] = {"day": (FIRST_DAY + datetime.timedelta(days=turn)).isoformat()}
     serials = [f"{'LK'[at % 2]}{turn * BONDS + at + 1}EE" for at in range(BONDS)]

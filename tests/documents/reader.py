@@ -38,8 +38,7 @@ LIBRARY = Path(os.environ.get("EE_VALUE_LIBRARY", TOP / "clients/value/out/libee
 
 @dataclass
 class Block:
-    """What stands between two lines of three backticks, with the kind and the words of the
-    comment before it."""
+    """What stands between two lines of three backticks, and the comment before it."""
 
     line: int
     lines: list[str]
@@ -114,8 +113,7 @@ def has_networks() -> bool:
 
 
 class Shell:
-    """A bash in a folder, which is given one command after another, in a network of its own if
-    that can be had."""
+    """A bash in a folder for one command after another, in a network of its own if that can be had."""
 
     def __init__(self, folder: Path) -> None:
         words = ["bash", "--noprofile", "--norc"]

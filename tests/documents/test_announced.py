@@ -62,7 +62,6 @@ def texts() -> Iterator[tuple[str, str]]:
 
 
 def of_month(text: str) -> str:
-    """A month, as YYYY-MM."""
     return f"{text[3:]}-{text[:2]}" if "/" in text else f"{text[:4]}-{text[-2:]}"
 
 
@@ -76,7 +75,6 @@ def announced_for(month: str) -> str | None:
 
 
 def doubts(found: dict[str, str | None], text: str) -> Iterator[str]:
-    """What isn't so of a rate or a bond."""
     month = of_month(found["month"] or "")
     rate, serial, denom = (found.get(key) for key in ("rate", "serial", "denom"))
     if found.get("hundredths"):

@@ -182,8 +182,7 @@ def fill_a_day(port: int) -> None:
 
 
 def without_memory(program: Path, store: Path, step: Step) -> bytes:
-    """The answer of a process whose memory ends while it reads what the message asks for, which
-    is tried."""
+    """The answer of a process whose memory ends while it reads the message, which is tried."""
     for more in range(0, 64 << 20, 256 << 10):
         port = free_port()
         server = serve(program, store, port)

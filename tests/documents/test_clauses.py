@@ -64,8 +64,7 @@ def test_edit(top: Path, edit: dict[str, Any]) -> None:
 
 
 def test_moves(top: Path) -> None:
-    """Files that are moved to another crate with their definitions change nothing; a clause on
-    the way does."""
+    """Files that move to another crate with their definitions change nothing; a clause does."""
     for old, new in MOVED.items():
         git(top, "mv", f"crates/{old}", f"crates/{new}")
     for file in (top / "crates").glob("*/specs/*.antt"):

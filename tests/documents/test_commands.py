@@ -101,7 +101,6 @@ def written(folder: Path, text: str) -> Path:
 
 @pytest.mark.parametrize("fault", FAULTS)
 def test_fault_of_a_document_is_found(program: Path, folder: Path, fault: str) -> None:
-    """Control: a document with one fault."""
     text, said = FAULTS[fault]
     with pytest.raises((AssertionError, OSError), match=re.escape(said)):
         run_document(written(folder, text), folder / "copy", program)

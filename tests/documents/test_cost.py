@@ -89,8 +89,7 @@ def test_parts(gate: Gate) -> None:
 
 
 def test_tests_of_the_program(gate: Gate) -> None:
-    """What .ci/tests starts belongs to the tests. Without a check the status is 2, and the page
-    is as it was."""
+    """What .ci/tests starts belongs to the tests. Without a check the page is as it was."""
     status, said = gate.cost(FIRST, name=".ci/tests")
     assert status == 2 and "the tests over the built program" in said and not cells_of(said, "one ")
     assert gate.page.read_text() == PAGE

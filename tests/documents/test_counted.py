@@ -5,6 +5,7 @@ With WRITE=1 the table of alerts of docs/WATCHING.md is written anew first."""
 import os
 import re
 import subprocess
+import tomllib
 from collections.abc import Callable
 
 import pytest
@@ -50,31 +51,9 @@ def functions(of: str) -> str:
     return str(len(only("docs/ASSUMPTIONS.md", listed).split()))
 
 
-NEWEST = r"\A(?:(?!## ).*\n)*## ([\d.]+)\n"
-OF_STORE = r"\A(?:(?!## ).*\n)*## [\d.]+\n\n(?:.*\n)*?.*store has version (\d+)"
-#: A page, the pattern of a number in it, and the number's name in THERE.
-FACTS = [
-    ("docs/WATCHING.md", r"for the (\d+) alerts", "alerts"),
-    ("docs/CLAIMS.md", r"of (\d+) kinds of damage", "kinds"),
-    ("tests/samples/parts/damage.toml", r"the (\d+) kinds of damage", "kinds"),
-    ("docs/VERSIONS.md", r"^\| the program \| ([\d.]+) \|", "program"),
-    ("docs/VERSIONS.md", r"^\| the store \| (\d+) \|", "store"),
-    ("docs/VERSIONS.md", r"^\| the library of values \| ([\d.]+) \|", "library"),
-    ("docs/VERSIONS.md", r"^\| the Python client \| ([\d.]+) \|", "client"),
-    ("docs/VERSIONS.md", r"^\| messages \| ([\d.]+) \|", "messages"),
-    ("README.md", r"\*\*Status\.\*\* Version ([\d.]+)", "program"),
-    ("CHANGELOG.md", NEWEST, "program"),
-    ("CHANGELOG.md", OF_STORE, "store"),
-    ("packaging/debian/changelog", r"\Aladwenpik \(([\d.]+)-", "program"),
-    ("docs/LIBRARY.md", r"`ee_value-([\d.]+)-py3-none-manylinux_2_5", "library"),
-    ("docs/PYTHON_CLIENT.md", r"ee_counter_client-([\d.]+)-py3", "client"),
-    ("docs/ASSUMPTIONS.md", r"^- (\d+) of the \d+ that `libc` declares", "libc"),
-    ("docs/ASSUMPTIONS.md", r"^- (\d+) of the \d+ that `os` declares", "os"),
-    ("docs/ASSUMPTIONS.md", r"contracts of (\d+) functions that C defines", "both"),
-]
-
-
-@pytest.mark.parametrize("path, pattern, what", FACTS)
+@pytest.mark.parametrize(
+    "path, pattern, what", tomllib.loads(text("tests/documents/facts.toml"))["facts"]
+)
 def test_fact(path: str, pattern: str, what: str) -> None:
     """A line may end at every space. Control: the number one higher is another one."""
     pattern, page, wanted = pattern.replace(" ", r"\s+"), text(path), THERE[what]()

@@ -134,8 +134,7 @@ def test_without_the_toolchain(case: Case) -> None:
 
 
 def test_value_first(case: Case) -> None:
-    """A value comes from the small program; any other line waits for the whole one, which then
-    has values too."""
+    """A value comes from the small program; any other line waits for the whole one."""
     status, out, err = case.call(VALUE)
     assert (status, out) == answer(SMALL, VALUE), err
     calls = case.calls()
@@ -164,8 +163,7 @@ def test_other_words_first(case: Case) -> None:
 
 
 def test_sources_that_change_meanwhile(built: Case) -> None:
-    """A source that changes while it is proved is proved again; one that is written as it was
-    isn't."""
+    """A source that changes while it is proved is proved again; one written as it was isn't."""
     time.sleep(0.1)
     built.write("ee_units", "first")
     assert built.call("sheet")[:2] == answer(WHOLE, "sheet") and not built.calls()
@@ -229,8 +227,7 @@ def test_stopped(case: Case, number: int, wanted: int) -> None:
 
 
 def test_calls_at_once(case: Case) -> None:
-    """Two of three calls say that they wait; all have their answers, and each crate is proved
-    once."""
+    """Two of three calls say that they wait; all are answered, and each crate is proved once."""
     calls = [case.begin_held("sheet"), case.begin(VALUE), case.begin("sheet")]
     until(lambda: all("waiting for it" in call.said() for call in calls[1:]), "", PATIENCE)
     case.go()
@@ -242,8 +239,7 @@ def test_calls_at_once(case: Case) -> None:
 
 @pytest.mark.needs("strace")
 def test_a_usual_call_starts_one_process(built: Case) -> None:
-    """bash, find, and the program, which is a script here. The toolchain, whose call takes long,
-    isn't asked."""
+    """bash, find, and the program, which is a script here. The toolchain isn't asked."""
 
     def programs() -> list[str]:
         trace = built.top / "trace"
@@ -290,8 +286,7 @@ def test_through_a_link_and_from_another_folder(built: Case) -> None:
 
 @pytest.mark.root
 def test_another_user_may_run_it(built: Case) -> None:
-    """One who may not write beside the program: a source that is newer and the same is no reason
-    to fail."""
+    """One who may not write beside the program: a newer source that is the same is no fault."""
     run("chmod", "-R", "a+rX", built.top)
     built.source("ee_cli").touch()
     user = ("setpriv", "--reuid=65534", "--clear-groups")

@@ -4,22 +4,14 @@ this one, a few tests, and a toolchain that is played."""
 import shutil
 import subprocess
 import sys
+import tomllib
 from pathlib import Path
 
 import pytest
 
 from tests.conftest import TOP
-from tests.samples.books import script
 from tests.shared.counter_calls import run
 
-RT = """#!/bin/sh
-mkdir -p crates/ee_cli/out
-[ -n "$NO_PROGRAM" ] || ln -sf /bin/true crates/ee_cli/out/ee_cli
-echo "words: $*"
-echo 'rt: ee_cli proved'
-echo "3 passed, ${FAILED:-0} failed"
-[ -z "$FAILED" ]
-"""
 TESTS = '''"""Tests."""
 
 import os
@@ -57,7 +49,7 @@ class Gate:
         for name in ("lemmas", "one_opening"):
             (top / ".ci" / name).write_text("#!/bin/sh\n")
         self.tools.mkdir()
-        script(self.tools / "rt", RT)
+        shutil.copy(TOP / "tests/documents/gate_rt", self.tools / "rt")
         (top / "tests").mkdir()
         (top / "tests/test_some.py").write_text(TESTS)
         subprocess.run(["git", "-C", top, "init", "-q"], check=True)
@@ -135,18 +127,7 @@ def test_from_nothing(gate: Gate) -> None:
     assert gate.run("ee_io")[0] == 2, "control: the name of a crate is no gate"
 
 
-#: What is wrong: a file, its text, a part of what is said, and the tool that finds it.
-STOPS = {
-    "a script can't start": ("samples/it", "#!/bin/sh\nif\n", "samples/it", "sh"),
-    "no Python": ("samples/it.py", "import os os\n", "samples/it.py: invalid syntax", "sh"),
-    "wrong type": ("it.py", "def f() -> int:\n    return 'a'\n", "it.py:2: error", "mypy"),
-    "no types": ("it.py", "def f(words):\n    return words\n", "it.py:1: error", "mypy"),
-    "format": ("it.py", "a=1\n", "would reformat", "black"),
-    "unused name": ("it.py", "import wave\n", "'wave' imported but unused", "pyflakes3"),
-    "split word": ("it", "#!/bin/sh\ncat $1\n", "SC2086", "shellcheck"),
-    "no module": ("clients/teller/it.js", "import { a b } from 'c';\n", "it.js", "node"),
-    "a page's type": ("clients/teller/it.js", 'export const a = "".b;\n', "it.js(1,", "tsc node"),
-}
+STOPS = tomllib.loads((TOP / "tests/documents/stops.toml").read_text())
 SLOW = ("wrong type", "no types")
 NAMES = [pytest.param(name, marks=[pytest.mark.slow] * (name in SLOW)) for name in STOPS]
 

@@ -1,36 +1,32 @@
 """The sheet for the window prints on two sides, and its PDF is the page's."""
 
 import re
-import subprocess
 import sys
 from pathlib import Path
 
 import pytest
 
 from tests.conftest import TOP
+from tests.shared.counter_calls import run
 
 PAGE = TOP / "docs" / "AT_THE_WINDOW.md"
 PDF = PAGE.with_suffix(".pdf")
-
 pytestmark = pytest.mark.needs("pdftotext", "module:weasyprint", "module:markdown")
 
 
 def printed(page: Path, pdf: Path) -> list[str]:
-    """The texts of the sides of a page's PDF."""
-    subprocess.run([sys.executable, TOP / "packaging/printed", page, pdf], check=True)
+    assert run(sys.executable, TOP / "packaging/printed", page, pdf).returncode == 0
     return sides(pdf)
 
 
 def sides(pdf: Path) -> list[str]:
-    text = subprocess.run(["pdftotext", "-layout", pdf, "-"], stdout=subprocess.PIPE, check=True)
-    return text.stdout.decode().split("\f")[:-1]
+    return run("pdftotext", "-layout", pdf, "-").stdout.split("\f")[:-1]
 
 
-def pictures(pdf: Path) -> list[str]:
+def pictures(pdf: Path) -> list[list[str]]:
     """The widths, heights and sizes of the pictures of a PDF."""
-    listed = subprocess.run(["pdfimages", "-list", pdf], stdout=subprocess.PIPE, check=True)
-    cells = [line.split() for line in listed.stdout.decode().splitlines()[2:]]
-    return [" ".join(line[3:5] + line[-2:-1]) for line in cells]
+    cells = [line.split() for line in run("pdfimages", "-list", pdf).stdout.splitlines()[2:]]
+    return [line[3:5] + line[-2:-1] for line in cells]
 
 
 def other_page(folder: Path, text: str) -> Path:

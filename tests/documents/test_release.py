@@ -121,8 +121,7 @@ def test_a_file_that_is_not_committed_stops_it(owner: Owner) -> None:
 @pytest.mark.machine
 @pytest.mark.slow
 def test_a_fresh_debian_takes_it(owner: Owner) -> None:
-    """By the commands of docs/INSTALL.md, with the owner's public key and a clone at the tag.
-    Control: a byte more."""
+    """By the commands of docs/INSTALL.md, with the owner's public key. Control: a byte more."""
     root = Path(bootstrap(str(owner.folder / "debian"), included="gpg,gpg-agent,python3,git"))
     assert owner.release("release")[0] == 0
     place = root / "root/release"

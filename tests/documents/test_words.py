@@ -22,8 +22,7 @@ ROOMS = "docs samples packaging clients include crates tests .ci benchmarks".spl
 
 
 def prose_of(name: str, text: str) -> str:
-    """The sentences of a file: all of a document, and the comments of code. A line break is a
-    space."""
+    """The sentences of a document, or the comments of code. A line break is a space."""
     ending = os.path.splitext(name)[1]
     if ending not in PROSE:
         flags = re.M | re.S if ending == ".c" else re.M

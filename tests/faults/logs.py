@@ -135,8 +135,6 @@ def is_refused(file: bytes, log: Log) -> bool:
 
 
 # ---- logs by hand
-
-
 @dataclass
 class Transaction:
     """The pages that a transaction writes, by their numbers, and the size of the database at its end."""
@@ -179,7 +177,6 @@ def turned(content: bytes, at: int, bits: int = 1) -> bytes:
 
 
 # ---- what a disk does to a log
-
 #: The log, where its last transaction ends, what the same file held before, and dice.
 Harm = Callable[[bytes, int, bytes, random.Random], bytes]
 

@@ -66,8 +66,7 @@ class Run:
             yield at, device, answers_in(said)
 
     def images(self, dice: random.Random, most: int) -> Iterator[tuple[disk.Image, int]]:
-        """Images, and how many answers were said: those that are always tried, and others by
-        chance."""
+        """Images, and how many answers were said: those always tried, and others by chance."""
         more: list[tuple[disk.Image, int]] = []
         for _, device, answered in self.points():
             sure, others = device.images(dice)
@@ -78,7 +77,6 @@ class Run:
 
 
 def answers_in(said: bytes) -> int:
-    """How many whole answers begin a text."""
     count = at = 0
     while (end := said.find(b"\r\n\r\n", at) + 4) > 3:
         at = end + int(said[at:end].split(b"Content-Length: ")[1].split(b"\r\n")[0])
@@ -99,8 +97,7 @@ def lay(path: str, image: disk.Image) -> None:
 
 
 def try_image(run: Run, image: disk.Image, answered: int, by_clashes: bool) -> None:
-    """The next command shows books that may stand, and refuses other acts; then the stream
-    again."""
+    """The next command shows books that may stand, and refuses other acts; then all again."""
     path = run.program.place(f"image{os.getpid()}")
     lay(path, image)
     many = judging.distinct(run.allowed(answered))

@@ -74,8 +74,7 @@ def place(program: Path) -> Iterator[Place]:
 
 
 class Killed:
-    """The files of a server that was killed after its last answer, and its log at an earlier moment;
-    the answers that it kept, and its files once it was opened and closed."""
+    """A killed server's files, its log at an earlier moment, and what it kept once opened."""
 
     def __init__(self, place: Place, store: Path, redemptions: int, earlier: int) -> None:
         serials = [f"A{n}EE" for n in range(1, redemptions + 1)]
@@ -99,8 +98,7 @@ class Killed:
         self.closed = contents(place.store)
 
     def harmed(self, kind: str, dice: random.Random) -> bytes:
-        """The log, harmed where its transactions are. A sector that was written once has no other
-        older bytes."""
+        """The log, harmed where its transactions are and where older bytes are others."""
         while (new := HARMS[kind](self.content, self.log.end(), self.older, dice)) == self.content:
             pass
         return new
@@ -120,8 +118,6 @@ def young(place: Place) -> Iterator[Killed]:
 
 
 # ---- harm
-
-
 @pytest.mark.parametrize("kind", HARMS)
 def test_harm_is_found(kind: str, place: Place, killed: Killed, dice: random.Random) -> None:
     lost = []
@@ -181,8 +177,6 @@ def test_a_turned_first_byte_is_unseen(place: Place, killed: Killed) -> None:
 
 
 # ---- what stops leave
-
-
 @pytest.mark.parametrize("way", ["cut", "half in zeros", "few zeros"])
 def test_torn_end_is_opened(way: str, place: Place, killed: Killed, dice: random.Random) -> None:
     """The last transaction, torn: its bytes are 0 or new, or the file ends inside it."""
@@ -203,8 +197,7 @@ def test_torn_end_is_opened(way: str, place: Place, killed: Killed, dice: random
 
 
 def test_stop_in_a_large_transaction_is_opened(place: Place) -> None:
-    """A migration spills 2,000 pages at a time behind a gate that is shut, each time with a frame
-    that ends a transaction: two of them are no damage."""
+    """A migration spills pages behind a shut gate, each time with a frame that ends a transaction."""
     place.lay(b"", None).unlink()
     make_version_one(place.store, 100_000, 60_000)
     begun, log = place.store.read_bytes(), place.log
@@ -220,8 +213,6 @@ def test_stop_in_a_large_transaction_is_opened(place: Place) -> None:
 
 
 # ---- logs by hand
-
-
 def single(file: bytes, size: int, at: int) -> Transaction:
     return Transaction([(at, file[(at - 1) * size : at * size])], len(file) // size)
 
@@ -302,8 +293,6 @@ def test_logs_by_hand(place: Place, killed: Killed) -> None:
 
 
 # ---- the file is gone
-
-
 def test_log_of_a_missing_file_is_refused(place: Place, killed: Killed) -> None:
     store = place.lay(killed.file, killed.content)
     moved = store.rename(f"{store}.moved")
@@ -353,8 +342,6 @@ def test_logs_by_hand_beside_an_empty_file(place: Place, killed: Killed) -> None
 
 
 # ---- other stores and programs
-
-
 def test_store_without_checksums(place: Place) -> None:
     """Pages in the log of a store of an earlier version have none, and are taken."""
     place.lay(b"", None).unlink()

@@ -131,7 +131,6 @@ def counter(readable: Path, folder: Path) -> Iterator[Counter]:
 
 
 def fresh(counter: Counter) -> Counter:
-    """The same program in an empty folder."""
     for path in counter.folder.iterdir():
         if path.is_dir() and not path.is_symlink():
             path.chmod(0o777)
@@ -248,7 +247,6 @@ def test_messages(counter: Counter, row: list[Any]) -> None:
 
 
 def on_terminal(counter: Counter, line: str, given: bytes = b"") -> str:
-    """What a terminal shows of a line."""
     child, terminal = pty.fork()
     if child == 0:
         os.chdir(counter.folder)

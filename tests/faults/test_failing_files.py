@@ -77,8 +77,7 @@ def test_failing_calls(hostile: Program, scenes: dict[str, Scene], name: str, ki
 
 @pytest.mark.parametrize("kind", [kind for kind in FAILS if kind != "own" or os.geteuid() == 0])
 def test_every_kind_is_met(hostile: Program, scenes: dict[str, Scene], kind: str) -> None:
-    """Control: calls of all kinds fail over a new store or one with a log. Root alone gives
-    files away."""
+    """Control: calls of all kinds fail. Root alone gives files away."""
     assert any(series(hostile, scenes[name], kind, every=200) for name in ("new", "with a log"))
 
 

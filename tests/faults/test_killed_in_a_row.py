@@ -47,7 +47,6 @@ def commands(numbers: tuple[int, ...] = NUMBERS) -> list[Command]:
 
 
 def begin(program: Path, folder: Path, beginning: str) -> None:
-    """What a folder first holds."""
     (folder / "rates.csv").write_text(RATES)
     (folder / "bonds.csv").write_text(BONDS)
     if beginning == "version 1":
@@ -89,7 +88,6 @@ class Bench:
         assert self.content[0] == [("ok",)]
 
     def case(self, at: int) -> Path:
-        """A folder as it is before a command."""
         shutil.rmtree(self.place / "case", ignore_errors=True)
         return Path(shutil.copytree(self.before[at], self.place / "case"))
 

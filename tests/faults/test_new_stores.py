@@ -21,8 +21,6 @@ Ran = tuple[int, str, str]
 
 
 class Counter:
-    """The program over stores in a folder."""
-
     def __init__(self, program: Path, folder: Path) -> None:
         self.program, self.folder = program, folder
 
@@ -32,7 +30,6 @@ class Counter:
         return ran.returncode, ran.stdout.decode(), ran.stderr.decode()
 
     def enter(self, store: Path) -> None:
-        """Imports the rates and bonds."""
         for number, (kind, text) in enumerate({"rates": RATES, "inventory": BONDS}.items(), 1):
             (self.folder / kind).write_text(text)
             ran = self.run(f"import {kind} {kind} --db {store} --number {number}")

@@ -69,8 +69,7 @@ class Case:
         self.superblocks = found if TORN else []
 
     def cut(self) -> int:
-        """A place anywhere, after a response, while the store is created, or after a torn
-        superblock."""
+        """A place anywhere, after a response, in a store's creation, or after a torn superblock."""
         turn = self.dice.random()
         if self.superblocks and self.dice.random() < 0.3:
             return self.dice.choice(self.superblocks)
@@ -121,8 +120,7 @@ class Case:
         judging.shows_books([last], self.rows(), "after the same requests again")
 
     def lose_again(self, image: str, keys: set[str], acknowledged: int) -> tuple[str, set[str]]:
-        """Power is lost while an image is mounted and opened. Once a command has shown books,
-        just those may stand."""
+        """Power is lost while an image is opened. Once books were shown, just those may stand."""
         volumes.copy(image, image + ".served")
         disk = recorder.Recorder(self.folder, image + ".served")
         try:

@@ -61,8 +61,7 @@ def asked_of(program: Program, scene: Scene) -> int:
 
 @pytest.mark.parametrize("name", [*CONNECTIONS, *FILES])
 def test_program(hostile: Program, scenes: Scenes, name: str, dice: random.Random) -> None:
-    """One request is refused, or all from one on, or a pair; and one more than there are, which
-    none meets."""
+    """One request is refused, all from one on, or a pair; one more than there are meets none."""
     scene, asked = scenes[name], asked_of(hostile, scenes[name])
     chosen = sorted(dice.sample(range(1, asked + 1), min(asked, 4 * CHOSEN)))
     assert all(meets(hostile, scene, f"{at} 1", 1) for at in chosen)

@@ -175,8 +175,7 @@ def test_words(hostile: Program) -> None:
 
 
 def test_large_stores(hostile: Program) -> None:
-    """A store of version 1 with many bonds and replies, which is migrated, and the same
-    afterwards."""
+    """A store of version 1 with many bonds and replies, which is migrated, and afterwards."""
     first, second = hostile.place("first"), hostile.place("second")
     make_version_one(first, BONDS, REPLIES)
     store.copy(first, second)

@@ -28,8 +28,6 @@ MESSAGE = b"GET /value/50/2010-11/2012-02 HTTP/1.1\r\n\r\n"
 
 @dataclass(frozen=True)
 class Ran:
-    """How a line ended."""
-
     status: int
     printed: bytes
     said: str
@@ -108,8 +106,6 @@ def words_of(line: str) -> list[str | bytes]:
 
 
 # ---- paths that give no file
-
-
 def closed_folder(it: Counter) -> None:
     it.path("closed").mkdir()
     (it.path("closed") / "rates.csv").write_bytes(RATES)
@@ -172,7 +168,6 @@ PATHS = [
 ]
 
 # ---- stores that aren't opened, under each command that opens one
-
 SYSTEM = "look at the path, and at who may use the file and its folder"
 NO_PATH, BARRED = f"{MISSING}; {SYSTEM}", f"{DENIED}; {SYSTEM}"
 IN_USE = "another process uses it; send requests to that process, or end it first"
@@ -268,7 +263,6 @@ def both(*makes: Make) -> Make:
 
 
 def beside(name: str, content: bytes) -> Make:
-    """A store, and another file beside it."""
     return both(Counter.store, has(name, content))
 
 
@@ -330,9 +324,8 @@ for version in (0, 3):
     make = changed(f"UPDATE desk SET version = {version}")
     STORES.append(store(f"of version {version}", VERSION, make, fault="WrongVersion"))
 
+
 # ---- disks, which only root can mount
-
-
 @contextmanager
 def disk(it: Counter, options: str) -> Iterator[Path]:
     """A file system of its own at `disk`."""
@@ -366,9 +359,8 @@ DISKS = [
     store("too little room for its log", FAILED, at="disk/day.db", during=full),
 ]
 
+
 # ---- ports and streams
-
-
 @contextmanager
 def taken(it: Counter) -> Iterator[Streams]:
     with socket.create_server(("127.0.0.1", TAKEN)):
@@ -456,7 +448,6 @@ if LOWEST.exists() and int(LOWEST.read_text()) > 80:
     STREAMS.append(Use("a port of root's", (line,), IO, f"port 80: permission denied; {PORT}"))
 
 # ---- a disk that fails during a command, by the library of tests/shared/hostile
-
 MORE = "import rates more.csv --db day.db --number 3"
 TWO = (MORE, "export 7 --db day.db")
 ROOM = "no space left on the disk; make room, and run the line again"

@@ -72,8 +72,7 @@ def refusal(dollars: int, issued: int, month: int, rate: int, extension: int) ->
 
 
 def row(dollars: int, issued: int, month: int, rate: int, extension: int) -> Row:
-    """Return the fields of the row: what is payable, price, interest, value, status, note, next
-    accrual and final maturity."""
+    """Return payable, price, interest, value, status, note, next accrual and final maturity."""
     status = refusal(dollars, issued, month, rate, extension)
     if status:
         return (0, 0, 0, 0, status, 0, 0, 0)

@@ -26,8 +26,7 @@ def next_flush(steps: list[Step], cut: int) -> int:
 
 
 def superblock_writes(base: str, steps: list[Step], begin: int, end: int) -> list[int]:
-    """The places after each write of the superblock that changes more than one of its sectors,
-    so that a tear may break it."""
+    """The places after each write of the superblock that a tear may break."""
     with open(base, "rb") as file:
         file.seek(begin)
         last = file.read(end - begin)
@@ -52,15 +51,13 @@ def units(step: Step, whole: Range) -> Iterator[Range]:
 
 
 class Image:
-    """A file that gets what a disk holds, and a checksum of which steps it got. What lies in the
-    range `whole` isn't torn."""
+    """A file that gets what a disk holds, and a checksum of which steps it got."""
 
     def __init__(self, base: str, path: str, whole: Range) -> None:
         volumes.copy(base, path)
         self.file, self.sum, self.whole = os.open(path, os.O_RDWR), 0, whole
 
     def put(self, step: Step, begin: int, end: int) -> None:
-        """Do a range of a step."""
         if step.kind == FLUSH or begin >= end:
             return
         if step.kind == WRITE:
@@ -108,8 +105,7 @@ def write_image(
     whole: Range,
     ignores_flushes: bool = False,
 ) -> int:
-    """Write what the disk may hold if power is lost before the step at a cut. The result tells
-    images apart."""
+    """Write what the disk may hold if power is lost at a cut. The result tells images apart."""
     image = Image(base, path, whole)
     sure = 0 if ignores_flushes else last_flush(steps, cut)
     try:

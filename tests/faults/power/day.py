@@ -129,8 +129,7 @@ class Neighbour:
 
 
 class Played:
-    """The requests and their responses, how much was recorded when each was sent and when its
-    response had come, and the books after each by the rules."""
+    """The requests and their responses, how much was recorded at each, and the books after each."""
 
     def __init__(
         self, messages: list[bytes], answers: list[bytes], sent: list[int], came: list[int]
@@ -152,8 +151,7 @@ class Played:
         return sum(place <= cut for place in self.came)
 
     def allowed(self, cut: int) -> set[str]:
-        """The books that may stand at a cut: all acknowledged requests are in them, and none
-        that wasn't sent."""
+        """The books that may stand at a cut: after all acknowledged requests, and none unsent."""
         acknowledged, sent = self.acknowledged(cut), sum(place < cut for place in self.sent)
         return set(self.chain[acknowledged : max(acknowledged, sent) + 1])
 

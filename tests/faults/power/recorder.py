@@ -34,7 +34,6 @@ class Step:
 
 
 def read_record(path: str) -> list[Step]:
-    """The steps of a record."""
     with open(path, "rb") as file:
         text = file.read()
     steps: list[Step] = []
@@ -58,7 +57,6 @@ class Server:
             self.disk = mmap.mmap(file.fileno(), self.size)
 
     def serve(self) -> None:
-        """Answer until the file is unmounted."""
         while True:
             try:
                 asked = os.read(self.device, MOST_BYTES + 4096)
@@ -133,7 +131,6 @@ class Recorder:
         os.close(device)
 
     def serve(self, device: int, image: str) -> NoReturn:
-        """Be the server, to its end."""
         try:
             libc.prctl(DIES_WITH_PARENT, signal.SIGKILL)
             for kind in (signal.SIGINT, signal.SIGTERM):
@@ -144,12 +141,10 @@ class Recorder:
             os._exit(0)
 
     def position(self) -> int:
-        """How many steps are recorded by now."""
         count: int = struct.unpack_from("=Q", self.count)[0]
         return count
 
     def stop(self) -> list[Step]:
-        """Unmount the disk, and read the steps."""
         volumes.patiently("umount", self.file)
         os.waitpid(self.server, 0)
         return read_record(self.record)

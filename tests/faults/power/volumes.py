@@ -49,7 +49,6 @@ def done(*words: str) -> str:
 
 
 def make(kind: str, image: str) -> None:
-    """Create a file system in a new file."""
     megabytes, words = MAKERS[kind]
     with open(image, "wb") as file:
         file.truncate(megabytes << 20)
@@ -77,14 +76,12 @@ def next_data(file: int, at: int) -> int:
 
 
 def punch(file: int, at: int, size: int) -> None:
-    """Set a range of a file to zeros."""
     if libc.fallocate(file, PUNCH_HOLE | KEEP_SIZE, at, size) != 0:
         raise OSError(ctypes.get_errno(), "fallocate")
 
 
 def patiently(*words: str) -> str:
-    """Repeat a command until it succeeds: a probe of new devices may have them open for a
-    moment."""
+    """Repeat a command until it succeeds: a probe of new devices may have them open."""
     until = time.time() + SECONDS
     while (ended := command(*words))[0]:
         if time.time() > until:
@@ -94,8 +91,7 @@ def patiently(*words: str) -> str:
 
 
 class Mounted:
-    """An image that is mounted over a loop device, for a `with`. If the kernel refuses it, it is
-    repaired first."""
+    """An image that is mounted over a loop device, for a `with`, and repaired if that is refused."""
 
     def __init__(self, kind: str, image: str, folder: str, options: str) -> None:
         self.kind, self.image, self.folder = kind, image, folder
@@ -123,8 +119,7 @@ class Mounted:
         self.detach()
 
     def detach(self) -> None:
-        """Detach the loop device. btrfs remembers a device by the file system's name, and would
-        refuse an older image of it elsewhere."""
+        """Detach the loop device. btrfs would refuse an older image of a device that it knows."""
         if self.kind == "btrfs":
             command("btrfs", "device", "scan", "--forget", self.device)
         patiently("losetup", "--detach", self.device)

@@ -20,7 +20,6 @@ def fault_answer(code: int, closes: bool, field: str | None = None) -> bytes:
 
 
 def shown(books: desk.Books, asked: tuple[Any, ...], closes: bool) -> bytes:
-    """The answer to a query."""
     found = getattr(books, "ask_" + asked[0])(*asked[1:])
     if asked[0] == "inventory":
         return talk.answer(200, found.encode(), closes, "text/plain")

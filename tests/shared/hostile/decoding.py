@@ -1,5 +1,6 @@
 """What a message asks for, or its first fault, by the rules of docs/FORMATS.md, 'Requests': the
 route, the method, the body field by field."""
+import functools
 from typing import Any, Callable, Sequence, TypeVar
 
 from . import framing, json_text, spelling
@@ -7,7 +8,6 @@ from . import framing, json_text, spelling
 T = TypeVar("T")
 #: The members of a JSON object.
 Members = dict[str, Any]
-
 POSTS = ("/rates", "/bonds", "/day/open", "/day/close", "/redeem")
 GETS: dict[str, tuple[tuple[str, Callable[[str], object]], ...]] = {
     "inventory": (("customer", spelling.customer), ("month", spelling.month)),
@@ -31,16 +31,9 @@ def in_range(value: object, first: int, last: int) -> int | None:
     return value if type(value) is int and first <= value <= last else None
 
 
-def number(value: object) -> int | None:
-    return in_range(value, 1, spelling.LAST_NUMBER)
-
-
-def desk(value: object) -> int | None:
-    return in_range(value, 0, 999)
-
-
-def customer(value: object) -> int | None:
-    return in_range(value, 1, 999_999_999)
+number = functools.partial(in_range, first=1, last=spelling.LAST_NUMBER)
+desk = functools.partial(in_range, first=0, last=999)
+customer = functools.partial(in_range, first=1, last=999_999_999)
 
 
 def denomination(value: object) -> int | None:
@@ -101,10 +94,7 @@ def bond_row(value: object) -> tuple[spelling.Serial, int, int, int, int | None]
 
 
 def serial_row(value: object) -> spelling.Serial:
-    found = text(spelling.serial)(value)
-    if found is None:
-        raise bad("serials")
-    return found
+    return field({"serials": value}, "serials", text(spelling.serial))
 
 
 def act_in(path: str, members: Members) -> tuple[tuple[Any, ...], tuple[str, ...]]:
@@ -144,8 +134,7 @@ def asked(name: str, parts: Sequence[str]) -> tuple[Any, ...]:
 
 
 def call(message: framing.Message) -> tuple[Any, ...]:
-    """Of a request ("act", its desk and number, the act); of a query its name and parts. A Fault
-    is raised where it asks for neither."""
+    """A request is ("act", its desk and number, the act), a query its name and parts."""
     path = message.target.decode("utf-8")
     if path in POSTS:
         if message.method != b"POST":

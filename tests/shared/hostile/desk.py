@@ -167,7 +167,6 @@ class Books:
         return [ticket for ticket in self.tickets if ticket["day"] == self.day]
 
     def payment(self, serial: Serial, payee: int) -> int:
-        """What a bond pays on the open day."""
         named = {"serial": serial_text(serial)}
         if serial not in self.bonds:
             raise Refused(50, **named)

@@ -92,8 +92,7 @@ class File:
         return self.shown
 
     def outcome(self, takes: Iterable[Take]) -> bytes:
-        """The content where each step since the sync is taken so: a function that changes a
-        content by a step."""
+        """The content where each step since the sync is taken by its function."""
         content = bytearray(self.synced or b"")
         for step, take in zip(self.steps, takes):
             take(content, step)
@@ -119,8 +118,7 @@ def mixed(dice: random.Random, old: bytes | bytearray, new: bytes, unit: int) ->
 
 
 def torn_mixed(dice: random.Random, unit: int) -> Take:
-    """Of each unit of bytes of a write, old or new is there; where the file ended before, zeros
-    may be."""
+    """Of each unit of a write, old or new is there; past the end, zeros may be."""
 
     def take(content: bytearray, step: Step) -> None:
         length = len(content)
@@ -148,8 +146,7 @@ def torn_garbage(dice: random.Random, synced_length: int) -> Take:
 
 
 def subsets(count: int, most: int) -> Iterator[list[bool]]:
-    """Each choice of so many steps where there are at most `most`, and else of the last ones,
-    with the earlier ones taken or not."""
+    """Each choice of the last steps, `most` of them, with the earlier ones taken or not."""
     free = min(count, most)
     for mask in range(2**free):
         chosen = [bool(mask >> place & 1) for place in range(free)]
@@ -189,8 +186,7 @@ class Disk:
         return found
 
     def subset_images(self) -> Iterator[Image]:
-        """Each subset of the last few steps of each file, beside the other file with all or
-        nothing."""
+        """Each subset of a file's last steps, beside the other file with all or nothing."""
         for on, file in self.files.items():
             if not file.steps:
                 continue
@@ -211,8 +207,7 @@ class Disk:
         yield torn_garbage(dice, len(file.synced or b""))
 
     def torn_images(self, dice: random.Random) -> Iterator[Image]:
-        """The last step of each file torn, after all or some of the steps before it, beside the
-        other file with all or nothing."""
+        """The last step of each file torn, beside the other file with all or nothing."""
         for on, file in self.files.items():
             if not file.steps:
                 continue

@@ -31,8 +31,7 @@ def is_text(target: bytes) -> bool:
 
 
 def line_at(stream: bytes, at: int, begun: int) -> tuple[bytes, int]:
-    """The line from a place on, without its end, and the place after it. Whether a head that
-    began at `begun` has none is the code of the fault."""
+    """The line from a place on, and the place after it, in a head that began at `begun`."""
     end = stream.find(b"\n", at, begun + MOST_HEAD)
     if end < 0:
         raise Fault(61 if len(stream) - begun >= MOST_HEAD else 68)
@@ -91,8 +90,7 @@ def message_at(stream: bytes, begun: int) -> tuple[Message, int]:
 
 
 def split(stream: bytes) -> tuple[list[Message], int | None]:
-    """The messages of a stream, as far as a connection takes them, and the code of the fault
-    that ends it, or None."""
+    """The messages of a stream that a connection takes, and the fault that ends it, or None."""
     messages: list[Message] = []
     at = 0
     while at < len(stream) and len(messages) < MOST_MESSAGES:

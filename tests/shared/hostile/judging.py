@@ -18,8 +18,7 @@ class Wrong(AssertionError):
 
 @dataclasses.dataclass
 class Heard:
-    """What the answers of a run leave open: the books that may stand, how many messages were
-    answered, and how many of these weren't served."""
+    """What answers leave open: the books that may stand, and how many weren't served."""
 
     books: list[desk.Books]
     answered: int
@@ -57,8 +56,7 @@ def delivered(books: desk.Books, message: framing.Message) -> tuple[desk.Books, 
 
 
 def step(many: Many, message: framing.Message, told: bytes, at: int) -> tuple[Many, int]:
-    """The books that may stand after the next answer, and its length: right at some of the
-    books, or 503."""
+    """The books that may stand after the next answer, and its length: at some books, or 503."""
     found, length = [], 0
     for books in many:
         after, right = delivered(books, message)
@@ -71,8 +69,7 @@ def step(many: Many, message: framing.Message, told: bytes, at: int) -> tuple[Ma
 def unserved(
     many: Many, message: framing.Message, told: bytes, at: int
 ) -> tuple[str | None, Many, int]:
-    """The same where the next answer is a 503: which, and the books. A request that met a failed
-    store may stand."""
+    """The same if the next answer is a 503. A request that met a failed store may stand."""
     if told.startswith(counter.NO_MEMORY, at):
         return "no_memory", many, len(counter.NO_MEMORY)
     if told.startswith(counter.STORE_FAILED, at):
@@ -82,8 +79,7 @@ def unserved(
 
 
 def follow(many: Iterable[desk.Books], messages: list[framing.Message], told: bytes) -> Heard:
-    """Follow the answers to messages from the books that may stand. Answers may end early: then
-    the next message may have been decided."""
+    """Follow the answers to messages. They may end early: then the next may have been decided."""
     heard, at = Heard(list(many), 0), 0
     for message in messages:
         found, length = step(heard.books, message, told, at)
@@ -145,7 +141,6 @@ def exports_one(many: list[desk.Books], ran: Ran, what: str) -> list[desk.Books]
 
 
 def start(transcripts: Iterable[str]) -> desk.Books:
-    """The books after transcripts of messages."""
     books = desk.Books()
     for transcript in transcripts:
         counter.connection(books, talk.stream(transcript))

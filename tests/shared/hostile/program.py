@@ -63,8 +63,7 @@ class Program:
         limit: Callable[[], None] | None = None,
         **hostile: Any,
     ) -> Ran:
-        """Run a command whose words are given, over a store, on an input; `limit` is called in
-        the new process."""
+        """Run a command over a store, on an input; `limit` is called in the new process."""
         counts = store + ".counts"
         if os.path.exists(counts):
             os.remove(counts)

@@ -29,8 +29,7 @@ def come_back(
     at_rest: bool,
     forgets: bool = False,
 ) -> None:
-    """What the store has, and then the same requests again. One that isn't at rest is brought to
-    it by another command; `forgets` loses the log before that."""
+    """What the store has, and then the same requests again. `forgets` loses the log before."""
     if forgets and os.path.exists(store.log_of(path)):
         os.remove(store.log_of(path))
     if not at_rest:

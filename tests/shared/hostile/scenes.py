@@ -12,8 +12,7 @@ BONDS_FILE = b"serial,denom,issued,owner,coowner\nL1EE,50,2010-11,7,\nK-0002-EE,
 
 @dataclasses.dataclass
 class Scene:
-    """A store that is copied for each run (None: no file), the books that it holds, and a
-    command."""
+    """A store that is copied for each run (None: no file), its books, and a command."""
 
     name: str
     base: str | None
@@ -32,7 +31,6 @@ def made(program: Program, name: str, stream: bytes, fault: str | None = None) -
 
 
 def first_version(program: Program, name: str, with_extensions: bool) -> tuple[str, desk.Books]:
-    """A store of version 1, and its books."""
     path = program.place(name)
     store.make_version_one(path, with_extensions)
     named = [talk.texts("NAMED")["NAMED"]] if with_extensions else []
@@ -48,8 +46,7 @@ def written(program: Program, name: str, file: bytes) -> str:
 
 
 def connections(program: Program) -> list[Scene]:
-    """A connection over a new store, a store at rest, one with its log not written back, one of
-    each kind of version 1, and one that is served."""
+    """Stores in every state that a file can be in, and one that is served."""
     days, earlier = talk.texts("BEGUN"), talk.texts("NAMED")
     day = talk.stream(days["DAY"])
     begun, start = talk.stream(days["BEGUN"]), judging.start([days["BEGUN"]])

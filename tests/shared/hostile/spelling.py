@@ -5,7 +5,6 @@ import re
 
 #: The letter of a serial from 1 to 26, and its number.
 Serial = tuple[int, int]
-
 FIRST_MONTH = 12 * 2005 + 4
 LAST_MONTH = 12 * 2199 + 11
 LAST_ISSUE = 12 * 2099 + 11

@@ -9,7 +9,6 @@ from . import talk
 
 #: The rows of each table; of an unreadable store what SQLite says.
 Rows = dict[str, Any]
-
 ORDERS = {
     "desk": "SELECT id, version, day, last_day FROM desk ORDER BY id",
     "rates": "SELECT period, rate FROM rates ORDER BY period",
@@ -43,8 +42,7 @@ def remove(store: str) -> None:
 
 
 def rows(store: str, with_log: bool = False) -> Rows:
-    """The rows of each table that is there, in order of key, read from a copy: of the one file,
-    or of both."""
+    """The rows of each table that is there, in order of key, of a copy with its log or without."""
     looked_at = store + ".looked"
     remove(looked_at)
     shutil.copyfile(store, looked_at)
@@ -65,7 +63,6 @@ def rows(store: str, with_log: bool = False) -> Rows:
 
 
 def is_whole(store: str) -> bool:
-    """Whether SQLite finds the one file whole."""
     base = sqlite3.connect(f"file:{store}?mode=ro&immutable=1", uri=True)
     try:
         return base.execute("PRAGMA integrity_check").fetchall() == [("ok",)]
@@ -84,8 +81,7 @@ def difference(found: Mapping[str, object], wanted: Mapping[str, object]) -> str
 
 
 def make_version_one(store: str, with_extensions: bool) -> None:
-    """The store of five requests (and of a sixth, which enters an extension), as a program from
-    before desks made it."""
+    """The store of five requests, and of a sixth, which enters an extension, from before desks."""
     earlier = talk.texts("NAMED")
     remove(store)
     base = sqlite3.connect(store, isolation_level=None)

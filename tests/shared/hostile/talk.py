@@ -22,8 +22,7 @@ def source_of(name: str) -> str:
 
 
 def texts(constant: str) -> dict[str, Any]:
-    """The constant texts of the source file that has this one, by name: a text, or a list of
-    texts."""
+    """The constant texts of the source file that has this one: a text, or a list of texts."""
     text = source_of(constant)
     found = {}
     for name, listed, value in re.findall(
@@ -59,7 +58,6 @@ def message(line: str) -> bytes:
 
 
 def answer(status: int, body: bytes, closes: bool = False, kind: str = "application/json") -> bytes:
-    """The bytes of an answer."""
     end = "Connection: close\r\n" if closes else ""
     head = f"HTTP/1.1 {status} {REASONS[status]}\r\nContent-Type: {kind}\r\n"
     return f"{head}Content-Length: {len(body)}\r\n{end}\r\n".encode() + body
@@ -103,17 +101,3 @@ def exchanges(transcript: str) -> list[tuple[bytes, bytes]]:
 
 def stream(transcript: str) -> bytes:
     return b"".join(sent for sent, _ in exchanges(transcript))
-
-
-def imports(transcript: str) -> list[tuple[str, int, int, bytes, str]]:
-    """Of a transcript of imports, the kind, desk, number and bytes of each file, and what is
-    told."""
-    found = []
-    for does, told in blocks(transcript):
-        if not does.startswith("+ "):
-            continue
-        named, file = does[2:].split(" ", 1)
-        desk, number = named.split("/") if "/" in named else ("0", named)
-        kind = "rates" if file.startswith("from") else "inventory"
-        found.append((kind, int(desk), int(number), file.replace("|", "\n").encode(), told[0]))
-    return found
