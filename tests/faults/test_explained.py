@@ -16,7 +16,7 @@ import pytest
 
 from tests.conftest import MEMORY, TOP
 from tests.faults import uses
-from tests.faults.uses import BONDS, RATES, Counter, Make, Ran, Streams, Use, words_of
+from tests.faults.uses import BONDS, Counter, Make, Ran, Streams, Use, words_of
 from tests.shared import exact
 from tests.shared.hostile.program import Program
 
