@@ -25,7 +25,7 @@ PATHS = (
 )
 #: Files that packages have under another name.
 NAMED = (("samples/systemd/counter.sysusers", "debian/ladwenpik.sysusers"),)
-#: Joins the modules of the tellers' page to one file, beside which the bank's own file stays.
+#: Joins the modules of the tellers' page to one file. The bank's own file stays one of its own.
 JOINED = "page.js"
 JOIN = f"esbuild main.js --bundle --minify --format=esm --charset=utf8 --external:./bank.js --outfile={JOINED} --log-level=warning"
 #: A module that the page preloads.
@@ -67,7 +67,7 @@ def files(tree: Path) -> list[Path]:
 
 
 def join_page(folder: Path) -> None:
-    """Has the tellers' page load one file in place of its modules: a browser asks for six files at once. The modules stay beside it, for people."""
+    """Has the tellers' page load one file in place of its modules: a browser asks for six files at once. The modules stay, for people."""
     ran = subprocess.run(JOIN.split(), cwd=folder, stderr=subprocess.PIPE, text=True)
     if ran.returncode != 0 or ran.stderr:
         raise Unfit(f"esbuild: {ran.stderr}")

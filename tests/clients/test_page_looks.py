@@ -33,7 +33,7 @@ from tests.browser.rules import BREAKS, HELPERS, RULES, broken, least_contrast
 pytestmark = [pytest.mark.browser, pytest.mark.nginx]
 L, K, M = VALUES["L"], VALUES["K"], VALUES["M"]
 VIEWS = ("day", "pay", "walkin", "tickets", "batches", "interest")
-#: Beside an open question nothing is reached.
+#: While a question is open, only it is reached.
 REACHED = "const open = document.querySelector('dialog[open]'); return [...document.querySelectorAll(arguments[0])].filter((one) => open === null || open.contains(one));"
 NAMED = "button, a[href], input, dialog[open], [role=region], table, nav, progress"
 
@@ -361,7 +361,7 @@ def test_widest_texts(bank: Bank, page: Page) -> None:
 
 
 def test_columns(bank: Bank, page: Page) -> None:
-    """The cells of a column stand below one another, beside a note and without one."""
+    """The cells of a column stand below one another, with a note and without one."""
     bank.registers(OLDER)
     page.show_sheet(7)
     for width in (1440, 1024, 768, 660):
@@ -562,6 +562,11 @@ def test_fields(bank: Bank, new_page: NewPage) -> None:
 # ---- pictures for docs/pictures
 
 FRIDAY, MONDAY = "2026-11-27", "2026-11-30"
+#: The browser's clock has that day, at the true time of day, as `bank.write_own` has the server's.
+CLOCK = """
+const [now, day] = [Date.now, 24 * 3600 * 1000];
+Date.now = () => now() %% day + Date.parse("%s");
+"""
 #: As paper has them.
 OF_SEVEN = [
     bond("L1EE", 50, "2010-11", 7),
@@ -579,6 +584,8 @@ def test_pictures(bank: Bank, new_page: NewPage, pictures: Path | None) -> None:
     folder = pictures
     bank.begin([], day=FRIDAY)
     bank.write_own(today=MONDAY)
+    own = bank.teller / "bank.js"
+    own.write_text(own.read_text() + CLOCK % MONDAY)
     bank.registers(*OF_SEVEN, *(bond(f"L{n}EE", 50, "2010-11", 60) for n in range(101, 201)))
     page = new_page()
 
