@@ -45,12 +45,6 @@ def compact(value: object) -> str:
     return json.dumps(value, separators=(",", ":"), sort_keys=True)
 
 
-def spelled(fields: dict[str, Any]) -> dict[str, Any]:
-    """Fields as both clients spell them."""
-    more = {"serials": [serial_of(one) for one in fields["serials"]]} if "serials" in fields else {}
-    return {**fields, **more}
-
-
 def fits(api: Api, schema: dict[str, Any], value: object) -> None:
     whole = {"allOf": [schema], "components": api["components"]}
     faults = list(jsonschema.Draft202012Validator(whole).iter_errors(value))
@@ -96,9 +90,10 @@ def examples_of(api: Api) -> Iterator[Example]:
                     for name, one in content.get("examples", {}).items():
                         asked = dict(sent.get(name, {"value": {}})["value"])
                         fields = {k: v for k, v in asked.items() if k not in ("desk", "number")}
-                        met = one.get("x-status") or int(status)
-                        value = one["value"]
-                        yield Example(path, spelled(fields), met, compact(value), value, name)
+                        if "serials" in fields:  # as both clients spell them
+                            fields["serials"] = [serial_of(one) for one in fields["serials"]]
+                        met, value = one.get("x-status") or int(status), one["value"]
+                        yield Example(path, fields, met, compact(value), value, name)
 
 
 def wanted_of(example: Example) -> tuple[str, int | None, str | None]:

@@ -2,7 +2,6 @@
 
 import contextlib
 import datetime
-import json
 from typing import Callable, ContextManager, Iterator
 from unittest import mock
 
@@ -11,7 +10,7 @@ import pytest
 import ee_counter_client as client
 import ee_counter_client.plausible as plausible
 from ee_counter_client.testing import FakeCounter
-from tests.clients.desk import DAY, Desk, bonds_csv, command, controls, holds_not, within
+from tests.clients.desk import Desk, bonds_csv, command, controls, holds_not, within
 
 Part = ContextManager[object] | None
 #: The letters of paper bonds, from $50 to $10,000.
@@ -82,12 +81,6 @@ def test_many_doubts(desk: Desk) -> None:
         assert desk.gate.bodies == [] and pool.add_bonds(many, even_so=True).new == 500
 
 
-def close(fake: FakeCounter, day: str = DAY) -> None:
-    number = 100 + len(fake.kept)
-    body = json.dumps({"number": number, "day": day}).encode()
-    assert fake.answered("POST", "/day/close", body)[0] == 200
-
-
 @controls(
     a_week_and_a_day=mock.patch.object(plausible, "MOST_DAYS", 8),
     less_than_a_week=mock.patch.object(plausible, "MOST_DAYS", 6),
@@ -141,7 +134,8 @@ def desk_at(desk: Desk, fake: FakeCounter) -> Iterator[None]:
 
 def test_asked_once(desk: Desk) -> None:
     """A request that was asked about, and has no reply yet, isn't questioned again; nor is one that has its reply."""
-    close(desk.fake)
+    closed = desk.fake.answered("POST", "/day/close", b'{"number":100,"day":"2012-02-06"}')
+    assert closed[0] == 200
     with desk.known(patience=0.5) as counter:
         desk.gate.faults = ["lost answer"] * 30
         with pytest.raises(client.NoReply):

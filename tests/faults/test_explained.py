@@ -290,13 +290,12 @@ def explained(**other: Any) -> Change:
     return lambda is_explained, ran: replace(ran, **other) if is_explained else ran
 
 
-def unasked(is_explained: bool, ran: Ran) -> Ran:
-    return ran if is_explained else replace(ran, said=ran.said + "look at the disk\n")
-
-
 PLAYED = [
     ("desk: a word", lambda _, ran: replace(ran, said=ran.said.split("\n")[0] + "\n")),
-    ("a store: a text", unasked),
+    (
+        "a store: a text",
+        lambda asked, ran: ran if asked else replace(ran, said=f"{ran.said}look\n"),
+    ),
     ("desk: a word", explained(status=1)),
     ("desk: a word", explained(printed=b"desk: a word")),
     ("a store: a text", instead("StoreFailed", "Unusable")),

@@ -377,8 +377,7 @@ def opened(it: Counter, descriptor: int, is_input: bool = False) -> Iterator[Str
         os.close(descriptor)
 
 
-def to_full(it: Counter) -> AbstractContextManager[Streams]:
-    return opened(it, os.open("/dev/full", os.O_WRONLY))
+to_full: During = lambda it: opened(it, os.open("/dev/full", os.O_WRONLY))
 
 
 def unread_output(it: Counter) -> AbstractContextManager[Streams]:
@@ -394,8 +393,7 @@ def closed_output(it: Counter) -> Iterator[Streams]:
     yield Streams(given=MESSAGE, is_closed=True)
 
 
-def folder_input(it: Counter) -> AbstractContextManager[Streams]:
-    return opened(it, os.open(it.folder, os.O_RDONLY), is_input=True)
+folder_input: During = lambda it: opened(it, os.open(it.folder, os.O_RDONLY), is_input=True)
 
 
 @contextmanager

@@ -62,10 +62,6 @@ def period(issued: int) -> int:
     return issued - (issued % 12 - 4) % 6
 
 
-def is_announced(month: int) -> bool:
-    return month % 12 in (4, 10)
-
-
 def exact_row(dollars: int, issued: int, month: int, terms: Terms) -> exact.Row:
     return exact.row(dollars, exact.number_of(issued), exact.number_of(month), *terms)
 
@@ -118,7 +114,7 @@ class Books:
     def do_rates(self, rows: Sequence[tuple[int, int, int]]) -> Reply:
         count_is_right(len(rows), MOST_ROWS)
         for begins, *_ in rows:
-            if not is_announced(begins):
+            if begins % 12 not in (4, 10):
                 raise Refused(20, month=month_text(begins))
         known = dict(self.rates)
         for begins, rate, extension in rows:

@@ -155,10 +155,6 @@ def subsets(count: int, most: int) -> Iterator[list[bool]]:
             yield [False] * (count - free) + chosen
 
 
-def takes_of(chosen: list[bool]) -> list[Take]:
-    return [kept if is_taken else lost for is_taken in chosen]
-
-
 class Disk:
     def __init__(self, db: bytes | None, log: bytes | None) -> None:
         self.files = {DB: File(db), LOG: File(log)}
@@ -192,7 +188,7 @@ class Disk:
                 continue
             other = self.files[LOG if on == DB else DB]
             for chosen in subsets(len(file.steps), LAST_FEW):
-                content = file.outcome(takes_of(chosen))
+                content = file.outcome([kept if is_taken else lost for is_taken in chosen])
                 for beside in dict.fromkeys((other.seen(), other.synced)):
                     yield (content, beside) if on == DB else (beside, content)
 
