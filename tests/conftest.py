@@ -4,6 +4,7 @@ marker needs."""
 from __future__ import annotations
 
 import functools
+import itertools
 import os
 import random
 import shutil
@@ -134,6 +135,15 @@ def missing(item: pytest.Item) -> list[str]:
 
 
 def pytest_collection_modifyitems(items: list[pytest.Item]) -> None:
+    """xdist hands tests out in long rows. So those of the page, which are slow and share nothing, stand
+    between the files of the others, and no process is left with most of them."""
+    slow = [item for item in items if "bank" in getattr(item, "fixturenames", ())]
+    others = [item for item in items if item not in slow]
+    files = [list(group) for _, group in itertools.groupby(others, lambda item: item.path)]
+    share = -(-len(slow) // max(1, len(files)))
+    for place, group in enumerate(files):
+        group[:0] = slow[place * share : (place + 1) * share]
+    items[:] = [item for group in files for item in group] or slow
     for item in items:
         lacks = missing(item)
         if lacks:
