@@ -3,8 +3,6 @@ bytes.
 
 What they draw knows nothing of what is right: framing.py, decoding.py and desk.py say that."""
 
-from __future__ import annotations
-
 import json
 from typing import Any, Callable
 

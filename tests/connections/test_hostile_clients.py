@@ -1,8 +1,10 @@
 """Clients that do harm to `serve`, over a store in which a day is open, and customer 7 has three
-bonds."""
+bonds; and connections, one after another, that leave its memory as it was.
 
-from __future__ import annotations
+CONNECTIONS names how many."""
 
+import contextlib
+import os
 import re
 import select
 import shutil
@@ -10,12 +12,12 @@ import socket
 import subprocess
 import time
 from pathlib import Path
-from typing import Callable, Iterator
+from typing import Any, Callable, Iterator
 
 import pytest
 
-from tests.shared.counter_calls import BONDS, RATES, apply, free_port, get, piped, post
-from tests.shared.counter_calls import redeem, rows
+from tests.shared.counter_calls import BONDS, RATES, answered, apply, end, free_port, get, matched
+from tests.shared.counter_calls import piped, post, redeem, rows, serve
 
 #: The seconds after which `serve` lets a client go.
 PATIENCE = 30
@@ -32,20 +34,14 @@ class Server:
     """`serve` over the store on a port of its own, for that many connections."""
 
     def __init__(self, program: Path, store: Path, connections: int) -> None:
-        self.port, pipe = free_port(), subprocess.PIPE
-        words = [str(program), "serve", "--db", str(store), "--port", str(self.port)]
-        words += ["--connections", str(connections)]
-        self.process = subprocess.Popen(words, stdout=pipe, stderr=pipe, text=True)
+        self.port, words = free_port(), ("--connections", str(connections))
+        self.process = serve(program, store, self.port, *words, stdout=subprocess.PIPE)
 
     def connect(self) -> socket.socket:
-        for _ in range(1200):
-            client = socket.socket()
-            client.setsockopt(socket.SOL_SOCKET, socket.SO_RCVBUF, 4096)
-            if client.connect_ex(("127.0.0.1", self.port)) == 0:
-                return client
-            client.close()
-            time.sleep(0.05)
-        raise AssertionError("the server doesn't listen")
+        client = socket.socket()
+        client.setsockopt(socket.SOL_SOCKET, socket.SO_RCVBUF, 4096)
+        client.connect(("127.0.0.1", self.port))
+        return client
 
     def ask(self, stream: bytes) -> bytes:
         """All that is answered to a stream after which nothing is sent."""
@@ -64,7 +60,8 @@ class Server:
         return str(piped(self.process.stdout).readline()).strip()
 
 
-Serve = Callable[[int], Server]
+#: A server for that many connections.
+MakeServer = Callable[[int], Server]
 
 
 @pytest.fixture
@@ -74,17 +71,15 @@ def store(program: Path, folder: Path) -> Path:
 
 
 @pytest.fixture
-def serve(program: Path, store: Path) -> Iterator[Serve]:
-    made: list[Server] = []
+def server(program: Path, store: Path) -> Iterator[MakeServer]:
+    with contextlib.ExitStack() as made:
 
-    def begin(connections: int) -> Server:
-        made.append(Server(program, store, connections))
-        return made[-1]
+        def begin(connections: int) -> Server:
+            one = Server(program, store, connections)
+            made.callback(end, one.process)
+            return one
 
-    yield begin
-    for server in made:
-        server.process.kill()
-        server.process.communicate()
+        yield begin
 
 
 def send_nothing(server: Server, client: socket.socket) -> None:
@@ -93,12 +88,10 @@ def send_nothing(server: Server, client: socket.socket) -> None:
 
 def trickle(server: Server, client: socket.socket) -> None:
     """A byte now and then: every wait is short, and the whole is long."""
-    for byte in REDEEM:
-        try:
+    with contextlib.suppress(OSError):
+        for byte in REDEEM:
             client.sendall(bytes([byte]))
-        except OSError:
-            return
-        time.sleep(2)
+            time.sleep(2)
 
 
 def hardly_read(server: Server, client: socket.socket) -> None:
@@ -113,40 +106,40 @@ def hardly_read(server: Server, client: socket.socket) -> None:
 @pytest.mark.slow
 @pytest.mark.parametrize("behave", [send_nothing, trickle, hardly_read])
 def test_slow_client_is_let_go(
-    program: Path, store: Path, serve: Serve, behave: Callable[[Server, socket.socket], None]
+    program: Path, store: Path, server: MakeServer, behave: Callable[[Server, socket.socket], None]
 ) -> None:
     bonds = [dict(BONDS[0], serial=f"A{n}EE") for n in range(1, 501)]
     apply(program, store, [post("/bonds", {"number": 9, "bonds": bonds}, b"")])
-    server, fault = serve(2), "Write" if behave is hardly_read else "Read"
-    with server.connect() as client:
+    one, fault = server(2), "Write" if behave is hardly_read else "Read"
+    with one.connect() as client:
         begun = time.time()
-        behave(server, client)
-        assert re.fullmatch(rf"connection 1: \d+ messages, {fault}Failed", server.line())
+        behave(one, client)
+        assert re.fullmatch(rf"connection 1: \d+ messages, {fault}Failed", one.line())
     assert PATIENCE - 1 < time.time() - begun < PATIENCE + 8
-    assert b'"fault":"NotFound"' in server.ask(TICKET), "the next client is answered"
-    assert server.process.wait(120) == 0
+    assert b'"fault":"NotFound"' in one.ask(TICKET), "the next client is answered"
+    assert one.process.wait(120) == 0
 
 
-def test_quick_client_is_kept(serve: Serve) -> None:
+def test_quick_client_is_kept(server: MakeServer) -> None:
     """Control: a client that sends and reads at once isn't let go."""
-    server = serve(1)
-    assert b'"fault":"NotFound"' in server.ask(TICKET)
-    assert server.line() == "connection 1: 1 messages, Closed"
+    one = server(1)
+    assert b'"fault":"NotFound"' in one.ask(TICKET)
+    assert one.line() == "connection 1: 1 messages, Closed"
 
 
-def test_in_one_go(serve: Serve) -> None:
+def test_in_one_go(server: MakeServer) -> None:
     """Of 1,500 messages in one go 1,000 answers arrive, and the connection ends by its limit."""
-    server = serve(1)
-    text = server.ask(TICKET * 1500)
+    one = server(1)
+    text = one.ask(TICKET * 1500)
     assert text.count(b"HTTP/1.1 404 Not Found") == 1000 and not text.endswith(b"RESET")
-    assert server.line() == "connection 1: 1000 messages, Limit"
+    assert one.line() == "connection 1: 1000 messages, Limit"
 
 
 @pytest.mark.parametrize("size", [2_000_000, 30_000_000])
-def test_long_body(serve: Serve, size: int) -> None:
+def test_long_body(server: MakeServer, size: int) -> None:
     """The answer to a body that is too long arrives."""
     head = b"POST /rates HTTP/1.1\r\nContent-Length: %d\r\n\r\n" % size
-    text = serve(1).ask(head + b"a" * size)
+    text = server(1).ask(head + b"a" * size)
     assert text.startswith(b"HTTP/1.1 413 ")
     assert text.endswith(b'{"code":62,"fault":"BodyTooLong"}'), text[-200:]
 
@@ -158,3 +151,47 @@ def test_one_file(program: Path, store: Path) -> None:
     assert apply(program, copy, [TICKET]) == [paid] and '"total":"25.88"' in paid[1]
     assert rows(copy, "PRAGMA integrity_check") == [("ok",)]
     assert rows(copy, "SELECT total FROM tickets") == [(2588,)]
+
+
+CONNECTIONS, MOST = int(os.environ.get("CONNECTIONS", "5000")), 1024
+
+
+def growth(process: int, connect: Callable[[], object]) -> int:
+    """By how many resident kilobytes a process grows from a tenth of the connections on."""
+    found = []
+    for count in (CONNECTIONS // 10, CONNECTIONS - CONNECTIONS // 10):
+        for _ in range(count):
+            connect()
+        status = Path(f"/proc/{process}/status").read_text()
+        found.append(int(matched(r"VmRSS:\s*(\d+) kB", status)[1]))
+    return found[1] - found[0]
+
+
+def test_memory_stays(program: Path, store: Path) -> None:
+    port = free_port()
+    process = serve(program, store, port)
+
+    def connect() -> None:
+        status, body = answered(port, get("/value/50/2010-11/2015-11"))
+        assert status == 200 and '"value":"29.74"' in body, body
+
+    try:
+        assert growth(process.pid, connect) <= MOST and process.poll() is None
+    finally:
+        end(process)
+
+
+def test_a_leak_is_found() -> None:
+    """Control: a process that keeps two kilobytes of every connection."""
+    leaking = "kept = []\nwhile input(): kept.append(bytes(2048)); print(flush=True)"
+    pipes: dict[str, Any] = {"stdin": subprocess.PIPE, "stdout": subprocess.PIPE, "text": True}
+    with subprocess.Popen(["python3", "-c", leaking], **pipes) as process:
+
+        def connect() -> None:
+            piped(process.stdin).write("x\n")
+            piped(process.stdin).flush()
+            piped(process.stdout).readline()
+
+        connect()
+        assert growth(process.pid, connect) > MOST
+        process.kill()

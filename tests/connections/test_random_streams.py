@@ -4,8 +4,6 @@ framing.py splits a stream, decoding.py says what a message asks for, desk.py wh
 answers, with the values of exact.py. A failure prints its smallest streams. STREAMS names how
 many are tried."""
 
-from __future__ import annotations
-
 import os
 from typing import Any, Iterator
 

@@ -14,8 +14,8 @@ import jsonschema
 import pytest
 
 from tests.conftest import TOP
-from tests.fence.wire import everything
-from tests.samples.load import copied
+from tests.fence.site import everything
+from tests.restore.counter_day import copied
 from tests.shared.counter_calls import connected, end, free_port, matched, serve, served
 
 DESCRIPTION: dict[str, Any] = json.loads((TOP / "docs/openapi.json").read_text())

@@ -12,8 +12,8 @@ import pytest
 from tests.fence.conftest import blocks
 from tests.fence.fresh import bootstrap
 from tests.samples.books import script
-from tests.samples.releases import Tree, done, end_keys, fingerprint, library_in, make_key
-from tests.shared.counter_calls import run
+from tests.samples.releases import Tree, end_keys, fingerprint, library_in, make_key
+from tests.shared.counter_calls import done, run
 
 pytestmark = pytest.mark.needs("dh", "esbuild", "fakeroot", "gpg", "cc", "git")
 RT = """#!/bin/sh

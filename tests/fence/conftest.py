@@ -3,49 +3,44 @@
 import os
 import re
 import shutil
-import subprocess
 import tempfile
 from pathlib import Path
-from typing import Any, Callable, Iterator, Mapping
+from typing import Any, Callable, Iterator, Mapping, Sequence
 
 import pytest
 
-from tests.conftest import MEMORY, TOP, is_listening, until
-from tests.fence.fresh import Fresh, bootstrap, done, run
+from tests.conftest import MEMORY, TOP
+from tests.fence.fresh import Fresh, bootstrap
 from tests.fence.site import Site
-from tests.shared.counter_calls import free_port, matched
+from tests.shared.counter_calls import done, end, free_port, matched, run, serve
 
 #: Groups of the people of docs/INSTALL.md.
 GROUPS = {"anna": "teller", "bert": "supervisor", "cleo": "registrar", "dora": "office"}
 
 
 class Counter:
-    """`ee_cli serve` over a store with the rates of the paper periods and some bonds: those of samples/inventory.csv and B1EE, B2EE .. of customer 7."""
+    """`ee_cli serve` over a store with the rates of the paper periods and bonds: those of samples/inventory.csv, and B1EE to B1000EE of customer 7. `before` are words before the program."""
 
-    def __init__(self, program: Path, folder: Path, bonds: int = 50) -> None:
+    def __init__(self, program: Path, folder: Path, before: Sequence[str] = ()) -> None:
         folder.mkdir()
         self.program, self.store, self.port = program, folder / "day.db", free_port()
-        self.url = f"http://127.0.0.1:{self.port}"
+        self.url, self.before = f"http://127.0.0.1:{self.port}", before
         files = [TOP / "samples/rates.csv", TOP / "samples/inventory.csv"]
         # A request has 500 bonds at most.
-        for first in range(1, bonds + 1, 500):
-            rows = [f"B{n}EE,50,2010-11,7,\n" for n in range(first, min(first + 500, bonds + 1))]
+        for first in (1, 501):
+            rows = [f"B{n}EE,50,2010-11,7,\n" for n in range(first, first + 500)]
             files.append(folder / f"more{first}.csv")
             files[-1].write_text("serial,denom,issued,owner,coowner\n" + "".join(rows))
         for nth, file in enumerate(files, 1):
-            words = ["rates" if nth == 1 else "inventory", str(file), "--db", str(self.store)]
-            words += ["--desk", "999", "--number", str(nth)]
-            subprocess.run([program, "import", *words], check=True, stdout=subprocess.DEVNULL)
+            words = ("rates" if nth == 1 else "inventory", file, "--db", self.store)
+            done(program, "import", *words, "--desk", "999", "--number", nth)
         self.start()
 
     def start(self) -> None:
-        words = ["serve", "--db", str(self.store), "--port", str(self.port)]
-        self.process = subprocess.Popen([self.program, *words], stdout=subprocess.DEVNULL)
-        until(lambda: is_listening(self.port), "the counter doesn't listen")
+        self.process = serve(self.program, self.store, self.port, before=self.before)
 
     def end(self) -> None:
-        self.process.kill()
-        self.process.wait()
+        end(self.process)
 
 
 @pytest.fixture

@@ -1,5 +1,6 @@
 """A fresh Debian that runs under a systemd of its own: process 1 of namespaces (mounts, processes, network, cgroups), over a root of debootstrap that isn't written. All that it writes is in
-memory, and gone at its end. The way is that of the script that runs the units of samples/systemd."""
+memory, and gone at its end."""
+
 import contextlib
 import os
 import re
@@ -7,8 +8,10 @@ import stat
 import subprocess
 import sys
 import time
-from pathlib import Path
-from typing import Any, Callable, NoReturn
+from typing import Any, NoReturn
+
+from tests.conftest import TOP, until
+from tests.shared.counter_calls import done, end, run
 
 SUITE = "bookworm"
 MIRROR = "http://deb.debian.org/debian"
@@ -19,27 +22,8 @@ PATH = "/usr/sbin:/usr/bin:/sbin:/bin"
 SYSTEMD = "systemd --system --unit=multi-user.target --log-target=journal --show-status=no"
 UNSHARE = "unshare --mount --pid --fork --uts --ipc --net --cgroup --kill-child"
 ENTER = "--mount --pid --net --uts --ipc --cgroup --root --wd"
-#: What is asked of a machine that isn't up, or that does what it shouldn't.
+#: The seconds within which a machine has to be up.
 WAIT = 120
-
-
-def run(*words: str | Path, **more: Any) -> subprocess.CompletedProcess[str]:
-    pipe, both = subprocess.PIPE, subprocess.STDOUT
-    return subprocess.run(words, stdout=pipe, stderr=both, text=True, **more)
-
-
-def done(*words: str | Path, **more: Any) -> str:
-    ran = run(*words, **more)
-    assert ran.returncode == 0, f"{words} ended with status {ran.returncode}\n{ran.stdout}"
-    return ran.stdout
-
-
-def until(is_so: Callable[[], object], what: Callable[[], str], seconds: float = WAIT) -> None:
-    """As in tests/conftest.py, which what runs within the namespaces can't import."""
-    end = time.monotonic() + seconds
-    while not is_so():
-        assert time.monotonic() < end, what()
-        time.sleep(0.1)
 
 
 def bootstrap(folder: str, suite: str = SUITE, included: str = INCLUDED) -> str:
@@ -103,14 +87,13 @@ class Fresh:
     def __init__(self, base: str, folder: str) -> None:
         self.group = make_group()
         self.told = f"{folder}.told"
-        words = [*UNSHARE.split(), sys.executable, os.path.abspath(__file__), base, folder]
+        words = [*UNSHARE.split(), sys.executable, "-m", "tests.fence.fresh", base, folder]
         enter = ["sh", "-c", 'echo $$ > "$0/cgroup.procs" && exec "$@"', self.group, *words]
-        self.outer = subprocess.Popen(
-            enter, stdout=subprocess.DEVNULL, stderr=open(self.told, "w"), start_new_session=True
-        )
+        files: dict[str, Any] = {"stdout": subprocess.DEVNULL, "stderr": open(self.told, "w")}
+        self.outer = subprocess.Popen(enter, cwd=TOP, start_new_session=True, **files)
         try:
-            until(self.has_begun, lambda: f"no systemd\n{open(self.told).read()}")
-            until(self.is_up, lambda: "systemd doesn't come up")
+            until(self.has_begun, lambda: f"no systemd\n{open(self.told).read()}", WAIT)
+            until(self.is_up, "systemd doesn't come up", WAIT)
         except BaseException:
             self.end()
             raise
@@ -133,11 +116,11 @@ class Fresh:
         """A file of the machine, as it is seen from outside."""
         return f"/proc/{self.process}/root{name}"
 
-    def words(self, *words: str | Path) -> list[str | Path]:
+    def words(self, *words: str) -> list[str]:
         """The words by which a command is run on the machine."""
         return ["nsenter", "-t", str(self.process), *ENTER.split(), *words]
 
-    def on(self, *words: str | Path, **more: Any) -> subprocess.CompletedProcess[str]:
+    def on(self, *words: str, **more: Any) -> subprocess.CompletedProcess[str]:
         env = {"PATH": PATH, "LC_ALL": "C.UTF-8", "HOME": "/root"}
         env["DEBIAN_FRONTEND"] = "noninteractive"
         return run(*self.words(*words), env=env, **more)
@@ -159,9 +142,8 @@ class Fresh:
         return False
 
     def end(self) -> None:
-        self.outer.kill()
-        self.outer.wait()
-        remove_group(self.group)
+        end(self.outer)
+        until(lambda: is_gone(self.group), f"{self.group} isn't empty")
 
 
 def make_group() -> str:
@@ -173,14 +155,12 @@ def make_group() -> str:
     return group
 
 
-def remove_group(group: str) -> None:
-    def is_gone() -> bool:
-        for path, _, _ in os.walk(group, topdown=False):
-            with contextlib.suppress(OSError):
-                os.rmdir(path)
-        return not os.path.exists(group)
-
-    until(is_gone, lambda: f"{group} isn't empty", 10)
+def is_gone(group: str) -> bool:
+    """Removes what is empty of a group. Whether that was all."""
+    for path, _, _ in os.walk(group, topdown=False):
+        with contextlib.suppress(OSError):
+            os.rmdir(path)
+    return not os.path.exists(group)
 
 
 if __name__ == "__main__":

@@ -1,23 +1,66 @@
-"""nginx over samples/nginx/nginx.conf on a port of its own: only paths, the port and the user differ from what a bank runs."""
+"""nginx over samples/nginx/nginx.conf on a port of its own: only paths, the port and the user differ from what a bank runs. And connections that send it bytes as they are, for requests that no library of HTTP sends."""
 
 import contextlib
+import dataclasses
 import http.client
+import io
 import json
 import os
+import re
 import signal
+import socket
+import socketserver
 import ssl
 import subprocess
+import threading
 import time
 from pathlib import Path
-from typing import Any, Mapping, NamedTuple
+from typing import Any, Iterable, Mapping, NamedTuple, Self
 
 from tests.conftest import TOP, is_listening, until
-from tests.shared.counter_calls import free_port, replaced
-from tests.fence.staff import Staff, make_server_certificate
+from tests.shared.counter_calls import done, free_port, replaced
 
+EASYRSA = "/usr/share/easy-rsa/easyrsa"
 Texts = Mapping[str, str]
 #: What every client of ours sends.
 CLIENT: Texts = {"X-Counter-Client": "test", "Content-Type": "application/json"}
+HEADERS = [b"Host: 127.0.0.1", *(f"{name}: {value}".encode() for name, value in CLIENT.items())]
+
+
+class Staff:
+    """An authority of the staff by easy-rsa, as docs/WHO_MAY_DO_WHAT.md makes it, in a folder. A person's `certificate` is a file with the certificate and its key."""
+
+    def __init__(self, folder: Path) -> None:
+        self.folder = folder
+        self.easyrsa("init-pki")
+        self.easyrsa("--req-cn=counter staff", "build-ca", "nopass")
+        self.easyrsa("gen-crl")
+
+    def easyrsa(self, *words: str) -> None:
+        options = ["--batch", f"--pki-dir={self.folder}", "--use-algo=ec", "--curve=prime256v1"]
+        done(EASYRSA, *options, *words, cwd=self.folder.parent)
+
+    def hire(self, *names: str) -> None:
+        for name in names:
+            self.easyrsa("build-client-full", name, "nopass")
+            parts = (self.folder / f"issued/{name}.crt", self.folder / f"private/{name}.key")
+            self.certificate(name).write_text("".join(part.read_text() for part in parts))
+
+    def dismiss(self, name: str) -> None:
+        """Revokes. It counts from nginx's next reload on."""
+        self.easyrsa("revoke", name)
+        self.easyrsa("gen-crl")
+
+    def certificate(self, name: str) -> Path:
+        return self.folder / f"{name}.pem"
+
+
+def make_server_certificate(folder: Path, *names: str) -> None:
+    """Writes certificate.pem and key.pem for these names."""
+    alternatives = ",".join(f"IP:{name}" if name[0].isdigit() else f"DNS:{name}" for name in names)
+    line = "req -x509 -newkey ec -pkeyopt ec_paramgen_curve:prime256v1 -nodes -days 2".split()
+    line += ["-subj", f"/CN={names[0]}", "-addext", f"subjectAltName={alternatives}"]
+    done("openssl", *line, "-keyout", folder / "key.pem", "-out", folder / "certificate.pem")
 
 
 class Answer(NamedTuple):
@@ -127,17 +170,11 @@ class Site:
         return made
 
     def connect(self, user: str | None, timeout: float = 60) -> http.client.HTTPSConnection:
-        return http.client.HTTPSConnection(
-            self.name, self.port, context=self.context(user), timeout=timeout
-        )
+        place: dict[str, Any] = {"context": self.context(user), "timeout": timeout}
+        return http.client.HTTPSConnection(self.name, self.port, **place)
 
     def ask(
-        self,
-        user: str | None,
-        method: str,
-        path: str,
-        value: object = None,
-        headers: Texts = CLIENT,
+        self, user: str | None, method: str, path: str, value: Any = None, headers: Texts = CLIENT
     ) -> Answer:
         """The answer to one request, as a client of the bank sends it if no `headers` are given."""
         body = value if value is None or isinstance(value, (bytes, str)) else json.dumps(value)
@@ -153,3 +190,138 @@ class Site:
 
 def workers(master: int) -> set[str]:
     return set(Path(f"/proc/{master}/task/{master}/children").read_text().split())
+
+
+def message(line: bytes, body: bytes = b"", *more: bytes) -> bytes:
+    """A request as a client of the bank sends it, with the length of its body."""
+    lines = [line, *HEADERS, b"Content-Length: %d" % len(body), *more]
+    return b"\r\n".join(lines) + b"\r\n\r\n" + body
+
+
+def connected(
+    site: Site, context: ssl.SSLContext, patience: float = 30, session: ssl.SSLSession | None = None
+) -> ssl.SSLSocket:
+    plain = socket.create_connection((site.name, site.port), timeout=patience)
+    plain.setsockopt(socket.IPPROTO_TCP, socket.TCP_NODELAY, 1)
+    return context.wrap_socket(plain, server_hostname=site.name, session=session)
+
+
+def everything(line: socket.socket) -> bytes:
+    """Reads until the other side ends the connection, or until the time limit of the socket."""
+    text = b""
+    with contextlib.suppress(OSError):
+        while piece := line.recv(65536):
+            text += piece
+    return text
+
+
+def sent(
+    site: Site,
+    context: ssl.SSLContext,
+    pieces: Iterable[bytes],
+    pause: float = 0,
+    patience: float = 30,
+) -> bytes:
+    """Sends the pieces on a new connection, with a pause between two of them, and returns all that comes back."""
+    with connected(site, context, patience) as line:
+        with contextlib.suppress(OSError):
+            for nth, piece in enumerate(pieces):
+                time.sleep(pause * bool(nth))
+                line.sendall(piece)
+        return everything(line)
+
+
+def statuses(text: bytes) -> list[int]:
+    return [int(status) for status in re.findall(rb"HTTP/1\.1 (\d\d\d) ", text)]
+
+
+def answer_in(text: bytes) -> Answer:
+    """The last response in a text, past any `100 Continue`."""
+    assert b"HTTP/1.1 " in text, text
+    head, _, body = text[text.rindex(b"HTTP/1.1 ") :].partition(b"\r\n\r\n")
+    line, _, headers = head.partition(b"\r\n")
+    fields = http.client.parse_headers(io.BytesIO(headers + b"\r\n\r\n"))
+    return Answer(int(line.split()[1]), fields, body.decode(errors="surrogateescape"))
+
+
+ANSWER = b'{"recorded":true}'
+
+
+@dataclasses.dataclass
+class Message:
+    """A message as it came; `rest` has the bytes behind it on its connection."""
+
+    head: bytes
+    body: bytes
+    rest: bytes = b""
+
+    @property
+    def words(self) -> tuple[bytes, bytes]:
+        method, _, rest = self.head.partition(b" ")
+        return method, rest.split(b"\r\n")[0].rpartition(b" ")[0]
+
+
+class Recorder(socketserver.ThreadingUnixStreamServer):
+    """Answers each message with `status`, as many of a connection as come."""
+
+    daemon_threads, request_queue_size = True, 512
+    status = 200
+
+    def __init__(self, path: Path) -> None:
+        self.messages: list[Message] = []
+        self.at = f"http://unix:{path}"
+        super().__init__(str(path), Conversation)
+        threading.Thread(target=self.serve_forever, daemon=True).start()
+
+    def end(self) -> None:
+        self.shutdown()
+        self.server_close()
+
+    def take(self) -> list[Message]:
+        taken, self.messages = self.messages, []
+        return taken
+
+
+class Conversation(socketserver.StreamRequestHandler):
+    timeout = 5
+
+    def handle(self) -> None:
+        with contextlib.suppress(OSError, OverflowError):
+            while self.answer():
+                pass
+
+    def answer(self) -> bool:
+        """Answers one message. Returns whether another may come."""
+        head = b""
+        while not head.endswith(b"\r\n\r\n"):
+            if not (line := self.rfile.readline()):
+                return False
+            head += line
+        length = re.search(rb"(?i)\r\ncontent-length: *(\d+)", head)
+        body = self.rfile.read(int(length[1])) if length else b""
+        message = Message(head, body)
+        assert isinstance(self.server, Recorder)
+        self.server.messages.append(message)
+        form = b"Content-Type: application/json\r\nContent-Length: %d" % len(ANSWER)
+        self.wfile.write(b"HTTP/1.1 %d OK\r\n%s\r\n\r\n%s" % (self.server.status, form, ANSWER))
+        is_last = re.search(rb"(?i)\r\nconnection: *close", head) is not None
+        message.rest = self.rfile.read() if is_last else b""
+        return not is_last
+
+
+#: No request is too many.
+UNLIMITED = {"rate=10r/s": "rate=100000r/s"}
+
+
+class RecordedSite(Site):
+    def __init__(self, folder: Path, groups: Texts, changed: Texts = UNLIMITED) -> None:
+        folder.chmod(0o755)
+        self.recorder = Recorder(folder / "counter.sock")
+        super().__init__(folder / "site", self.recorder.at, groups, changed=changed)
+
+    def __enter__(self) -> Self:
+        return self
+
+    def __exit__(self, *_: object) -> None:
+        self.end()
+        self.recorder.end()

@@ -5,7 +5,7 @@ import datetime
 import ssl
 import time
 from pathlib import Path
-from typing import Callable, Iterator
+from typing import Any, Callable, Iterator
 
 import pytest
 from cryptography import x509
@@ -13,9 +13,8 @@ from cryptography.hazmat.primitives import hashes, serialization
 from cryptography.hazmat.primitives.asymmetric import ec
 from cryptography.x509.oid import ExtendedKeyUsageOID, NameOID
 
-from tests.fence.recorder import ANSWER, RecordedSite
-from tests.fence.site import Answer
-from tests.fence.wire import answer_in, connected, everything, message
+from tests.fence.site import ANSWER, RecordedSite
+from tests.fence.site import Answer, answer_in, connected, everything, message, sent
 
 GROUPS = {"anna": "teller", "bert": "supervisor"}
 PEM = serialization.Encoding.PEM
@@ -23,6 +22,7 @@ KEY = ec.generate_private_key(ec.SECP256R1())
 DAY = datetime.timedelta(days=1)
 NAME, SERIAL, USER_ID = NameOID.COMMON_NAME, NameOID.SERIAL_NUMBER, NameOID.USER_ID
 UNIT, BANK = NameOID.ORGANIZATIONAL_UNIT_NAME, NameOID.ORGANIZATION_NAME
+USAGE = ExtendedKeyUsageOID
 Part = tuple[x509.ObjectIdentifier, str]
 
 
@@ -44,11 +44,7 @@ class Authority:
         self.name, self.key = name, key
 
     def certificate(
-        self,
-        name: x509.Name,
-        since: int = -1,
-        until: int = 1,
-        usage: x509.ObjectIdentifier = ExtendedKeyUsageOID.CLIENT_AUTH,
+        self, name: x509.Name, since: int = -1, until: int = 1, usage: Any = USAGE.CLIENT_AUTH
     ) -> str:
         now = datetime.datetime.utcnow()
         dates, number = (now + since * DAY, now + until * DAY), x509.random_serial_number()
@@ -82,17 +78,13 @@ class Scene(RecordedSite):
         return made
 
     def answer(self, context: ssl.SSLContext, line: bytes) -> Answer:
-        with connected(self, context, 10) as wire:
-            wire.sendall(message(line))
-            return answer_in(everything(wire))
+        return answer_in(sent(self, context, [message(line)], patience=10))
 
     def rights(self, context: ssl.SSLContext) -> tuple[str | None, str, bool, bool]:
         """What a client has: the name and groups that /user says, and whether it is served as a teller and as a supervisor."""
         user = self.answer(context, b"GET /user HTTP/1.1").json()
-        teller, supervisor = (
-            self.answer(context, b"POST %s HTTP/1.1" % path).text == ANSWER.decode()
-            for path in (b"/redeem", b"/day/close")
-        )
+        lines = (b"POST /redeem HTTP/1.1", b"POST /day/close HTTP/1.1")
+        teller, supervisor = (self.answer(context, one).text == ANSWER.decode() for one in lines)
         return user.get("user"), user.get("groups", ""), teller, supervisor
 
     def rights_of(self, name: x509.Name) -> tuple[str | None, str, bool, bool]:
@@ -108,7 +100,6 @@ def scene(tmp_path_factory: pytest.TempPathFactory) -> Iterator[Scene]:
 NOBODY = (None, "", False, False)
 ANNA = named("anna")
 SELF = Authority(ANNA, KEY)
-USAGE = ExtendedKeyUsageOID
 #: Certificates that get nothing, by the site's authority. A chain may have more than one.
 KEPT_OUT: dict[str, Callable[[Authority], str]] = {
     "another authority": lambda _: Authority(named("other"), KEY).certificate(ANNA),
@@ -219,9 +210,7 @@ VERSIONS = (ssl.TLSVersion.TLSv1_2, ssl.TLSVersion.TLSv1_3)
 
 
 @pytest.mark.parametrize("version", VERSIONS)
-def test_a_revoked_certificate_is_refused_though_its_session_is_resumed(
-    scene: Scene, version: ssl.TLSVersion
-) -> None:
+def test_a_resumed_session_of_the_revoked(scene: Scene, version: ssl.TLSVersion) -> None:
     assert resumed(scene, version) == 400
 
 
@@ -249,30 +238,22 @@ def test_a_list_of_revoked_certificates_past_its_date_keeps_everybody_out(scene:
     assert scene.ask("anna", "GET", "/user").status == 200, "control: a new list lets them in"
 
 
-def revoked_in_mid_body(scene: Scene) -> tuple[float, int]:
-    """A teller sends a payment for 15 seconds. Meanwhile her certificate is revoked, and nginx reloaded. How long after that her connection lives, and how many payments the counter gets."""
+@pytest.mark.parametrize("is_cut_off", [True, False], ids=["cut off", "control"])
+def test_a_teller_who_is_revoked_in_mid_body(tmp_path: Path, is_cut_off: bool) -> None:
+    """She sends a payment for 15 seconds. Meanwhile her certificate is revoked, and nginx reloaded. Without the limit of its old workers, the control, she pays."""
     whole = message(b"POST /redeem HTTP/1.1", b"{" + b" " * 28 + b"}")
-    with connected(scene, scene.context("anna"), 30) as wire:
-        wire.sendall(whole[:-30])
-        scene.staff.dismiss("anna")
-        scene.reload()
-        begun = time.monotonic()
-        with contextlib.suppress(OSError):
-            for at in range(len(whole) - 30, len(whole)):
-                wire.sendall(whole[at : at + 1])
-                time.sleep(0.5)
-        everything(wire)
-    return time.monotonic() - begun, len(scene.recorder.take())
-
-
-def test_a_teller_who_is_revoked_in_mid_body_is_cut_off(tmp_path: Path) -> None:
-    with Scene(tmp_path) as scene:
-        lived, paid = revoked_in_mid_body(scene)
-        assert 5 < lived < 12 and paid == 0
+    changed = {} if is_cut_off else {"worker_shutdown_timeout 10s;": ""}
+    with Scene(tmp_path, **changed) as scene:
+        with connected(scene, scene.context("anna"), 30) as wire:
+            wire.sendall(whole[:-30])
+            scene.staff.dismiss("anna")
+            scene.reload()
+            begun = time.monotonic()
+            with contextlib.suppress(OSError):
+                for at in range(len(whole) - 30, len(whole)):
+                    wire.sendall(whole[at : at + 1])
+                    time.sleep(0.5)
+            everything(wire)
+        lived, paid = time.monotonic() - begun, len(scene.recorder.take())
+        assert (5 < lived < 12, lived > 14, paid) == (is_cut_off, not is_cut_off, not is_cut_off)
         assert scene.ask("anna", "GET", "/user").status == 400
-
-
-def test_control_without_worker_shutdown_timeout_she_pays(tmp_path: Path) -> None:
-    with Scene(tmp_path, **{"worker_shutdown_timeout 10s;": ""}) as scene:
-        lived, paid = revoked_in_mid_body(scene)
-        assert lived > 14 and paid == 1

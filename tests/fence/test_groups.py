@@ -8,9 +8,8 @@ from typing import Iterator, Mapping
 
 import pytest
 
-from tests.fence.recorder import ANSWER, UNLIMITED, RecordedSite
-from tests.fence.site import CLIENT, Answer, Site
-from tests.fence.wire import answer_in, connected, everything, message, sent
+from tests.fence.site import ANSWER, UNLIMITED, RecordedSite
+from tests.fence.site import CLIENT, Answer, Site, answer_in, connected, everything, message, sent
 
 GROUPS = {"anna": "teller", "bert": "supervisor", "cleo": "office", "rita": "registrar"}
 GROUPS |= {"dora": "teller registrar", "erik": ""}
@@ -55,13 +54,8 @@ def allowed(site: Site) -> dict[str, set[str]]:
 
 
 def test_each_group_has_its_own_routes(recorded: RecordedSite) -> None:
-    members = {
-        group: {
-            user for user, those in GROUPS.items() if group in f"{those} {those and 'any'}".split()
-        }
-        for group in ROUTES.values()
-    }
-    wanted = {route: members[group] for route, group in ROUTES.items()}
+    groups = {user: f"{those} {those and 'any'}".split() for user, those in GROUPS.items()}
+    wanted = {route: {u for u in groups if ROUTES[route] in groups[u]} for route in ROUTES}
     assert allowed(recorded) == wanted
     entries = {(e["user"], e["route"]) for e in recorded.log() if e["counter"]}
     posts = {route[5:]: users for route, users in wanted.items() if route[0] == "P"}

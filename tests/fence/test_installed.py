@@ -1,20 +1,23 @@
-"""What the package puts on a machine beside the fence: man pages, completion, the clients, and a unit that has started once it serves."""
+"""What the package puts on a machine beside the fence: man pages, completion, the clients, and a unit that has started once it serves. And docs/INSTALL.md to the letter on a Debian that has nothing but systemd."""
 
+import glob
 import os
 import pty
 import re
 import select
 import shutil
 import subprocess
+import tempfile
 import time
 from pathlib import Path
 from typing import Any, Iterator
 
 import pytest
 
-from tests.conftest import until
-from tests.fence.conftest import Machine, blocks
-from tests.shared.counter_calls import make_version_one
+from tests.conftest import MEMORY, until
+from tests.fence.conftest import Machine, Release, blocks
+from tests.fence.fresh import bootstrap
+from tests.shared.counter_calls import done, end, make_version_one
 
 pytestmark = [pytest.mark.root, pytest.mark.machine, pytest.mark.slow]
 
@@ -67,11 +70,10 @@ class Shell:
     def __init__(self, machine: Machine, name: str) -> None:
         words, begun = SHELLS[name]
         self.terminal, other = pty.openpty()
-        env = {"PATH": "/usr/sbin:/usr/bin", "TERM": "xterm", "HOME": "/root", "COLUMNS": "120"}
-        env |= {"LC_ALL": "C.UTF-8", "LINES": "40"}
+        env = "PATH=/usr/sbin:/usr/bin TERM=xterm HOME=/root COLUMNS=120 LINES=40 LC_ALL=C.UTF-8"
+        line = machine.words("env", "-i", *env.split(), *words.split())
         ends: dict[str, Any] = {"stdin": other, "stdout": other, "stderr": other}
-        line = machine.words(*words.split())
-        self.process = subprocess.Popen(line, env=env, start_new_session=True, **ends)
+        self.process = subprocess.Popen(line, start_new_session=True, **ends)
         os.close(other)
         self.send(f"PS1='ready> '; {begun}\necho begun-$((40 + 2))\n")
         self.wait("begun-42")
@@ -106,8 +108,7 @@ class Shell:
         return line
 
     def end(self) -> None:
-        self.process.kill()
-        self.process.wait()
+        end(self.process)
         os.close(self.terminal)
 
 
@@ -128,12 +129,11 @@ def test_a_shell_completes(shell: Shell) -> None:
 def test_control_without_its_file_a_shell_completes_nothing(machine: Machine, name: str) -> None:
     machine.shell(f"mv /usr/share/{FILES[name]} /root/kept")
     shell = Shell(machine, name)
-    try:
-        typed, wanted = TYPED[0]
-        assert wanted not in shell.completed(typed)
-    finally:
-        shell.end()
-        machine.shell(f"mv /root/kept /usr/share/{FILES[name]}")
+    typed, wanted = TYPED[0]
+    found = shell.completed(typed)
+    shell.end()
+    machine.shell(f"mv /root/kept /usr/share/{FILES[name]}")
+    assert wanted not in found
 
 
 def test_the_clients_are_answered_through_nginx(machine: Machine) -> None:
@@ -153,22 +153,12 @@ def test_the_auditors_report_finds_nothing_wrong(machine: Machine) -> None:
 
 def test_cron_copies_the_store(machine: Machine) -> None:
     """By the page's line, as cron runs it; the store is on a file system that it takes."""
-    disk = (
-        "mkdir /srv/copies; mount -t tmpfs tmpfs /srv/copies; cp /var/lib/counter/* /srv/copies\n"
-    )
-    machine.shell(disk + blocks("INSTALL", "Where things are")[1])
+    disk = "mkdir /srv/copies; mount -t tmpfs tmpfs /srv/copies"
+    machine.shell(f"{disk}; cp /var/lib/counter/* /srv/copies")
+    machine.shell(blocks("INSTALL", "Where things are")[1])
     line = Path(machine.path("/etc/cron.d/counter-copy")).read_text().replace("\\%", "%")
     said = machine.shell(line.split(None, 6)[6].replace("/var/lib/counter", "/srv/copies"))
     assert ": copied and opened, with " in said
-
-
-def large_store(machine: Machine, program: Path, folder: Path, bonds: int) -> None:
-    file = folder / "large.db"
-    make_version_one(file, bonds, bonds // 10)
-    subprocess.run([program, "export", "999999999", "--db", file], check=True)
-    machine.shell("systemctl stop counter.service; mkdir kept; mv /var/lib/counter/day.db* kept/")
-    shutil.copy(file, machine.path(STORE))
-    machine.shell(f"chown counter:counter {STORE}")
 
 
 def started(machine: Machine) -> tuple[int, str]:
@@ -181,7 +171,12 @@ def test_start_returns_once_the_counter_serves(
     machine: Machine, program: Path, folder: Path
 ) -> None:
     """Over 100,000 bonds, which take seconds to open. The controls: a unit without the wait, and a store that no start can mend."""
-    large_store(machine, program, folder, 100_000)
+    file = folder / "large.db"
+    make_version_one(file, 100_000, 10_000)
+    done(program, "export", "999999999", "--db", file)
+    machine.shell("systemctl stop counter.service; mkdir kept; mv /var/lib/counter/day.db* kept/")
+    shutil.copy(file, machine.path(STORE))
+    machine.shell(f"chown counter:counter {STORE}")
     assert started(machine) == (0, UNKNOWN)
     machine.write(PLAIN, "[Service]\nExecStartPost=\n")
     machine.shell("systemctl stop counter.service; systemctl daemon-reload")
@@ -213,16 +208,15 @@ def test_the_first_day_by_the_page(machine: Machine) -> None:
     assert "<!doctype html>" in machine.ask("anna", "/teller/").lower()
 
 
-def is_cut_off(machine: Machine, name: str) -> None:
-    """A person's certificate is refused within the ten seconds that the page says, and some for a slow machine."""
-    until(lambda: '"forbidden":"certificate"' in machine.ask(name, "/user"), name, 15)
-
-
 def test_dismissed_and_replaced_by_the_page(machine: Machine) -> None:
-    """The commands of docs/WHO_MAY_DO_WHAT.md, in its order."""
+    """The commands of docs/WHO_MAY_DO_WHAT.md, in its order. A certificate is refused within the ten seconds that the page says, and some for a slow machine."""
+
+    def is_refused() -> bool:
+        return '"forbidden":"certificate"' in machine.ask("anna", "/user")
+
     (function,) = blocks("WHO_MAY_DO_WHAT", "An authority on the counter's machine")
     machine.shell(function + blocks("WHO_MAY_DO_WHAT", "Replace")[0])
-    is_cut_off(machine, "anna")
+    until(is_refused, seconds=15)
     kept = "cat /etc/counter/staff/issued/anna.crt /etc/counter/staff/private/anna.key > anna.pem"
     machine.shell(kept)
     assert machine.ask("anna", "/user") == '{"user":"anna","groups":"teller"}'
@@ -231,5 +225,36 @@ def test_dismissed_and_replaced_by_the_page(machine: Machine) -> None:
     read = "openssl pkcs12 -in /etc/counter/staff/private/anna.p12 -passin file:anna.passphrase"
     machine.shell(f"{read} -nokeys | grep -q CERT")
     machine.shell(function + blocks("WHO_MAY_DO_WHAT", "Dismiss")[0])
-    is_cut_off(machine, "anna")
+    until(is_refused, seconds=15)
     assert "R\t" in machine.shell(blocks("WHO_MAY_DO_WHAT", "List")[0])
+
+
+@pytest.fixture(scope="module")
+def minimal() -> Iterator[Machine]:
+    with tempfile.TemporaryDirectory(prefix="minimal.", dir=MEMORY) as folder:
+        base = bootstrap(f"{folder}/root", included="systemd,systemd-sysv")
+        made = Machine(base, tempfile.mkdtemp(dir=folder))
+        yield made
+        made.end()
+
+
+def online(machine: Machine, text: str) -> str:
+    """What it prints in this machine's network."""
+    words = [word for word in machine.words("bash", "-euo", "pipefail", "-c") if word != "--net"]
+    env = {**os.environ, "DEBIAN_FRONTEND": "noninteractive", "LC_ALL": "C.UTF-8"}
+    return done(*words, f"cd /root/release\n{text}", env=env)
+
+
+def test_install_to_the_letter(minimal: Machine, release: Release) -> None:
+    minimal.deliver(release)
+    minimal.write("/etc/apt/apt.conf.d/yes", "APT::Get::Assume-Yes true;\n")
+    for file in ("/etc/resolv.conf", *glob.glob("/etc/apt/apt.conf.d/99*")):
+        shutil.copy(file, minimal.path(file))
+    online(minimal, blocks("INSTALL", "Check that it is the proved one")[0])
+    online(minimal, "gpg --version > /dev/null; python3 --version; sha256sum --check SHA256SUMS")
+    online(minimal, blocks("INSTALL", "Install it")[0])
+    minimal.shell("\n".join(blocks("INSTALL", "The first day")))
+    minimal.shell(blocks("INSTALL", "End the trial")[0])
+    assert minimal.ask("anna", "/user") == '{"user":"anna","groups":"teller"}'
+    ran = minimal.on("sh", "-c", "cd /root; " + blocks("INSTALL", "Test the setup")[0])
+    assert ran.returncode == 3, ran.stdout

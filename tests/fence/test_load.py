@@ -1,11 +1,11 @@
-"""Many clients at once: half-open handshakes, slow and silent ones, a page of another site that asks again and again. Each request of a teller is answered."""
+"""Many clients at once: half-open handshakes, slow and silent ones, a page of another site that asks again and again. Each request of a teller is answered. And 1,000 payments while nginx and the counter are restarted and killed 50 times: each is paid once, and has an entry in nginx's log."""
 
 import contextlib
+import http.client
 import json
 import resource
 import select
 import socket
-import statistics
 import threading
 import time
 from collections import Counter as Count
@@ -16,9 +16,9 @@ from typing import Iterator
 import pytest
 
 from tests.fence.conftest import Counter, MakeSite
-from tests.fence.recorder import UNLIMITED, RecordedSite
-from tests.fence.site import Answer, Site
-from tests.fence.wire import answer_in, connected, everything, message, sent
+from tests.fence.site import UNLIMITED, Answer, RecordedSite, Site, answer_in, connected, everything
+from tests.fence.site import message, sent
+from tests.shared.counter_calls import rows
 
 GROUPS = {"anna": "teller", "bert": "supervisor"}
 DAY = "2012-02-06"
@@ -61,22 +61,18 @@ class Flood(threading.Thread):
         self.join()
 
 
-def beside(site: RecordedSite, count: int, seconds: float) -> tuple[list[float | None], int]:
-    """A teller asks again and again beside a flood. How long each answer took, or None if none came within five seconds; and how many handshakes there were at once."""
-    flood, took, begun = Flood(site, count), [], time.monotonic()
-    context = site.context("anna")
-    while (now := time.monotonic()) - begun < seconds:
-        answer: float | None = None
+def beside(site: RecordedSite, count: int, seconds: float) -> tuple[list[bool], int]:
+    """A teller asks again and again beside a flood. Whether an answer came within five seconds, each time; and how many handshakes there were at once."""
+    flood, answered, context = Flood(site, count), list[bool](), site.context("anna")
+    end = time.monotonic() + seconds
+    while time.monotonic() < end:
+        answered.append(False)
         with contextlib.suppress(OSError, AssertionError):
-            if answer_in(sent(site, context, [message(REDEEM, b"{}")], patience=5)).status == 200:
-                answer = time.monotonic() - now
-        took.append(answer)
+            text = sent(site, context, [message(REDEEM, b"{}")], patience=5)
+            answered[-1] = answer_in(text).status == 200
         time.sleep(0.05)
     flood.end()
-    answered = sorted(one for one in took if one is not None) or [0]
-    said = f"{len(answered)} of {len(took)} answered, median {statistics.median(answered):.2f} s"
-    print(f"{said}, beside {flood.opened} handshakes, {flood.most} at once")
-    return took, flood.most
+    return answered, flood.most
 
 
 @pytest.fixture
@@ -94,8 +90,8 @@ def many_files() -> Iterator[None]:
 def test_half_open_handshakes_keep_no_teller_out(tmp_path: Path, many_files: None) -> None:
     """Without any rule of a firewall: nginx has connections to spare, and lets each go after five seconds."""
     with RecordedSite(tmp_path, GROUPS) as site:
-        took, most = beside(site, 12_000, 20)
-    assert None not in took and len(took) > 20 and most > 10_000
+        answered, most = beside(site, 12_000, 20)
+    assert all(answered) and len(answered) > 20 and most > 10_000
 
 
 FEW = {"worker_connections 15000;": "worker_connections 768;"}
@@ -104,8 +100,8 @@ FEW |= {"client_header_timeout 5s;": "client_header_timeout 30s;"}
 
 def test_control_with_debians_own_settings_they_do(tmp_path: Path, many_files: None) -> None:
     with RecordedSite(tmp_path, GROUPS, {**UNLIMITED, **FEW}) as site:
-        took, _ = beside(site, 12_000, 10)
-    assert took.count(None) > len(took) / 2
+        answered, _ = beside(site, 12_000, 10)
+    assert answered.count(False) > len(answered) / 2
 
 
 def asked_by_another_site(site: RecordedSite) -> Count[int]:
@@ -157,23 +153,15 @@ def slow_client(site: Site, nth: int, is_over: threading.Event) -> Answer | None
         return answer_in(everything(line))
 
 
-@pytest.fixture
-def counter(program: Path, folder: Path) -> Iterator[Counter]:
-    made = Counter(program, folder / "store", bonds=750)
-    yield made
-    made.end()
-
-
 def test_clients_pay_beside_slow_and_silent_ones(site: MakeSite, counter: Counter) -> None:
     """50 pay 400 bonds, each of which two of them ask for, beside 200 that are slow or silent."""
     made, is_over = site(GROUPS, changed=UNLIMITED), threading.Event()
     made.ask("bert", "POST", "/day/open", {"number": 10, "day": DAY})
     context = made.context("anna")
 
-    def pay(number: int) -> tuple[float, int, str]:
-        begun = time.monotonic()
+    def pay(number: int) -> tuple[int, str]:
         answer = answer_in(sent(made, context, [redemption(number, number % 400 + 1)], patience=60))
-        return time.monotonic() - begun, answer.status, answer.text
+        return answer.status, answer.text
 
     with ThreadPoolExecutor(200) as slow, ThreadPoolExecutor(50) as paying:
         held = [slow.submit(slow_client, made, nth, is_over) for nth in range(200)]
@@ -181,9 +169,95 @@ def test_clients_pay_beside_slow_and_silent_ones(site: MakeSite, counter: Counte
         told = list(paying.map(pay, range(1, 801)))
         is_over.set()
         late = [answer for one in held if (answer := one.result())]
-    took = sorted(one[0] for one in told)
-    print(f"median {statistics.median(took):.2f} s, at most {took[-1]:.2f} s")
-    assert Count(status for _, status, _ in told) == {200: 400, 409: 400}
-    assert all("AlreadyPaid" in text for _, status, text in told if status == 409)
+    assert Count(status for status, _ in told) == {200: 400, 409: 400}
+    assert all("AlreadyPaid" in text for status, text in told if status == 409)
     assert [answer.status for answer in late] == [200] * 50
-    assert [pay(number)[1:] for number in range(1, 801)] == [one[1:] for one in told], "again"
+    assert [pay(number) for number in range(1, 801)] == told, "again"
+
+
+#: Payments for each restart.
+EACH = 20
+NEVER = "given up"
+#: The seconds for which a teller sends a payment again.
+PATIENCE = 120
+
+
+def restarted(site: Site, counter: Counter, nth: int) -> None:
+    """nginx is restarted as its unit does, or killed; the counter is killed."""
+    if nth % 2:
+        counter.end()
+        counter.start()
+    elif nth % 4:
+        site.restart()
+    else:
+        site.kill()
+        site.process = site.start()
+
+
+def pay(site: Site, number: int, is_again: bool) -> str:
+    """The reply to a payment, which is sent until it comes if `is_again`. Its bond is that of its number."""
+    value = {"desk": 1, "number": number, "day": DAY, "payee": 7, "serials": [f"B{number}EE"]}
+    deadline = time.monotonic() + (PATIENCE if is_again else 0)
+    while True:
+        with contextlib.suppress(OSError, http.client.HTTPException):
+            answer = site.ask("anna", "POST", "/redeem", value)
+            if answer.status == 200:
+                return answer.text
+            assert answer.status == 502, answer
+        if time.monotonic() >= deadline:
+            return NEVER
+        time.sleep(0.05)
+
+
+def paid(site: Site, counter: Counter, restarts: int, is_again: bool = True) -> dict[int, str]:
+    """Eight tellers pay while nginx and the counter are restarted. Returns the reply to each payment by its number."""
+    site.ask("bert", "POST", "/day/open", {"number": 5000, "day": DAY})
+    allowed, count = threading.Semaphore(0), restarts * EACH
+
+    def one(number: int) -> tuple[int, str]:
+        allowed.acquire()
+        return number, pay(site, number, is_again)
+
+    with ThreadPoolExecutor(8) as pool:
+        told = [pool.submit(one, number) for number in range(1, count + 1)]
+        for nth in range(restarts):
+            allowed.release(EACH)
+            restarted(site, counter, nth)
+        return dict(reply.result(timeout=2 * PATIENCE) for reply in told)
+
+
+def logged(site: Site) -> set[int]:
+    return {json.loads(entry["body"])["number"] for entry in site.log() if entry["counter"]}
+
+
+@pytest.mark.slow
+def test_each_payment_is_paid_once_and_logged(site: MakeSite, counter: Counter) -> None:
+    made = site(GROUPS, changed=UNLIMITED)
+    told = paid(made, counter, 50)
+    assert set(told) == set(range(1, 1001)) and NEVER not in told.values()
+    made.restart()
+    assert logged(made) >= set(told)
+    counter.end()
+    kept = rows(counter.store, "SELECT number, reply FROM answers WHERE desk = 1")
+    assert sorted(kept) == sorted(told.items())
+    tickets = sorted(json.loads(reply)["ticket"] for reply in told.values())
+    assert tickets == list(range(1, 1001))
+    counts = "SELECT count(*), count(DISTINCT number) FROM paid"
+    assert rows(counter.store, counts) == [(1000, 1000)]
+
+
+@pytest.mark.slow
+def test_control_who_sends_once_loses_replies(site: MakeSite, counter: Counter) -> None:
+    assert NEVER in paid(site(GROUPS, changed=UNLIMITED), counter, 8, is_again=False).values()
+
+
+@pytest.mark.slow
+def test_control_without_a_write_for_each_entry_some_are_lost(
+    site: MakeSite, counter: Counter
+) -> None:
+    changed = {"counter_posts if=$is_post;": "counter_posts buffer=1m if=$is_post;"}
+    made = site(GROUPS, changed={**UNLIMITED, **changed})
+    told = paid(made, counter, 8)
+    made.kill()
+    made.process = made.start()
+    assert not logged(made) >= set(told)

@@ -1,5 +1,6 @@
 """nginx's log has the body of each request that the counter may have acted on, once it is answered. Nobody fills its disk."""
 
+import contextlib
 import json
 import random
 import time
@@ -11,9 +12,8 @@ import pytest
 
 from tests.conftest import TOP
 from tests.fence.conftest import Counter, MakeSite
-from tests.fence.recorder import ANSWER, UNLIMITED, RecordedSite
-from tests.fence.site import Site
-from tests.fence.wire import HEADERS, answer_in, connected, message, sent
+from tests.fence.site import ANSWER, UNLIMITED, RecordedSite
+from tests.fence.site import HEADERS, Site, answer_in, connected, message, sent
 from tests.shared.counter_calls import run
 
 GROUPS = {"anna": "teller", "bert": "supervisor", "cleo": "registrar"}
@@ -31,14 +31,13 @@ def entry_of(site: Site, text: bytes, seconds: float = 5) -> dict[str, Any] | No
     """The entry of a response, within these seconds. Bodies may have bytes that aren't UTF-8."""
     name = answer_in(text).headers["X-Request-Id"].encode()
     deadline = time.monotonic() + seconds
-    while True:
+    while time.monotonic() < deadline:
         for line in (site.folder / "log/counter.log").read_bytes().splitlines():
             if b'"entry":"%s"' % name in line[:100]:
                 found: dict[str, Any] = json.loads(line.decode("utf-8", "surrogateescape"))
                 return found
-        if time.monotonic() > deadline:
-            return None
         time.sleep(0.02)
+    return None
 
 
 def is_logged(site: RecordedSite, body: bytes, pieces: list[bytes], pause: float = 0) -> bool:
@@ -163,67 +162,55 @@ def test_each_body_that_the_counter_takes_has_its_teller(site: MakeSite, counter
     assert len(lost) == paid, "control: without the log nobody is named"
 
 
-def logged_by(
-    site: RecordedSite, user: str | None, line: bytes, body: bytes, count: int = 400
-) -> tuple[float, float]:
-    """Sends such a request again and again. Returns the bytes that the log grows by for each, and in a second."""
+def logged_by(site: RecordedSite, user: str | None, message: bytes) -> tuple[float, float]:
+    """Sends it 400 times. Returns the bytes that the log grows by for each, and in a second."""
     log, context = site.folder / "log/counter.log", site.context(user)
     before, begun = log.stat().st_size, time.monotonic()
     with ThreadPoolExecutor(8) as pool:
-        list(pool.map(lambda _: sent(site, context, [message(line, body)]), range(count)))
+        list(pool.map(lambda _: sent(site, context, [message]), range(400)))
     time.sleep(0.2)
     grown = log.stat().st_size - before
-    return grown / count, grown / (time.monotonic() - begun)
+    return grown / 400, grown / (time.monotonic() - begun)
 
 
 #: What becomes longest in a log: each of these bytes is written as six.
-REFUSED = b"\x01" * 9999
+LONGEST = b"\x01" * 9999
+REFUSED = message(b"POST /redeem HTTP/1.1", LONGEST)
 
 
 def test_refused_requests_do_not_fill_the_disk(tmp_path: Path) -> None:
     with RecordedSite(tmp_path, GROUPS, {}) as site:
         site.recorder.status = 400
-        for line, body in (
-            (b"POST /redeem HTTP/1.1", REFUSED),
-            (b"POST /bonds HTTP/1.1", REFUSED),
-            (b"POST /%s HTTP/1.1" % (b"%01" * 1000), b""),
-        ):
-            each, second = logged_by(site, "anna", line, body)
-            print(f"{each:.0f} bytes for each request, {second / 1000:.0f} kB in a second")
+        no_route = message(b"POST /%s HTTP/1.1" % (b"%01" * 1000))
+        for refused in (REFUSED, message(BONDS, LONGEST), no_route):
+            each, second = logged_by(site, "anna", refused)
             assert 0 < each < 2000 and second < 1_000_000
-        of_stranger = logged_by(site, None, b"POST /redeem HTTP/1.1", REFUSED)
-        assert of_stranger == (0, 0), "nothing of a stranger"
+        assert logged_by(site, None, REFUSED) == (0, 0), "nothing of a stranger"
 
 
 def test_control_if_bodies_were_logged_whole_the_disk_would_fill(tmp_path: Path) -> None:
     changed = {**UNLIMITED, "default $body_begin;": "default $request_body;"}
     with RecordedSite(tmp_path, GROUPS, changed) as site:
         site.recorder.status = 400
-        assert logged_by(site, "anna", b"POST /redeem HTTP/1.1", REFUSED)[0] > 50_000
-
-
-def killed_behind_a_client(site: RecordedSite) -> bool:
-    """A client has its answer, keeps the connection, and sends on; a second later nginx is killed. Whether the entry is written."""
-    with connected(site, site.context("anna")) as line:
-        line.sendall(message(b"POST /redeem HTTP/1.1", b"{}") + b"more")
-        text = line.recv(65536)
-        while ANSWER not in text:
-            text += line.recv(65536)
-        try:
-            for _ in range(10):
-                line.sendall(b"more")
-                time.sleep(0.1)
-        except OSError:
-            time.sleep(1)
-        site.kill()
-    return entry_of(site, text, 1) is not None
+        assert logged_by(site, "anna", REFUSED)[0] > 50_000
 
 
 @pytest.mark.parametrize("lingering, is_written", [("off", True), ("always", False), ("on", False)])
 def test_the_entry_is_written_when_the_answer_is_given(
     tmp_path: Path, lingering: str, is_written: bool
 ) -> None:
-    """With the other two values, which are the controls, nginx writes it when the client has gone."""
+    """A client has its answer, keeps the connection, and sends on; a second later nginx is killed. With the other two values, which are the controls, nginx writes the entry when the client has gone."""
     changed = {"lingering_close off": f"lingering_close {lingering}"}
     with RecordedSite(tmp_path, GROUPS, changed) as site:
-        assert killed_behind_a_client(site) == is_written
+        with connected(site, site.context("anna")) as line:
+            line.sendall(message(b"POST /redeem HTTP/1.1", b"{}") + b"more")
+            text = line.recv(65536)
+            while ANSWER not in text:
+                text += line.recv(65536)
+            end = time.monotonic() + 1
+            while time.monotonic() < end:
+                with contextlib.suppress(OSError):
+                    line.sendall(b"more")
+                time.sleep(0.1)
+            site.kill()
+        assert (entry_of(site, text, 1) is not None) == is_written

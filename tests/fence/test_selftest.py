@@ -14,43 +14,21 @@ from typing import Any, Iterator, NamedTuple
 import pytest
 
 from tests.fence.conftest import Machine, blocks
-from tests.fence.fresh import done
+from tests.shared.counter_calls import done
 
 pytestmark = [pytest.mark.root, pytest.mark.machine, pytest.mark.slow]
 
 COMMAND = blocks("INSTALL", "Test the setup")[0].strip()
 KINDS = ("right", "WRONG", "accepted", "not set up", "not tested")
-SHARE, REQUESTS = "/usr/share/ladwenpik", "/srv/requests/requests.log"
+SHARE = "/usr/share/ladwenpik"
 SITE, PAGE = f"{SHARE}/nginx/nginx.conf", f"{SHARE}/teller/main.js"
 ACCEPTED = "/etc/counter/selftest_accepted"
-STAFF = blocks("WHO_MAY_DO_WHAT", "An authority on the counter's machine")[0]
-#: What the self-test mustn't change. nginx's logs, and what the archiver and Prometheus's exporter write meanwhile, are left out.
-STATE = r"""
-find /etc /usr/share/ladwenpik /var/lib /srv/copies /srv/requests /root -printf '%p %U %G %m %s %C@\n' | grep -v -e requests.log -e /var/lib/prometheus | sort
-find /etc /var/lib/counter -type f -exec sha256sum {} + | sort
-ss -Hltn | sort; ss -Hlx | sort
-systemctl list-units --no-legend --plain --state=failed
-ls -A /tmp /var/tmp /run /dev/shm
-"""
-#: All that a bank sets up, by samples/snapshots, docs/INSTALL.md and samples/nginx, and a day on which a bond is paid.
-DISKS = f"""
-systemctl stop counter.service
-mkdir -p /srv/counter /srv/copies /srv/archive kept
-mount /dev/counter /srv/counter
-btrfs -q subvolume create /srv/counter/store
-mkdir /srv/counter/snapshots
-mv /var/lib/counter/* kept
-mount -o subvol=store /dev/counter /var/lib/counter
-chown counter:counter /var/lib/counter; chmod 700 /var/lib/counter
-mv kept/* /var/lib/counter; rmdir kept
-mount /dev/copies /srv/copies
-install -d -o root -g adm -m 750 /srv/requests
-install -o root -g adm -m 640 /dev/null {REQUESTS}
-ln -s {SHARE}/nginx/replies /etc/counter/extra/replies
-systemctl restart counter-nginx.service
-{STAFF}
-staff build-client-full eve nopass
-"""
+KINDS_OF: dict[str, Any] = tomllib.loads((Path(__file__).parent / "weakenings.toml").read_text())
+#: What stands for words in capitals there.
+SHORT: dict[str, str] = {name: KINDS_OF.pop(name) for name in [*KINDS_OF] if name.isupper()}
+SHORT["STAFF"] = blocks("WHO_MAY_DO_WHAT", "An authority on the counter's machine")[0]
+TRIAL = "".join(blocks("INSTALL", "The first day"))
+SHORT["TRIAL"] = re.findall(r"(?ms)^mkdir .*?^END\n", TRIAL)[0]
 BONDS = '{"number":2,"bonds":[{"serial":"R6EE","denom":200,"issued":"2011-12","owner":9}]}'
 DAY = '{"number":3,"day":"2026-11-30"}'
 REDEEM = '{"number":4,"day":"2026-11-30","payee":9,"serials":["R6EE"]}'
@@ -85,7 +63,7 @@ def whole(machine: Machine, tmp_path_factory: pytest.TempPathFactory) -> Iterato
             devices.append(done("losetup", "--find", "--show", str(disk)).strip())
             number = os.stat(devices[-1]).st_rdev
             os.mknod(machine.path(f"/dev/{disk.name}"), 0o060600, number)
-        machine.shell(DISKS + blocks("INSTALL", "Where things are")[0])
+        machine.shell(long(SHORT["DISKS"]) + blocks("INSTALL", "Where things are")[0])
         machine.shell("systemctl restart counter.service && systemctl start counter-copy.service")
         machine.ask("cleo", "/bonds", BONDS)
         machine.ask("bert", "/day/open", DAY)
@@ -139,7 +117,7 @@ def test_a_certificate_that_the_machine_does_not_trust_is_wrong(machine: Machine
 def test_with_all_set_up_each_line_is_right_and_nothing_changes(whole: Machine) -> None:
     """Meanwhile a teller is answered, each time within two seconds."""
     words = whole.words("bash", "-c", ASKS)
-    before = whole.shell(STATE)
+    before = whole.shell(SHORT["STATE"])
     with subprocess.Popen(words, stdout=subprocess.PIPE, text=True) as teller:
         found = Found(whole)
         answers = [line.split() for line in teller.communicate(timeout=120)[0].splitlines()]
@@ -147,9 +125,9 @@ def test_with_all_set_up_each_line_is_right_and_nothing_changes(whole: Machine) 
     assert found.status == 0, found.text
     assert [status for status, _ in answers] == ["200"] * 40
     assert max(float(seconds) for _, seconds in answers) < 2
-    assert whole.shell(STATE) == before
+    assert whole.shell(SHORT["STATE"]) == before
     whole.shell("touch /etc/counter/page/bank.js")
-    assert whole.shell(STATE) != before, "control: a file that is touched is seen"
+    assert whole.shell(SHORT["STATE"]) != before, "control: a file that is touched is seen"
 
 
 def test_an_authority_of_the_bank_has_neither_a_key_nor_an_index_here(whole: Machine) -> None:
@@ -157,17 +135,6 @@ def test_an_authority_of_the_bank_has_neither_a_key_nor_an_index_here(whole: Mac
     found = Found(whole)
     whole.shell("mv away/* /etc/counter/staff; rmdir away")
     assert (found.status, found.names["WRONG"]) == (0, set()), found.text
-
-
-#: What stands for these words in weakenings.toml. A reload of a wrong configuration is refused.
-SHORT: dict[str, str] = {
-    "RELOAD": "(systemctl reload counter-nginx.service || true)",
-    "COUNTER": "systemctl daemon-reload; systemctl restart counter.service",
-    "STAFF": STAFF,
-    "TRIAL": re.findall(r"(?ms)^mkdir .*?^END\n", "".join(blocks("INSTALL", "The first day")))[0],
-    "OTHER": 'staff() { /usr/share/easy-rsa/easyrsa --batch --pki-dir=/root/other "$@"; }\n'
-    "rm -rf other; staff init-pki; staff --req-cn=other build-ca nopass; staff gen-crl",
-}
 
 
 class Weakening(NamedTuple):
@@ -221,7 +188,6 @@ def more_rights(mode: str, path: str) -> Weakening:
     return Weakening(f"{path} with mode {mode}", f"{do}; RELOAD", f"{undo}; RELOAD", named)
 
 
-KINDS_OF = tomllib.loads((Path(__file__).parent / "weakenings.toml").read_text())
 RIGHTS = KINDS_OF.pop("rights").items()
 WEAKENINGS = [more_rights(mode, path) for mode, paths in RIGHTS for path in paths]
 for kind, entries in KINDS_OF.items():

@@ -9,11 +9,9 @@ from pathlib import Path
 from typing import Callable
 
 from tests.fence.conftest import Counter
-from tests.fence.recorder import Message, RecordedSite, Recorder
-from tests.fence.shapes import shapes
-from tests.fence.site import Site
-from tests.fence.spellings import spellings
-from tests.fence.wire import HEADERS, everything, message, sent
+from tests.fence.site import Message, RecordedSite, Recorder
+from tests.fence.shapes import shapes, spellings
+from tests.fence.site import HEADERS, Site, everything, message, sent
 
 GROUPS = {"anna": "teller", "bert": "supervisor", "cleo": "office", "rita": "registrar", "erik": ""}
 ROUTES = {b"/redeem": "teller", b"/rates": "office", b"/bonds": "registrar"}

@@ -1,6 +1,8 @@
 """500 tellers at once, while the counter stands still for three seconds: none is answered 502, and none later than twice as long as by a plain server in C."""
 
+import os
 import re
+import signal
 import socket
 import statistics
 import subprocess
@@ -15,19 +17,16 @@ import pytest
 
 from tests.conftest import TOP, is_listening, until
 from tests.fence.conftest import Counter, MakeSite
-from tests.fence.recorder import UNLIMITED
-from tests.fence.site import Site
+from tests.fence.site import UNLIMITED
+from tests.fence.site import Site, answer_in, sent
 from tests.fence.test_load import GROUPS, DAY, redemption
-from tests.fence.wire import answer_in, sent
-from tests.shared.counter_calls import free_port, piped
+from tests.shared.counter_calls import done, end, free_port, piped
 
 pytestmark = [pytest.mark.root, pytest.mark.slow]
 
 TELLERS, REQUESTS, STALL = 500, 900, 3
 #: A machine that other tests fill may be late by more than nginx waits: lost connections are looked for, not late ones.
 PATIENT = {**UNLIMITED, "proxy_read_timeout 60s;": "proxy_read_timeout 300s;"}
-
-
 UNITS = TOP / "samples/systemd"
 SERVICE = (UNITS / "counter-http.service").read_text()
 
@@ -42,34 +41,14 @@ class Network:
         self.words = ["nsenter", "-t", str(self.process.pid), "--net"]
         unit = (UNITS / "counter-network.service").read_text()
         (found,) = re.findall(r"-c '(cd /proc/sys/net.*)'$", unit, re.M)
-        words = [*self.words, "sh", "-c", found if settings is None else settings]
-        subprocess.run(words, check=True)
-
-    def wait_for(self, port: int) -> None:
-        until(lambda: is_listening(port, self.process.pid), "nobody listens")
-
-    def end(self) -> None:
-        self.process.kill()
-        self.process.wait()
+        done(*self.words, "sh", "-c", found if settings is None else settings)
 
 
 @pytest.fixture
-def network() -> Iterator[Network]:
-    made = Network()
+def network(request: pytest.FixtureRequest) -> Iterator[Network]:
+    made = Network(getattr(request, "param", None))
     yield made
-    made.end()
-
-
-class Program(Counter):
-    def __init__(self, network: Network, program: Path, folder: Path) -> None:
-        self.network = network
-        super().__init__(program, folder, bonds=REQUESTS)
-
-    def start(self) -> None:
-        words = [*self.network.words, str(self.program), "serve", "--db", str(self.store)]
-        words += ["--port", str(self.port)]
-        self.process = subprocess.Popen(words, stdout=subprocess.DEVNULL)
-        self.network.wait_for(self.port)
+    end(made.process)
 
 
 class InC:
@@ -78,14 +57,13 @@ class InC:
     def __init__(self, network: Network, folder: Path, more: int = 0) -> None:
         self.port, built = free_port(), folder / "server"
         source = str(Path(__file__).parent / "server.c")
-        subprocess.run(["gcc", "-O2", "-D_GNU_SOURCE", source, "-o", str(built)], check=True)
+        done("gcc", "-O2", "-D_GNU_SOURCE", source, "-o", built)
         words = [*network.words, str(built), str(self.port), str(folder / "bodies"), str(more)]
         self.process = subprocess.Popen(words)
-        network.wait_for(self.port)
+        until(lambda: is_listening(self.port, network.process.pid), "nobody listens")
 
     def end(self) -> None:
-        self.process.kill()
-        self.process.wait()
+        end(self.process)
 
 
 class Passing:
@@ -103,8 +81,7 @@ class Passing:
         self.process = subprocess.Popen(["sh", "-c", line], pass_fds=files, stderr=null)
 
     def end(self) -> None:
-        self.process.kill()
-        self.process.wait()
+        end(self.process)
         self.ear.close()
 
 
@@ -121,12 +98,12 @@ def stalled(site: Site, process: int) -> tuple[Count[int], float]:
             found.append((answer.status, time.monotonic() - start))
         return found
 
-    subprocess.run(["kill", "-STOP", str(process)], check=True)
+    os.kill(process, signal.SIGSTOP)
     with ThreadPoolExecutor(TELLERS) as pool:
         tellers = [pool.submit(teller, nth) for nth in range(TELLERS)]
         begun.wait()
         time.sleep(STALL)
-        subprocess.run(["kill", "-CONT", str(process)], check=True)
+        os.kill(process, signal.SIGCONT)
         answers = [answer for one in tellers for answer in one.result()]
     statuses, took = Count(status for status, _ in answers), sorted(one for _, one in answers)
     print(f"{dict(statuses)}, median {statistics.median(took):.1f} s, at most {took[-1]:.1f} s")
@@ -134,12 +111,12 @@ def stalled(site: Site, process: int) -> tuple[Count[int], float]:
 
 
 def through(
-    site: MakeSite, folder: Path, network: Network, server: Program | InC, service: str = SERVICE
+    site: MakeSite, folder: Path, network: Network, server: Counter | InC, service: str = SERVICE
 ) -> tuple[Count[int], float]:
     passing = Passing(network, folder, server.port, service)
     try:
         made = site(GROUPS, counter=f"http://unix:{passing.at}", changed=PATIENT)
-        if isinstance(server, Program):
+        if isinstance(server, Counter):
             made.ask("bert", "POST", "/day/open", {"number": 5000, "day": DAY})
         return stalled(made, server.process.pid)
     finally:
@@ -154,7 +131,8 @@ def test_no_answer_is_lost_or_late(
     site: MakeSite, folder: Path, program: Path, network: Network
 ) -> None:
     wanted, of_plain = through(site, folder, network, InC(network, folder))
-    found, longest = through(site, folder, network, Program(network, program, folder / "store"))
+    counter = Counter(program, folder / "store", network.words)
+    found, longest = through(site, folder, network, counter)
     assert found == wanted == ALL_SERVED and longest < 2 * of_plain
 
 
@@ -166,12 +144,11 @@ def test_nor_by_a_slow_server(site: MakeSite, folder: Path, network: Network) ->
     assert through(site, folder, network, InC(network, folder, SLOW))[0] == ALL_SERVED
 
 
-def test_control_by_the_kernels_defaults_answers_are_lost(site: MakeSite, folder: Path) -> None:
-    network = Network("true")
-    try:
-        assert through(site, folder, network, InC(network, folder, SLOW))[0][502] > 0
-    finally:
-        network.end()
+@pytest.mark.parametrize("network", ["true"], indirect=True)
+def test_control_by_the_kernels_defaults_answers_are_lost(
+    site: MakeSite, folder: Path, network: Network
+) -> None:
+    assert through(site, folder, network, InC(network, folder, SLOW))[0][502] > 0
 
 
 def test_control_by_a_proxy_of_fewer_connections_too(

@@ -15,7 +15,7 @@ from tests.fence.test_certificates import outdate
 
 pytestmark = [pytest.mark.root, pytest.mark.machine, pytest.mark.slow]
 
-FORGED = "9999.99"
+IMPOSTOR, FORGED = Path(__file__).parent / "impostor.py", "9999.99"
 STORE = "/var/lib/counter/day.db"
 UNITS = ("counter.service", "counter-http.service", "counter-http.socket")
 ALL = f"{' '.join(UNITS)} counter-network.service"
@@ -50,7 +50,7 @@ class Impostor:
     """The program of nobody on the machine. It ends with its input: what enters the machine isn't the program itself, and a signal wouldn't reach it."""
 
     def __init__(self, machine: Machine) -> None:
-        shutil.copy(Path(__file__).parent / "impostor.py", machine.path("/tmp/impostor.py"))
+        shutil.copy(IMPOSTOR, machine.path("/tmp/impostor.py"))
         nobody = ("setpriv", "--reuid", "65534", "--regid", "65534", "--clear-groups")
         words = machine.words(*nobody, "python3", "/tmp/impostor.py")
         pipe = subprocess.PIPE
@@ -83,7 +83,7 @@ def test_a_local_user_never_answers_for_the_counter(machine: Machine, impostor: 
 
 
 def test_control_root_may_go_those_ways(machine: Machine) -> None:
-    shutil.copy(Path(__file__).parent / "impostor.py", machine.path("/tmp/impostor.py"))
+    shutil.copy(IMPOSTOR, machine.path("/tmp/impostor.py"))
     told = json.loads(machine.on("python3", "/tmp/impostor.py", "once").stdout)
     barred = {name for name in told["forbidden"] if "done" not in told["ended"][name]}
     assert barred <= {"enter the network from a user namespace", "listen on nginx's port"}
@@ -97,10 +97,9 @@ def test_control_over_a_port_of_the_machine_he_answers(
     conf, reload = "/usr/share/ladwenpik/nginx/nginx.conf", "systemctl reload counter-nginx.service"
     port = "s|http://unix:/run/counter-http.sock|http://127.0.0.1:8377|"
     machine.shell(f"cp {conf} kept.conf; sed -i '{port}' {conf}; {reload}; sleep 1")
-    try:
-        assert FORGED in asked(machine)
-    finally:
-        machine.shell(f"mv kept.conf {conf}; {reload}; sleep 1")
+    said = asked(machine)
+    machine.shell(f"mv kept.conf {conf}; {reload}; sleep 1")
+    assert FORGED in said
 
 
 def test_a_list_past_its_date_is_renewed_by_its_unit(machine: Machine) -> None:

@@ -1,14 +1,17 @@
 """An upgrade from each release with passwords, by docs/UPGRADE.md to the letter: it asks nothing, and nobody can answer in the counter's place."""
 
+import subprocess
+import tarfile
 import tempfile
+from io import BytesIO
 from pathlib import Path
 from typing import Iterator
 
 import pytest
 
-from tests.fence.before import COMMITS, Before
-from tests.conftest import MEMORY
-from tests.fence.conftest import Machine, MakeMachine, Release, blocks
+from tests.conftest import MEMORY, TOP
+from tests.fence.conftest import Machine, MakeMachine, Release, blocks, blocks_below
+from tests.shared.counter_calls import done
 
 pytestmark = [pytest.mark.root, pytest.mark.machine, pytest.mark.slow]
 
@@ -22,6 +25,42 @@ server = socket.create_server(("127.0.0.1", 8377))
 while True:
     server.accept()[0].sendall(b"HTTP/1.1 200 OK\\r\\nContent-Length: 7\\r\\n\\r\\n9999.99")
 """
+
+
+#: Before the counter had a network of its own, and the last one with passwords. The number is the one that its package gets here.
+COMMITS = {"e30226db": "1.0.0-0", "5c41aef1": "1.0.0-1"}
+BANK = "/usr/share/ladwenpik/teller/bank.js"
+
+
+class Before(Release):
+    """The package and the pages of a commit. Its program is the one of today, which says that it is 1.0.0."""
+
+    def __init__(self, commit: str, program: Path, folder: Path) -> None:
+        self.commit, tree, old = commit, folder / "tree", folder / "ee_cli"
+        ran = subprocess.run(["git", "archive", commit], cwd=TOP, check=True, capture_output=True)
+        tarfile.open(fileobj=BytesIO(ran.stdout)).extractall(tree)
+        # A compiler may have the last digit apart from the others.
+        old.write_bytes(program.read_bytes().replace(b"1.1.", b"1.0."))
+        old.chmod(0o755)
+        assert done(old, "--version").startswith("ee_cli 1.0.0,")
+        changelog = tree / "packaging/debian/changelog"
+        changelog.write_text(changelog.read_text().replace("(1.0.0-1)", f"({COMMITS[commit]})"))
+        self.page = (tree / "docs/INSTALL.md").read_text()
+        super().__init__(old, folder, tree, SOURCE_DATE_EPOCH="1795000000")
+
+    def blocks(self, heading: str) -> list[str]:
+        return blocks_below(heading, self.page)
+
+    def install(self, machine: Machine) -> None:
+        """By its own page, with what a bank changed: the server's name and the page's bank."""
+        machine.prepare()
+        machine.deliver(self, "/root/before")
+        machine.shell("cd before\n" + self.blocks("Install it")[0])
+        bank = 's/^export const BANK = .*/export const BANK = "Old Bank";/'
+        machine.shell(f"sed -i '{bank}' {BANK}")
+        machine.shell("\n".join(self.blocks("The first day")))
+        if self.commit != "e30226db":
+            machine.shell(self.blocks("End the trial")[0])
 
 
 @pytest.fixture(scope="module", params=sorted(COMMITS))

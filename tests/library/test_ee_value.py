@@ -2,8 +2,6 @@
 
 Expected values are the Treasury's published ones, worked rows of the rules, and whole-number arithmetic."""
 
-from __future__ import annotations
-
 import csv
 import importlib.util
 import os
@@ -11,17 +9,20 @@ import pty
 import subprocess
 import sys
 from pathlib import Path
+from typing import Any
 
 import pytest
 
 from tests.conftest import TOP
 from tests.shared import exact
+from tests.shared.counter_calls import csv_rows, run
 
 VALUE = TOP / "clients/value"
 DATA = TOP / "crates/published_values/data"
 LIBRARY = Path(os.environ.get("EE_VALUE_LIBRARY", VALUE / "out/libee_value.so.1"))
 RATES = TOP / "samples/rates.csv"
 HEADER = "serial,denom,issued,owner,coowner\n"
+Ran = subprocess.CompletedProcess[str]
 
 pytestmark = pytest.mark.skipif(
     not LIBRARY.exists(), reason="the library isn't there: clients/value/build makes it"
@@ -39,35 +40,36 @@ Total                                                    5062.50         133.72 
 """
 
 
-def ran(*words: object, given: str = "") -> subprocess.CompletedProcess[str]:
-    line = [sys.executable, "-m", "ee_value", *map(str, words)]
+def ran(*words: object, given: str = "", **more: Any) -> Ran:
     paths = {**os.environ, "PYTHONPATH": str(VALUE), "EE_VALUE_LIBRARY": str(LIBRARY)}
-    return subprocess.run(line, input=given, capture_output=True, text=True, env=paths, timeout=300)
+    more = {"stderr": subprocess.PIPE, "env": paths, **more}
+    return run(sys.executable, "-m", "ee_value", *words, input=given, **more)
 
 
-def rows(done: subprocess.CompletedProcess[str]) -> list[dict[str, str]]:
+def rows(done: Ran) -> list[dict[str, str]]:
     return list(csv.DictReader(done.stdout.splitlines()))
 
 
-def written(path: Path, text: str) -> Path:
-    path.write_text(text)
-    return path
+def rates_of(folder: Path, text: str) -> tuple[object, ...]:
+    (folder / "rates.csv").write_text(text)
+    return "--rates", folder / "rates.csv"
 
 
-def test_table_is_the_sheet(folder: Path) -> None:
-    rates = written(folder / "rates.csv", SHEET_RATES)
-    bonds = written(folder / "bonds.csv", SHEET_BONDS)
-    done = ran(bonds, "02/2012", "--rates", rates, "--table")
+@pytest.fixture
+def sheet(folder: Path) -> tuple[object, ...]:
+    """The words that ask for the sheet."""
+    (folder / "bonds.csv").write_text(SHEET_BONDS)
+    return folder / "bonds.csv", "02/2012", *rates_of(folder, SHEET_RATES)
+
+
+def test_table_is_the_sheet(sheet: tuple[object, ...]) -> None:
+    done = ran(*sheet, "--table")
     assert (done.stdout, done.stderr, done.returncode) == (SHEET, "", 0)
 
 
-def test_terminal_gets_the_table(folder: Path) -> None:
-    rates = written(folder / "rates.csv", SHEET_RATES)
-    bonds = written(folder / "bonds.csv", SHEET_BONDS)
+def test_terminal_gets_the_table(sheet: tuple[object, ...]) -> None:
     parent, child = pty.openpty()
-    line = [sys.executable, "-m", "ee_value", str(bonds), "2012-02", "--rates", str(rates)]
-    paths = {**os.environ, "PYTHONPATH": str(VALUE), "EE_VALUE_LIBRARY": str(LIBRARY)}
-    assert subprocess.run(line, stdout=child, env=paths, timeout=60).returncode == 0
+    assert ran(*sheet, stdout=child).returncode == 0
     os.close(child)
     assert os.read(parent, 1 << 16).decode().replace("\r\n", "\n") == SHEET
     os.close(parent)
@@ -75,42 +77,41 @@ def test_terminal_gets_the_table(folder: Path) -> None:
 
 def test_a_row_for_each_bond(folder: Path) -> None:
     """A bond before its issue, below 12 months, in extended maturity at another rate, and matured."""
-    rates = written(folder / "rates.csv", "from,rate,extension\n2010-05,3.40%,4.00\n2010-11,3.5,\n")
+    rates = rates_of(folder, "from,rate,extension\n2010-05,3.40%,4.00\n2010-11,3.5,\n")
     given = f"{HEADER}A1EE,50,2010-05,7,\n"
     for month, expected in {
         "2030-11": "25.00,26.00,51.00,51.00,,2030-12,2040-05,",
         "2010-04": "0.00,0.00,0.00,0.00,NI,,,",
         "2011-04": "25.00,0.00,25.00,0.00,NE,2011-05,2040-05,",
     }.items():
-        done = ran("-", month, "--rates", rates, given=given)
+        done = ran("-", month, *rates, given=given)
         assert done.stdout.splitlines()[1:] == [f"A1EE,50,2010-05,3.40%,4.00%,{expected}"]
         assert (done.stderr, done.returncode) == ("", 0)
-    assert rows(ran("-", "2045-01", "--rates", rates, given=given))[0]["note"] == "MA"
+    assert rows(ran("-", "2045-01", *rates, given=given))[0]["note"] == "MA"
 
 
-def published(month: str, rates: Path) -> None:
+def published(month: str, *rates: object) -> None:
     """Compares the values that the Treasury published for a month with the rows of a list."""
-    with open(DATA / "published-values.csv", newline="") as file:
-        listed = [row for row in csv.DictReader(file) if row["redeemed"] == month]
+    listed = [it for it in csv_rows(DATA / "published-values.csv") if it["redeemed"] == month]
     bonds, wanted = "", []
     for place, row in enumerate(listed):
         dollars = exact.DOLLARS[place % 8]
         bonds += f"A{place + 1}EE,{dollars},{row['issued']},7,\n"
         wanted.append(dollars // 25 * int(row["unit_cents"]))
-    done = ran("-", month, "--rates", rates, given=HEADER + bonds)
+    done = ran("-", month, *rates, given=HEADER + bonds)
     assert len(wanted) > 90
     assert [int(row["payable"].replace(".", "")) for row in rows(done)] == wanted
 
 
 @pytest.mark.parametrize("month", ["2014-04", "2016-12"])
 def test_published_values(month: str) -> None:
-    published(month, DATA / "rates.csv")
+    published(month, "--rates", DATA / "rates.csv")
 
 
 def test_published_values_find_a_wrong_rate(folder: Path) -> None:
     text = (DATA / "rates.csv").read_text().replace("2008-05,1.40", "2008-05,1.50")
     with pytest.raises(AssertionError):
-        published("2016-12", written(folder / "rates.csv", text))
+        published("2016-12", *rates_of(folder, text))
 
 
 #: A faulty row, and what is said of it.
@@ -130,16 +131,16 @@ REFUSED = {
 @pytest.mark.parametrize("row", REFUSED)
 def test_refused_rows(folder: Path, row: str) -> None:
     """A bond issued before the first row of rates is refused, and so is one after the last period."""
-    rates = written(folder / "rates.csv", "from,rate\n2006-05,3.70\n2010-05,1.40\n2011-11,0.60\n")
+    rates = rates_of(folder, "from,rate\n2006-05,3.70\n2010-05,1.40\n2011-11,0.60\n")
     text = f"{HEADER}L1EE,50,2010-05,7,\n\n{row}\nK2EE,75,2010-10,7,8\n"
-    done = ran("-", "2026-11", "--rates", rates, given=text)
+    done = ran("-", "2026-11", *rates, given=text)
     said = f"ee-value: -: row 3: {REFUSED[row]}\nee-value: 1 of 3 bonds refused\n"
     assert (done.stderr, done.returncode) == (said, 1)
     found = rows(done)
     assert [it["refused"] for it in found] == ["", REFUSED[row], ""]
     value = exact.row(50, 201005, 202611, 140, 140)[3]
     assert [it["value"] for it in found] == [f"{value / 100:.2f}", "", "46.95"]
-    table = ran("-", "2026-11", "--rates", rates, "--table", given=text)
+    table = ran("-", "2026-11", *rates, "--table", given=text)
     assert (table.stderr, table.returncode) == (said, 1)
     assert table.stdout.splitlines()[2].endswith("refused: row 3")
     assert table.stdout.split()[-1] == f"{(value + 4695) / 100:.2f}"
@@ -166,10 +167,9 @@ FAULTY = {
 
 @pytest.mark.parametrize("text", FAULTY)
 def test_faulty_rates(folder: Path, text: str) -> None:
-    path = written(folder / "rates.csv", text)
-    done = ran(TOP / "samples/inventory.csv", "2026-11", "--rates", path)
+    done = ran(TOP / "samples/inventory.csv", "2026-11", *rates_of(folder, text))
     assert (done.stdout, done.returncode) == ("", 3)
-    assert done.stderr == f"ee-value: {path}: {FAULTY[text]}\n"
+    assert done.stderr == f"ee-value: {folder}/rates.csv: {FAULTY[text]}\n"
 
 
 def test_faulty_lists(folder: Path) -> None:
@@ -197,17 +197,3 @@ def test_plot(folder: Path) -> None:
         assert path.read_bytes().startswith(b"\x89PNG")
     done = ran(*line, "A1EE", path)
     assert done.returncode == 3 and "has no bond A1EE with a rate" in done.stderr
-
-
-def test_example(folder: Path) -> None:
-    """The example adds up the same rows, and its status says that a bond was refused."""
-    bonds = written(folder / "bonds.csv", SHEET_BONDS + "A1EE,50,2005-05,7,\n")
-    rates = written(folder / "rates.csv", SHEET_RATES)
-    line = [sys.executable, str(VALUE / "examples/inventory.py"), str(bonds), str(rates), "2012-02"]
-    paths = {**os.environ, "PYTHONPATH": str(VALUE), "EE_VALUE_LIBRARY": str(LIBRARY)}
-    done = subprocess.run(line, capture_output=True, text=True, env=paths, timeout=60)
-    assert done.returncode == 1
-    assert done.stdout.splitlines() == [
-        *("4 bonds in 2012-02, 1 refused", "price 5062.50", "interest 133.72"),
-        *("value 5196.22", "payable 5196.22"),
-    ]

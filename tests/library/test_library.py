@@ -1,9 +1,6 @@
 """The built library of values: from C and C++ by each compiler, from COBOL and Python, beside the published values, arithmetic of the tests' own, and the program."""
 
-from __future__ import annotations
-
 import array
-import csv
 import ctypes
 import datetime
 import decimal
@@ -20,7 +17,9 @@ from typing import Any, Callable, Iterator, Sequence
 import pytest
 
 from tests.conftest import TOP
+from tests.samples.books import script
 from tests.shared import exact
+from tests.shared.counter_calls import csv_rows, done, run
 
 VALUE, OUT = TOP / "clients/value", TOP / "clients/value/out"
 HERE = Path(__file__).resolve().parent
@@ -32,22 +31,16 @@ WARNINGS = ["-Wall", "-Wextra", "-Wpedantic", "-Wshadow", "-Wconversion", "-Werr
 STATIC = str(OUT / "libee_value.a")
 
 
-def ran(*words: object, **more: Any) -> subprocess.CompletedProcess[str]:
-    line = [str(word) for word in words]
-    return subprocess.run(line, capture_output=True, text=True, timeout=900, **more)
-
-
 def compiled(folder: Path, *words: str) -> Path:
-    done = ran(*words, *WARNINGS, f"-I{TOP / 'include'}", "-o", folder / "program")
-    assert done.returncode == 0, done.stderr
+    done(*words, *WARNINGS, f"-I{TOP / 'include'}", "-o", folder / "program")
     return folder / "program"
 
 
 def compared(program: Path, values: Path = PUBLISHED, rates: Path = RATES) -> None:
     """check.c: each published value at 8 denominations by 4 functions, refusals, borders, texts and lists."""
-    done = ran(program, values, rates, env={**os.environ, "LD_LIBRARY_PATH": str(OUT)})
-    assert done.returncode == 0 and done.stdout.endswith(" lists: 0 wrong\n"), done.stdout[-500:]
-    assert "compared 8256 published values" in done.stdout
+    said = run(program, values, rates, env={**os.environ, "LD_LIBRARY_PATH": str(OUT)}).stdout
+    assert said.endswith(" lists: 0 wrong\n"), said[-500:]
+    assert "compared 8256 published values" in said
 
 
 SOURCE = str(HERE / "check.c")
@@ -86,8 +79,8 @@ def test_aarch64(tmp_path: Path, library: str) -> None:
     words = ["aarch64-linux-gnu-gcc", "-O2", "-std=c11", SOURCE, library]
     program = compiled(tmp_path, *words, *(["-lee_value"] if library.startswith("-L") else []))
     path = ("-E", f"LD_LIBRARY_PATH={OUT}/aarch64")
-    done = ran("qemu-aarch64", "-L", "/usr/aarch64-linux-gnu", *path, program, PUBLISHED, RATES)
-    assert done.returncode == 0 and " 0 wrong" in done.stdout, done.stdout
+    root = ("-L", "/usr/aarch64-linux-gnu")
+    assert " 0 wrong" in done("qemu-aarch64", *root, *path, program, PUBLISHED, RATES)
 
 
 def test_compared_with_wrong_values(tmp_path: Path) -> None:
@@ -105,28 +98,26 @@ def test_compared_with_wrong_values(tmp_path: Path) -> None:
 
 def test_example_in_C(tmp_path: Path) -> None:
     program = compiled(tmp_path, "cc", str(VALUE / "examples/bond.c"), STATIC)
-    assert ran(program).stdout == "52.02\n"
+    assert done(program) == "52.02\n"
 
 
 @pytest.mark.needs("cobc")
 def test_example_in_COBOL(tmp_path: Path) -> None:
     program = tmp_path / "bondcob"
-    done = ran("cobc", "-x", "-o", program, VALUE / "examples/bond.cob", STATIC)
-    assert done.returncode == 0, done.stderr
-    assert ran(program, input="202611\n200610\n201313\n").stdout.splitlines() == [
+    done("cobc", "-x", "-o", program, VALUE / "examples/bond.cob", STATIC)
+    assert run(program, input="202611\n200610\n201313\n").stdout.splitlines() == [
         "202611 pays         52.02 note 0 until 203511",
         "200610 pays          0.00 note 2 until 203511",
         "201313 refused: the month is no month from 200505 to 219912",
     ]
 
 
-def inventory(dice: random.Random, count: int) -> tuple[str, list[int]]:
-    """An inventory of random bonds; and what their prices, interest, values and payable values in July 2026 add up to."""
-    with open(RATES, newline="") as file:
-        listed = [(it["from"].replace("-", ""), it["rate"]) for it in csv.DictReader(file)]
-    terms = [(int(start), int(rate.replace(".", ""))) for start, rate in listed]
-    text, sums = "serial,denom,issued,owner,coowner\n", [0] * 4
-    for k in range(count):
+def test_example_of_an_inventory(tmp_path: Path, dice: random.Random) -> None:
+    """The sums of prices, interest, values and payable values of 20,000 random bonds are those of the tests' own arithmetic; a bond without a rate is refused."""
+    number = {"from": "-", "rate": "."}
+    terms = [[int(it[n].replace(c, "")) for n, c in number.items()] for it in csv_rows(RATES)]
+    text, sums = "serial,denom,issued,owner,coowner\nB1EE,50,2099-12,7,\n", [0] * 4
+    for k in range(20_000):
         dollars = dice.choice(exact.DOLLARS)
         issued = exact.number_of(dice.randrange(12 * 2005 + 4, 12 * 2021 + 4))
         year, month = divmod(issued, 100)
@@ -135,19 +126,14 @@ def inventory(dice: random.Random, count: int) -> tuple[str, list[int]]:
         rate = [rate for start, rate in terms if start <= issued][-1]
         row = exact.row(dollars, issued, 202607, rate, rate)
         sums = [total + cents for total, cents in zip(sums, row)]
-    payable, price, interest, value = sums
-    return text, [price, interest, value, payable]
-
-
-def test_example_of_an_inventory(tmp_path: Path, dice: random.Random) -> None:
-    """20,000 bonds, beside the tests' own arithmetic."""
-    text, sums = inventory(dice, 20_000)
     (tmp_path / "bonds.csv").write_text(text)
     words = (VALUE / "examples/inventory.py", tmp_path / "bonds.csv", RATES, "2026-07")
-    done = ran(sys.executable, *words, env={**os.environ, "PYTHONPATH": str(VALUE)})
+    ran = run(sys.executable, *words, env={**os.environ, "PYTHONPATH": str(VALUE)})
     names = ("price", "interest", "value", "payable")
-    wanted = [f"{name} {cents // 100}.{cents % 100:02}" for name, cents in zip(names, sums)]
-    assert done.stdout.splitlines() == ["20000 bonds in 2026-07, 0 refused", *wanted], done.stderr
+    cents = dict(zip(names, [*sums[1:], sums[0]]))
+    wanted = [f"{name} {cents[name] // 100}.{cents[name] % 100:02}" for name in names]
+    assert ran.stdout.splitlines() == ["20001 bonds in 2026-07, 1 refused", *wanted]
+    assert ran.returncode == 1
 
 
 @pytest.fixture(scope="module")
@@ -167,20 +153,18 @@ def answer(call: Callable[..., Any], *question: object) -> Any:
 
 def published_is(module: Any, more: int = 0) -> None:
     """Each published value, at each denomination, by three functions."""
-    with open(RATES, newline="") as file:
-        rates = [(it["from"], it["rate"]) for it in csv.DictReader(file)]
-    with open(PUBLISHED, newline="") as file:
-        for it in csv.DictReader(file):
-            rate = [rate for start, rate in rates if start <= it["issued"]][-1]
-            (y, m), (ry, rm) = (map(int, it[k].split("-")) for k in ("issued", "redeemed"))
-            note = "P5" if 12 * (ry - y) + rm - m < 60 else ""
-            after, last = f"{ry + rm // 12}-{rm % 12 + 1:02}", f"{y + 30}-{m:02}"
-            for dollars in exact.DOLLARS:
-                value, price = dollars // 25 * (int(it["unit_cents"]) + more), 50 * dollars
-                wanted = (value, price, value - price, value, note, after, last)
-                question = (dollars, it["issued"], it["redeemed"], rate)
-                assert module.row(*question) == wanted and module.rows([question]) == [wanted]
-                assert module.cents(*question, "7.77") == value
+    rates = csv_rows(RATES)
+    for it in csv_rows(PUBLISHED):
+        rate = [rate["rate"] for rate in rates if rate["from"] <= it["issued"]][-1]
+        (y, m), (ry, rm) = (map(int, it[k].split("-")) for k in ("issued", "redeemed"))
+        note = "P5" if 12 * (ry - y) + rm - m < 60 else ""
+        after, last = f"{ry + rm // 12}-{rm % 12 + 1:02}", f"{y + 30}-{m:02}"
+        for dollars in exact.DOLLARS:
+            value, price = dollars // 25 * (int(it["unit_cents"]) + more), 50 * dollars
+            wanted = (value, price, value - price, value, note, after, last)
+            question = (dollars, it["issued"], it["redeemed"], rate)
+            assert module.row(*question) == wanted and module.rows([question]) == [wanted]
+            assert module.cents(*question, "7.77") == value
 
 
 def test_published_values(module: Any) -> None:
@@ -193,9 +177,8 @@ def test_published_values(module: Any) -> None:
 def agrees(module: Any, questions: Sequence[Question]) -> None:
     """The library's four calls and the module's answer each question as the tests' own arithmetic does."""
     library, into = module._library, module._Row()
-    fields: Callable[[Any], Any] = lambda row: tuple(
-        getattr(row, name) for name, _ in module.ROW_FIELDS
-    )
+    names = [name for name, _ in module.ROW_FIELDS]
+    fields: Callable[[Any], Any] = lambda row: tuple(getattr(row, name) for name in names)
     listed = (module._Row * len(questions))()
     asked = (module._Question * len(questions))(*(module._Question(*it) for it in questions))
     assert module.rows_into(asked, listed) == len(questions)
@@ -336,14 +319,14 @@ def words_of(question: Question) -> list[str]:
 
 def is_same(module: Any, program: Path, question: Question) -> bool:
     """Whether the command `value` answers a question as the library does."""
-    done = ran(program, "value", *words_of(question))
+    ran = run(program, "value", *words_of(question), stderr=subprocess.PIPE)
     row = answer(module.row, *question)
     if isinstance(row, int):
         fault = f"bad argument: {WORDS[-row - 1]}"
-        return (done.returncode, done.stdout) == (2, "") and fault in done.stderr
+        return (ran.returncode, ran.stdout) == (2, "") and fault in ran.stderr
     note = f" {row.note}" if row.note else ""
     wanted = f"{module.dollars_and_cents(row.value_cents)}{note}\n"
-    return (done.returncode, done.stdout) == (0, wanted)
+    return (ran.returncode, ran.stdout) == (0, wanted)
 
 
 @pytest.mark.parametrize("count", [400, pytest.param(100_000, marks=pytest.mark.slow)])
@@ -356,7 +339,5 @@ def test_against_the_program(module: Any, program: Path, dice: random.Random, co
 
 def test_against_another_program(module: Any, program: Path, tmp_path: Path) -> None:
     """Control: a program that takes every rate for 3.50."""
-    other = tmp_path / "other"
-    other.write_text(f'#!/bin/sh\nexec {program} "$1" "$2" "$3" "$4" 3.50\n')
-    other.chmod(0o755)
+    other = script(tmp_path / "other", f'#!/bin/sh\nexec {program} "$1" "$2" "$3" "$4" 3.50\n')
     assert is_same(module, other, GOOD) and not is_same(module, other, (*GOOD[:3], 340, 340))

@@ -1,7 +1,5 @@
 """The packages of the value module: the same bytes twice, tags that an index takes, a RECORD that holds, pip in a new venv, types, and one sentence for each library that is none."""
 
-from __future__ import annotations
-
 import base64
 import csv
 import hashlib
@@ -16,27 +14,25 @@ from typing import Any
 import pytest
 
 from tests.conftest import TOP
+from tests.shared.counter_calls import run
 
 VALUE = TOP / "clients/value"
 PYTHON = "/usr/bin/python3"
 pytestmark = pytest.mark.needs("file:clients/value/out/libee_value.a")
 BUILDING = pytest.mark.needs("module:build", "module:hatchling")
 #: What an index takes of a Linux wheel: the names of PEP 600, and the earlier ones.
-TAKEN = re.compile(
-    r"ee_value-[0-9.]+-py3-none-manylinux_2_[0-9]+_(x86_64|aarch64)(\.manylinux(1|2014)_\1)?\.whl"
-)
+TAGS = r"py3-none-manylinux_2_[0-9]+_(x86_64|aarch64)(\.manylinux(1|2014)_\1)?"
+TAKEN = re.compile(rf"ee_value-[0-9.]+-{TAGS}\.whl")
 PLAIN = {name: value for name, value in os.environ.items() if not name.startswith("PYTHON")}
 
 
 def ran(*words: object, **more: Any) -> subprocess.CompletedProcess[str]:
-    more = {"env": PLAIN, **more}
-    line = [str(word) for word in words]
-    return subprocess.run(line, capture_output=True, text=True, timeout=900, **more)
+    return run(*words, **{"env": PLAIN, "stderr": subprocess.PIPE, **more})
 
 
 def done(*words: object, **more: Any) -> str:
     found = ran(*words, **more)
-    assert found.returncode == 0, found.stdout + found.stderr
+    assert found.returncode == 0, found
     return found.stdout
 
 

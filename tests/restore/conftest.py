@@ -1,7 +1,5 @@
 """Run these by `pytest tests/restore`, as root for those with the marker `root`. EE_CLI names the program."""
 
-from __future__ import annotations
-
 import os
 import shutil
 import tempfile

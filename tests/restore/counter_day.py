@@ -1,7 +1,5 @@
 """A store with a day of payments, its archive, its log of requests and its second machine."""
 
-from __future__ import annotations
-
 import json
 import os
 import shutil
@@ -12,20 +10,8 @@ from pathlib import Path
 from typing import Any, Iterable
 
 from tests.conftest import TOP
-from tests.shared.counter_calls import (
-    TABLES,
-    Answer,
-    apply,
-    ask,
-    beginning,
-    bond,
-    day_text,
-    free_port,
-    get,
-    post,
-    rows,
-    serve,
-)
+from tests.shared.counter_calls import TABLES, Answer, apply, ask, beginning, bond, day_text, done
+from tests.shared.counter_calls import end, free_port, get, post, rows, serve
 
 RESTORE = TOP / "samples" / "restore"
 BONDS = 600
@@ -37,9 +23,8 @@ Ran = subprocess.CompletedProcess[str]
 
 
 def run(*words: object, **more: Any) -> Ran:
-    return subprocess.run(
-        [str(word) for word in words], capture_output=True, text=True, timeout=300, **more
-    )
+    line = [str(word) for word in words]
+    return subprocess.run(line, capture_output=True, text=True, timeout=300, **more)
 
 
 def started(*words: object, **more: Any) -> subprocess.Popen[str]:
@@ -67,10 +52,14 @@ def entry_of(message: bytes, reply: str | None, at: float, status: str = "200") 
 def copied(store: Path, folder: Path) -> Path:
     """A copy of a store's file and log, in a new folder."""
     folder.mkdir(parents=True)
-    for end in ("", "-wal"):
-        if os.path.exists(f"{store}{end}"):
-            shutil.copy(f"{store}{end}", folder)
+    for path in (store, Path(f"{store}-wal")):
+        if path.exists():
+            shutil.copy(path, folder)
     return folder / store.name
+
+
+def with_settings(settings: dict[str, object]) -> dict[str, str]:
+    return {**os.environ, "WITNESS_WAIT": "0"} | {name: str(it) for name, it in settings.items()}
 
 
 class Day:
@@ -105,40 +94,39 @@ class Day:
         return self.send(*map(redemption, turns))
 
     def archive_now(self, *more: object) -> None:
-        ran = run(RESTORE / "archive", self.store, self.archive, *more)
-        assert ran.returncode == 0, ran.stderr
+        done(RESTORE / "archive", self.store, self.archive, *more)
 
     def pull(self, source: Path | None = None, *more: object) -> Ran:
         return run(RESTORE / "pull", source or self.archive, self.second, *more)
 
-    def restore(
-        self,
-        *words: object,
-        store: Path | None = None,
-        sources: Iterable[Path] | None = None,
-        **more: Any,
-    ) -> Ran:
-        """counter-restore over a store and all sources, or those that are named."""
+    def command(self, *words: object, sources: Iterable[Path] | None = None) -> list[object]:
+        """counter-restore over the store and all sources, or those that are named."""
         given = [self.archive, self.log] if sources is None else sources
         named = [word for path in given for word in ("--from", path)]
         ours = ("--archive", self.archive, "--room", self.room, "--program", self.program)
-        command = RESTORE / "counter-restore", store or self.store
-        return run(*command, *named, *ours, *words, **more)
+        return [RESTORE / "counter-restore", self.store, *named, *ours, *words]
+
+    def restore(self, *words: object, sources: Iterable[Path] | None = None, **more: Any) -> Ran:
+        return run(*self.command(*words, sources=sources), **more)
+
+    def restored(self, *words: object, **more: Any) -> str:
+        """What counter-restore says as it restores."""
+        return done(*self.command("--yes", *words, **more))
+
+    def refuses(self, said: str, *words: object, **more: Any) -> None:
+        """counter-restore says why, and restores nothing."""
+        ran = self.restore("--yes", *words, **more)
+        assert ran.returncode == 1 and said in ran.stdout + ran.stderr, ran
+        assert not self.store.exists()
 
     def guard(self, *folders: Path, store: Path | None = None, **settings: object) -> Ran:
-        environment = {
-            **os.environ,
-            "WITNESS_WAIT": "0",
-            **{name: str(value) for name, value in settings.items()},
-        }
-        return run(RESTORE / "guard", store or self.store, *folders, env=environment)
+        return run(RESTORE / "guard", store or self.store, *folders, env=with_settings(settings))
 
     def serve_guarded(self, *folders: Path, **settings: object) -> Ran:
         """serve_guarded until it ends; or until it serves, with status 124."""
-        named = {"WITNESS_WAIT": "0", **{name: str(value) for name, value in settings.items()}}
         port, begun, is_served = free_port(), time.time(), False
         words = [RESTORE / "serve_guarded", self.store, self.program, port, *folders]
-        more: dict[str, Any] = {"env": {**os.environ, **named}, "start_new_session": True}
+        more: dict[str, Any] = {"env": with_settings(settings), "start_new_session": True}
         process = started(*words, stdout=subprocess.PIPE, stderr=subprocess.PIPE, **more)
         while process.poll() is None and not is_served and time.time() < begun + 120:
             is_served = ask(port, get("/ticket/1")) is not None
@@ -167,6 +155,13 @@ class Day:
         for path in self.store.parent.glob("day.db*"):
             path.unlink()
 
+    def empty(self) -> None:
+        os.truncate(self.store, 0)
+
+    def put_older(self) -> None:
+        self.lose()
+        shutil.copy(self.before, self.store)
+
 
 class Served:
     """`serve` over a store, which is killed at the end."""
@@ -187,6 +182,4 @@ class Served:
         return found
 
     def kill(self) -> None:
-        self.process.send_signal(signal.SIGCONT)
-        self.process.kill()
-        self.process.wait()
+        end(self.process)

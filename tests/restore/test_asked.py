@@ -1,19 +1,17 @@
 """`archive --requests`: it takes no request that nginx's log lacks."""
 
-from __future__ import annotations
-
-import subprocess
 import time
 from pathlib import Path
 
-from tests.restore.counter_day import RESTORE, Day, redemption, run
-from tests.shared.counter_calls import apply
+from tests.conftest import until
+from tests.restore.counter_day import RESTORE, Day, Ran, redemption, run, started
+from tests.shared.counter_calls import apply, end
 
 #: A payment that no log has.
 FORGED = redemption(300)
 
 
-def archived(day: Day, *words: object) -> subprocess.CompletedProcess[str]:
+def archived(day: Day, *words: object) -> Ran:
     return run(RESTORE / "archive", day.store, day.archive, *words)
 
 
@@ -57,18 +55,13 @@ def test_an_entry_may_be_late(day: Day) -> None:
     late = [redemption(201)]
     answers = apply(day.program, day.store, late)
     words = ("--requests", day.log, "--every", "0.2")
-    process = subprocess.Popen([RESTORE / "archive", day.store, day.archive, *words])
+    process = started(RESTORE / "archive", day.store, day.archive, *words)
     lines = day.archive / "requests.jsonl"
     try:
-        for number in (201, 202):
-            until = time.monotonic() + 30
-            while f'"number":{number},' not in lines.read_text():
-                assert time.monotonic() < until and process.poll() is None
-                time.sleep(0.1)
-            if number == 201:
-                time.sleep(1)
-                assert '"number":202,' not in lines.read_text()
-                day.write_log(late, answers)
+        until(lambda: '"number":201,' in lines.read_text())
+        time.sleep(1)
+        assert '"number":202,' not in lines.read_text()
+        day.write_log(late, answers)
+        until(lambda: '"number":202,' in lines.read_text())
     finally:
-        process.kill()
-        process.wait()
+        end(process)

@@ -1,7 +1,5 @@
 """docs/RESTORE.md and the page of samples/restore as an operator follows them, on a machine of its own."""
 
-from __future__ import annotations
-
 import re
 import threading
 import time

@@ -1,73 +1,41 @@
 """Nobody finds out by chance: what can't pass ends the unit at once, with its own reason, and the rest is tried again."""
 
-from __future__ import annotations
-
 import os
 import shutil
-import subprocess
 from pathlib import Path
-from typing import Callable, Iterator
+from typing import Callable
 
 import pytest
 from tests.restore.counter_day import RESTORE, Day, Served, copied, run
+from tests.samples.books import script
+from tests.samples.conftest import Mount, mount, place
+from tests.shared.counter_calls import sql
 
+__all__ = ["mount", "place"]
 FINAL, PASSING, SERVES = 4, 3, 124
 
 
-def remove(day: Day) -> None:
-    day.lose()
-
-
-def empty(day: Day) -> None:
-    os.truncate(day.store, 0)
-
-
-def no_store(day: Day) -> None:
-    day.lose()
-    day.store.write_text("no store at all" * 100)
-
-
-def lose_archive(day: Day) -> None:
-    shutil.rmtree(day.archive)
-
-
-def lose_lines(day: Day) -> None:
-    (day.archive / "requests.jsonl").unlink()
-
-
-def take_back(day: Day) -> None:
-    day.lose()
-    shutil.copy(day.before, day.store)
-
-
-def change_tables(day: Day) -> None:
-    run("sqlite3", day.store, "CREATE INDEX more ON paid (cents)")
-
-
-def nothing(day: Day) -> None:
-    pass
-
-
-ENDS = [
-    (nothing, SERVES, "guard: "),
-    (remove, FINAL, "is missing"),
-    (empty, FINAL, "is empty"),
-    (no_store, FINAL, "not served"),
-    (lose_archive, FINAL, "No such file"),
-    (lose_lines, FINAL, "its lines were lost"),
-    (take_back, FINAL, "that were done are missing"),
-    (change_tables, FINAL, "store: "),
+#: What harms the store or the archive, how serve_guarded ends, and what it says.
+ENDS: list[tuple[Callable[[Day], object], int, str]] = [
+    (lambda day: None, SERVES, "guard: "),
+    (Day.lose, FINAL, "is missing"),
+    (Day.empty, FINAL, "is empty"),
+    (lambda day: day.store.write_text("no store at all" * 100), FINAL, "not served"),
+    (lambda day: shutil.rmtree(day.archive), FINAL, "No such file"),
+    (lambda day: (day.archive / "requests.jsonl").unlink(), FINAL, "its lines were lost"),
+    (Day.put_older, FINAL, "that were done are missing"),
+    (lambda day: sql(day.store, "CREATE INDEX more ON paid (cents)"), FINAL, "store: "),
 ]
 
 
 @pytest.mark.parametrize("harm, status, said", ENDS)
-def test_ends(day: Day, harm: Callable[[Day], None], status: int, said: str) -> None:
+def test_ends(day: Day, harm: Callable[[Day], object], status: int, said: str) -> None:
     harm(day)
     ran = day.serve_guarded(day.archive)
     assert ran.returncode == status and said in ran.stdout + ran.stderr, ran.stdout + ran.stderr
 
 
-@pytest.mark.parametrize("harm", [remove, empty])
+@pytest.mark.parametrize("harm", [Day.lose, Day.empty])
 def test_ends_without_an_archive(day: Day, harm: Callable[[Day], None]) -> None:
     """A missing store is final without archives too, and none is created."""
     harm(day)
@@ -97,14 +65,10 @@ def test_call_has_the_reason(tmp_path: Path) -> None:
         "mail": "cat > /dev/null",
     }
     for name, text in fakes.items():
-        (tmp_path / name).write_text(f"#!/bin/sh\n{text}\n")
-        (tmp_path / name).chmod(0o755)
+        script(tmp_path / name, f"#!/bin/sh\n{text}\n")
     called = tmp_path / "called"
-    run(
-        RESTORE / "call_somebody",
-        "counter.service",
-        env={"PATH": f"{tmp_path}:/usr/bin:/bin", "CALLED": str(called)},
-    )
+    env = {"PATH": f"{tmp_path}:/usr/bin:/bin", "CALLED": str(called)}
+    run(RESTORE / "call_somebody", "counter.service", env=env)
     assert called.read_text().splitlines()[0] == "counter.service: guard: not served: why"
 
 
@@ -125,37 +89,27 @@ def test_unreadable_archive(day: Day) -> None:
     assert "ends with row" in ran.stdout, "control: with the rights it is read"
 
 
-@pytest.fixture
-def small(day: Day, tmp_path: Path) -> Iterator[Callable[[int], Path]]:
-    """The store on a disk with this much room beside it, in KiB."""
-    place = tmp_path / "small"
-    place.mkdir()
-
-    def mounted(more: int) -> Path:
-        size = (sum(path.stat().st_size for path in day.store.parent.iterdir()) >> 10) + more
-        subprocess.run(["mount", "-t", "tmpfs", "-o", f"size={size}k", "tmpfs", place], check=True)
-        for path in day.store.parent.iterdir():
-            shutil.copy(path, place)
-        day.store = place / "day.db"
-        return place
-
-    yield mounted
-    subprocess.run(["umount", "-l", place], check=True)
+def put_on_small_disk(day: Day, mount: Mount, copies: int, more: int) -> None:
+    """Puts the store on a disk that has room for these copies of it, and for `more` KiB."""
+    files = list(day.store.parent.iterdir())
+    size = copies * (sum(path.stat().st_size for path in files) >> 10) + more
+    day.store = mount("tmpfs", f"small{more}", "-o", f"size={size}k") / "day.db"
+    for path in files:
+        shutil.copy(path, day.store.parent)
 
 
 @pytest.mark.root
-def test_room_for_one_copy(day: Day, small: Callable[[int], Path]) -> None:
+def test_room_for_one_copy(day: Day, mount: Mount) -> None:
     """The guard needs room for one copy of both files, and not for two."""
-    need = sum(path.stat().st_size for path in day.store.parent.iterdir()) >> 10
-    place = small(need + 80)
+    put_on_small_disk(day, mount, 2, 80)
     assert day.guard(day.archive).returncode == 0
-    assert {path.name for path in place.iterdir()} <= {"day.db", "day.db-wal"}
+    assert set(os.listdir(day.store.parent)) <= {"day.db", "day.db-wal"}
 
 
 @pytest.mark.root
-def test_full_disk(day: Day, small: Callable[[int], Path]) -> None:
+def test_full_disk(day: Day, mount: Mount) -> None:
     """Without that room the reason names the disk, and it is final."""
-    small(40)
+    put_on_small_disk(day, mount, 1, 40)
     ran = day.serve_guarded(day.archive)
     assert ran.returncode == FINAL and "No space left on device" in ran.stderr, ran.stderr
 

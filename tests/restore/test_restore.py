@@ -1,45 +1,40 @@
-"""Each row of docs/RESTORE.md: the disaster that counter-restore names, and the store that it gives again."""
+"""Each row of docs/RESTORE.md: the disaster that counter-restore names, and the store that it gives again. And the counter's disk is lost at moments by chance, under load: every reply that a client had is there.
 
-from __future__ import annotations
+MOMENTS names how many, 5 if it isn't set, and BONDS how many bonds there are to be paid, 4000."""
 
 import contextlib
 import gzip
 import itertools
-import json
 import os
+import random
 import shutil
 import signal
 import stat
+import statistics
 import subprocess
+import threading
 import time
 from pathlib import Path
-from typing import Callable
+from typing import Callable, Iterator
+from unittest import mock
 
 import archives
 import logs
 import pytest
 import restoring
-from tests.conftest import TOP
-from tests.restore.counter_day import (
-    RESTORE,
-    Day,
-    Ran,
-    Served,
-    Tables,
-    copied,
-    entry_of,
-    redemption,
-    run,
-    started,
-)
-from tests.shared.counter_calls import apply, bond, make_version_one, post, rows
 
+from tests.conftest import TOP, until
+from tests.restore.counter_day import RESTORE, Day, Served, Tables, copied, entry_of, redemption
+from tests.restore.counter_day import run, started
+from tests.restore.test_second_machine import changed, write_archive
+from tests.samples.books import key_of
+from tests.samples.conftest import Mount, mount, place
+from tests.shared.counter_calls import Answer, Load, apply, ask, beginning, bond, done, end
+from tests.shared.counter_calls import fault_of_books, free_port, make_version_one, post, redeem
+from tests.shared.counter_calls import rows, serve
+
+__all__ = ["mount", "place"]
 pytestmark = pytest.mark.slow
-
-
-def whole(ran: Ran) -> str:
-    assert ran.returncode == 0, ran.stdout + ran.stderr
-    return ran.stdout
 
 
 def is_restored(day: Day, wanted: Tables) -> None:
@@ -49,25 +44,11 @@ def is_restored(day: Day, wanted: Tables) -> None:
     assert stat.S_IMODE(store.st_mode) == 0o600
     assert (store.st_uid, store.st_gid) == (folder.st_uid, folder.st_gid)
     assert day.guard(day.archive).returncode == 0
-    left = [path.name for path in (*day.store.parent.iterdir(), *day.room.iterdir())]
-    assert all(
-        name == "day.db" or ".before-" in name or name == "day.db-wal" for name in left
-    ), left
+    left = {path.name for path in (*day.store.parent.iterdir(), *day.room.iterdir())}
+    assert all(".before-" in name for name in left - {"day.db", "day.db-wal"}), left
 
 
 # ---- disasters of the store
-
-
-def lose(day: Day) -> None:
-    day.lose()
-
-
-def empty(day: Day) -> None:
-    os.truncate(day.store, 0)
-
-
-def lose_file(day: Day) -> None:
-    day.store.unlink()
 
 
 def garble_file(day: Day) -> None:
@@ -83,13 +64,8 @@ def damage_log(day: Day) -> None:
     log.write_bytes(text)
 
 
-def put_older(day: Day) -> None:
-    day.lose()
-    shutil.copy(day.before, day.store)
-
-
 def put_other(day: Day) -> None:
-    put_older(day)
+    day.put_older()
     apply(day.program, day.store, [redemption(turn, 5000 + turn) for turn in range(300, 320)])
 
 
@@ -104,12 +80,12 @@ def killed(day: Day, served: Served) -> Day:
 
 
 HARMS = [
-    (lose, "its file is missing"),
-    (lose_file, "its file is missing, and its log is there"),
-    (empty, "its file is empty"),
+    (Day.lose, "its file is missing"),
+    (lambda day: day.store.unlink(), "its file is missing, and its log is there"),
+    (Day.empty, "its file is empty"),
     (garble_file, "the store can't be served"),
     (damage_log, "the program refuses it"),
-    (put_older, "the store is of an earlier moment: 216 requests"),
+    (Day.put_older, "the store is of an earlier moment: 216 requests"),
     (put_other, "it has another history"),
 ]
 
@@ -123,7 +99,7 @@ def test_store(killed: Day, harm: Callable[[Day], None], named: str) -> None:
     refused = day.restore(input="no\n")
     assert refused.returncode == 1 and named in refused.stdout, refused.stdout + refused.stderr
     assert sorted(path.name for path in day.store.parent.iterdir()) == files
-    said = whole(day.restore(input="yes\n"))
+    said = done(*day.command(), input="yes\n")
     assert "Replies that differ:               0" in said and "Missing:" not in said
     is_restored(day, wanted)
 
@@ -140,14 +116,14 @@ def test_older_log(day: Day) -> None:
     shutil.copy(f"{log}-wal", f"{day.store}-wal")
     assert day.tables() != wanted, "control: SQLite and the program take the log's pages"
     assert day.guard().returncode == 0 and day.guard(day.archive).returncode == 1
-    assert "of an earlier moment" in whole(day.restore("--yes"))
+    assert "of an earlier moment" in day.restored()
     is_restored(day, wanted)
 
 
 def test_nothing_missing(day: Day) -> None:
     """Control: over a whole store nothing is done, by yes neither."""
     before = day.store.read_bytes()
-    assert "Nothing is missing" in whole(day.restore("--yes")) and day.store.read_bytes() == before
+    assert "Nothing is missing" in day.restored() and day.store.read_bytes() == before
 
 
 def test_version_one(program: Path, tmp_path: Path) -> None:
@@ -158,14 +134,15 @@ def test_version_one(program: Path, tmp_path: Path) -> None:
     make_version_one(day.store, 500, 60)
     again = tmp_path / "again"
     again.mkdir()
-    assert run(RESTORE / "archive", day.store, again).returncode == 1
+    archive = RESTORE / "archive", day.store, again
+    assert run(*archive).returncode == 1
     run(program, "export", "1", "--db", day.store)
-    assert run(RESTORE / "archive", day.store, again).returncode == 0
+    done(*archive)
     apply(program, day.store, [post("/day/open", {"number": 7_000_001, "day": "2099-05-04"}, b"")])
-    assert run(RESTORE / "archive", day.store, again).returncode == 0
+    done(*archive)
     wanted = day.tables()
     day.lose()
-    whole(day.restore("--yes", sources=[again]))
+    day.restored(sources=[again])
     assert day.tables() == wanted
 
 
@@ -177,22 +154,19 @@ def test_disk_and_archive(killed: Day) -> None:
     day, wanted = killed, killed.tables()
     day.lose()
     shutil.rmtree(day.archive)
-    said = whole(day.restore("--yes", sources=[day.second, day.log]))
-    assert "the archive can't be used" in said
+    assert "the archive can't be used" in day.restored(sources=[day.second, day.log])
     assert day.tables() == wanted
-    checked = run(RESTORE / "archive", "-", day.archive, "--check")
-    assert checked.returncode == 0 and "up to row 104" in checked.stdout, checked.stderr
+    assert "up to row 104" in done(RESTORE / "archive", "-", day.archive, "--check")
     day.archive_now()
     is_restored(day, wanted)
 
 
 def test_store_and_log(killed: Day) -> None:
     """Store and log of requests are lost: what came since the archive's last turn is named, and needs a word of its own."""
-    day = killed
-    day.lose()
-    said = whole(day.restore("--yes", sources=[day.archive]))
+    killed.lose()
+    said = killed.restored(sources=[killed.archive])
     assert "Not sure: what came after" in said and "Last ticket:                       150" in said
-    assert len(day.tables()["answers"]) == 154
+    assert len(killed.tables()["answers"]) == 154
 
 
 def test_copy_alone(day: Day) -> None:
@@ -201,18 +175,17 @@ def test_copy_alone(day: Day) -> None:
     day.lose()
     shutil.rmtree(day.archive)
     copy = day.before.parent
-    whole(day.restore("--yes", sources=[copy, day.log]))
+    day.restored(sources=[copy, day.log])
     assert day.tables() == wanted
     day.lose()
-    assert "Not sure: what came after the copy" in whole(day.restore("--yes", sources=[copy]))
+    assert "Not sure: what came after the copy" in day.restored(sources=[copy])
     assert day.pays(3), "control: a copy alone pays again"
 
 
 def test_nothing_left(day: Day) -> None:
     day.lose()
     shutil.rmtree(day.archive)
-    refused = day.restore("--yes", sources=[])
-    assert refused.returncode == 1 and not day.store.exists(), refused.stdout
+    day.refuses("", sources=[])
 
 
 def test_known_to_be_missing(killed: Day) -> None:
@@ -223,13 +196,8 @@ def test_known_to_be_missing(killed: Day) -> None:
     text = lines.read_bytes().replace(b'"payee":7', b'"payee":8', 1)
     lines.write_bytes(text)
     sources = [day.archive, day.second]
-    refused = day.restore("--yes", sources=sources)
-    assert (
-        refused.returncode == 1
-        and "Missing:  50 requests" in refused.stdout
-        and not day.store.exists()
-    ), refused.stdout
-    assert "MISSING: 50 requests" in whole(day.restore("--yes", "--even-so", sources=sources))
+    day.refuses("Missing:  50 requests", sources=sources)
+    assert "MISSING: 50 requests" in day.restored("--even-so", sources=sources)
     assert len(day.tables()["answers"]) == 104
 
 
@@ -244,8 +212,7 @@ def test_deleted_while_served(day: Day, served: Served) -> None:
     served.pay(range(210, 214))
     assert len(day.log.read_text().splitlines()) == 214
     served.pay(range(214, 215))
-    said = whole(day.restore("--yes", sources=[day.archive]))
-    assert f"process {served.process.pid}" in said
+    assert f"process {served.process.pid}" in day.restored(sources=[day.archive])
     assert served.process.wait(5) == -signal.SIGKILL
     kept = rows(copied(day.store, day.new("read")), "SELECT count(*) FROM answers")
     assert kept == [(219,)], "all 215 payments, and what came before them"
@@ -262,7 +229,7 @@ def test_deleted_and_restarted(day: Day, served: Served) -> None:
     day.lose()
     served.pay(range(200, 204))
     served.kill()
-    whole(day.restore("--yes", sources=[day.archive]))
+    day.restored(sources=[day.archive])
     assert len(day.tables()["answers"]) == 154
 
 
@@ -280,10 +247,10 @@ def test_archive_alone(day: Day, harm: str) -> None:
     else:
         lines.write_bytes(lines.read_bytes().replace(b'"total":"25.88"', b'"total":"25.89"', 1))
     assert day.guard(day.archive).returncode == 1 or harm == "changed"
-    whole(day.restore("--yes", sources=[day.second, day.log]))
+    day.restored(sources=[day.second, day.log])
     assert day.store.read_bytes() == before
     day.archive_now()
-    assert run(RESTORE / "archive", "-", day.archive, "--check").returncode == 0
+    done(RESTORE / "archive", "-", day.archive, "--check")
     assert [stat.S_IMODE(os.stat(path).st_mode) for path in (day.archive, lines)] == [0o2750, 0o640]
 
 
@@ -295,13 +262,8 @@ def test_two_histories(day: Day, tmp_path: Path) -> None:
     other.archive_now()
     day.archive_now()
     day.lose()
-    refused = day.restore("--yes", sources=[day.archive, other.archive])
-    assert (
-        refused.returncode == 1
-        and "different histories" in refused.stderr
-        and not day.store.exists()
-    )
-    whole(day.restore("--yes", sources=[other.archive]))
+    day.refuses("different histories", sources=[day.archive, other.archive])
+    day.restored(sources=[other.archive])
     assert day.tables() == other.tables(), "the one that was named is restored"
     here, there = day.archive / "requests.jsonl", other.archive / "requests.jsonl"
     assert here.read_bytes() == there.read_bytes(), "and has the archive's place"
@@ -315,15 +277,10 @@ def test_cut_line(day: Day) -> None:
     day.lose()
     lines = day.log.read_text().splitlines(keepends=True)
     day.log.write_text("".join(lines[:160]) + lines[160][:-60] + "\n" + "".join(lines[161:]))
-    refused = day.restore("--yes")
-    assert (
-        refused.returncode == 1
-        and "line 161 isn't whole" in refused.stderr
-        and not day.store.exists()
-    )
+    day.refuses("line 161 isn't whole")
     whole_log = day.new("log")
     whole_log.write_text("".join(lines))
-    whole(day.restore("--yes", sources=[day.archive, day.log, whole_log]))
+    day.restored(sources=[day.archive, day.log, whole_log])
 
 
 def test_missing_tickets(day: Day) -> None:
@@ -332,31 +289,22 @@ def test_missing_tickets(day: Day) -> None:
     day.lose()
     lines = day.log.read_text().splitlines(keepends=True)
     day.log.write_text("".join(lines[:160] + lines[161:]))
-    refused = day.restore("--yes")
-    assert (
-        refused.returncode == 1
-        and "tickets 161 to 161 are missing" in refused.stderr
-        and not day.store.exists()
-    )
+    day.refuses("tickets 161 to 161 are missing")
     late = entry_of(redemption(160), "", 160.5, "504")
     never = entry_of(redemption(300), "", 900, "502")
     day.log.write_text("".join([*lines[:160], late, *lines[161:], never]))
-    said = whole(day.restore("--yes"))
-    assert day.tables() == wanted and "number 301," in said
+    assert "number 301," in day.restored() and day.tables() == wanted
 
 
 def test_differing_reply(day: Day) -> None:
     """One cent in one reply of the log: the store stays lost, and nothing of the build is left."""
     day.lose()
-    day.log.write_text(
-        day.log.read_text().replace('\\"total\\":\\"25.88\\"', '\\"total\\":\\"25.89\\"')
-    )
-    refused = day.restore("--yes")
-    assert refused.returncode == 1 and "had the reply" in refused.stderr and not day.store.exists()
+    text = day.log.read_text().replace('\\"total\\":\\"25.88', '\\"total\\":\\"25.89')
+    day.log.write_text(text)
+    day.refuses("had the reply")
     late = day.new("late")
-    late.write_text("".join(day.log.read_text().splitlines(keepends=True)[150:]))
-    refused = day.restore("--yes", sources=[day.archive, late])
-    assert refused.returncode == 1 and "a reply differs" in refused.stderr
+    late.write_text("".join(text.splitlines(keepends=True)[150:]))
+    day.refuses("a reply differs", sources=[day.archive, late])
     assert list(day.store.parent.iterdir()) == []
 
 
@@ -369,41 +317,22 @@ def test_packed_and_rotated(day: Day) -> None:
     with gzip.open(old, "wt") as file:
         file.write("".join(line.replace('"at":"1', '"at":"991') for line in lines[:160]))
     day.log.write_text("".join(lines[160:]))
-    whole(day.restore("--yes", sources=[day.archive, day.log, old]))
+    day.restored(sources=[day.archive, day.log, old])
     assert day.tables() == wanted
 
 
 def test_clock_set_back(day: Day) -> None:
     """The machine's clock is years back while a store is restored, and was set back within the log."""
     new = post("/bonds", {"desk": 4, "number": 1, "bonds": [{**bond(0), "serial": "Z1EE"}]}, b"")
-    paid = post(
-        "/redeem",
-        {"desk": 4, "number": 2, "day": "2012-02-06", "payee": 7, "serials": ["Z1EE"]},
-        b"",
-    )
     day.send(new)
     day.at = 1400
-    day.send(paid)
+    day.send(redeem(4, 2, "2012-02-06", 7, "Z1EE"))
     wanted = day.tables()
     day.lose()
-    clock = (
-        ["unshare", "--time", "--boottime", "-1"]
-        if shutil.which("faketime") is None
-        else ["faketime", "2001-01-01 00:00:00"]
-    )
-    named = [
-        "--from",
-        day.archive,
-        "--from",
-        day.log,
-        "--archive",
-        day.archive,
-        "--program",
-        day.program,
-        "--yes",
-    ]
-    ran = run(*clock, RESTORE / "counter-restore", day.store, *named)
-    assert "Last ticket:                       201" in whole(ran)
+    clock = ["faketime", "2001-01-01 00:00:00"]
+    if shutil.which("faketime") is None:
+        clock = ["unshare", "--time", "--boottime", "-1"]
+    assert "Last ticket:                       201" in done(*clock, *day.command("--yes"))
     assert day.tables() == wanted
 
 
@@ -412,50 +341,29 @@ def test_clock_set_back(day: Day) -> None:
 
 @pytest.mark.root
 @pytest.mark.parametrize("size", [20, 100])
-def test_full_disk(day: Day, tmp_path: Path, size: int) -> None:
+def test_full_disk(day: Day, mount: Mount, size: int) -> None:
     """The store's disk is too small for the restored store: refused before the first write, and named."""
-    small = tmp_path / "small"
-    small.mkdir()
-    subprocess.run(["mount", "-t", "tmpfs", "-o", f"size={size}k", "tmpfs", small], check=True)
-    try:
-        store = small / "day.db"
-        refused = day.restore("--yes", store=store)
-        assert refused.returncode == 1 and "has no room" in refused.stderr, (
-            refused.stdout + refused.stderr
-        )
-        assert list(small.iterdir()) == []
-    finally:
-        subprocess.run(["umount", small], check=True)
+    day.store = mount("tmpfs", f"small{size}", "-o", f"size={size}k") / "day.db"
+    day.refuses("has no room")
+    assert list(day.store.parent.iterdir()) == []
 
 
 @pytest.mark.root
-def test_disk_fills_in_the_middle(day: Day, tmp_path: Path) -> None:
+def test_disk_fills_in_the_middle(day: Day, mount: Mount) -> None:
     """The disk on which the store is built fills up while it is built: the store's place stays empty, and so does the room."""
-    small = tmp_path / "small"
-    small.mkdir()
-    subprocess.run(["mount", "-t", "tmpfs", "-o", "size=16m", "tmpfs", small], check=True)
-    try:
-        day.lose()
-        words = ["--from", day.archive, "--from", day.log, "--archive", day.archive]
-        words += ["--program", day.program, "--yes", "--room", small]
-        with started(
-            RESTORE / "counter-restore",
-            day.store,
-            *words,
-            stderr=subprocess.PIPE,
-            stdout=subprocess.DEVNULL,
-        ) as process:
-            while not list(small.glob("*/*/day.db-wal")) and process.poll() is None:
-                time.sleep(0.005)
-            run("dd", "if=/dev/zero", f"of={small}/full", "bs=64k")
-            assert process.wait() in (1, 3) and process.stderr
-            said = process.stderr.read()
-            assert "the store is what it was" in said or "nothing was written" in said, said
-        assert list(day.store.parent.iterdir()) == []
-        assert [path.name for path in small.iterdir()] == ["full"]
-    finally:
-        subprocess.run(["umount", "-l", small], check=True)
-    assert "Last ticket:                       200" in whole(day.restore("--yes")), "control"
+    small = mount("tmpfs", "small", "-o", "size=16m")
+    day.lose()
+    words = day.command("--yes", "--room", small)
+    with started(*words, stderr=subprocess.PIPE, stdout=subprocess.DEVNULL) as process:
+        while not list(small.glob("*/*/day.db-wal")) and process.poll() is None:
+            time.sleep(0.005)
+        run("dd", "if=/dev/zero", f"of={small}/full", "bs=64k")
+        said = process.communicate()[1]
+    assert process.returncode in (1, 3)
+    assert "the store is what it was" in said or "nothing was written" in said, said
+    assert list(day.store.parent.iterdir()) == []
+    assert [path.name for path in small.iterdir()] == ["full"]
+    assert "Last ticket:                       200" in day.restored(), "control"
 
 
 def test_killed_in_the_middle(day: Day) -> None:
@@ -464,33 +372,16 @@ def test_killed_in_the_middle(day: Day) -> None:
     day.lose()
     ends = set()
     for wait in (0.3, 1.5, 6):
-        words = [
-            "--from",
-            day.archive,
-            "--from",
-            day.log,
-            "--archive",
-            day.archive,
-            "--program",
-            day.program,
-            "--yes",
-        ]
-        process = started(
-            RESTORE / "counter-restore",
-            day.store,
-            *words,
-            stdout=subprocess.DEVNULL,
-            stderr=subprocess.DEVNULL,
-        )
+        none = subprocess.DEVNULL
+        process = started(*day.command("--yes"), stdout=none, stderr=none)
         time.sleep(wait)
-        process.kill()
-        process.wait()
+        end(process)
         ends.add(day.store.exists())
         if day.store.exists():
             assert day.tables() == wanted
             day.lose()
     assert False in ends, "control: none was killed before the end"
-    whole(day.restore("--yes"))
+    day.restored()
     is_restored(day, wanted)
 
 
@@ -499,14 +390,12 @@ def test_killed_in_the_middle(day: Day) -> None:
 
 def test_drill(day: Day, served: Served) -> None:
     """While the counter serves, a drill restores into a folder that only this user reads, and removes it."""
-    said = day.restore("--drill", sources=[day.archive, day.log])
-    assert "Last ticket:                       200" in whole(said) and "a drill" in said.stdout
+    said = done(*day.command("--drill"))
+    assert "Last ticket:                       200" in said and "a drill" in said
     served.pay(range(200, 203))
     assert list(day.room.iterdir()) == []
-    words = ["--from", day.archive, "--program", day.program, "--room", day.room, "--drill"]
-    with started(
-        RESTORE / "counter-restore", day.store, *words, stdout=subprocess.DEVNULL
-    ) as process:
+    words = day.command("--drill", sources=[day.archive])
+    with started(*words, stdout=subprocess.DEVNULL) as process:
         modes = set()
         while process.poll() is None:
             for path in day.room.iterdir():
@@ -517,31 +406,10 @@ def test_drill(day: Day, served: Served) -> None:
 
 def test_drill_finds_a_changed_cent(day: Day) -> None:
     """Control: a drill over an archive whose chain was made right behind one changed cent ends with status 1."""
-    path = day.archive / "requests.jsonl"
-    lines = path.read_bytes().splitlines()
-    changed = [lines[0]]
-    for line in lines[1:]:
-        _, request = archives.request_in(line)
-        assert request is not None
-        request = request._replace(reply=request.reply.replace('"25.88"', '"25.89"'))
-        changed.append(archives.line_of(archives.checksum(changed[-1]), request))
-    path.write_bytes(b"\n".join(changed) + b"\n")
-    end = json.loads((day.archive / "end.json").read_text())
-    (day.archive / "end.json").write_text(
-        json.dumps({**end, "checksum": archives.checksum(changed[-1])})
-    )
+    lines = (day.archive / "requests.jsonl").read_bytes().splitlines()
+    write_archive(day.archive, changed(lines, {"reply": ('"25.88"', '"25.89"')}, 1))
     ran = day.restore("--drill", sources=[day.archive])
     assert ran.returncode == 1 and "a reply differs" in ran.stderr, ran.stdout + ran.stderr
-
-
-class AtOnce:
-    """A program that answers what is wanted."""
-
-    def __init__(self, reply: str) -> None:
-        self.reply = reply
-
-    def answer(self, path: str, body: str) -> tuple[int, str]:
-        return 200, self.reply
 
 
 @pytest.mark.parametrize("reply", ["{}", "{ }"])
@@ -554,11 +422,12 @@ def test_progress(
     one = logs.Asked(0, 1, "/redeem", "{}", "{}", None, 0.0, "", "a log")
     monkeypatch.setattr(plan, "wanted", lambda: [one] * 9)
     plan.todo = 9
+    at_once = mock.Mock(answer=lambda path, body: (200, reply))
     if reply != one.reply:
         with pytest.raises(archives.Refused, match="a reply differs: desk 0, number 1"):
-            plan.replay(AtOnce(reply))  # type: ignore[arg-type]
+            plan.replay(at_once)
         return
-    plan.replay(AtOnce(reply))  # type: ignore[arg-type]
+    plan.replay(at_once)
     assert capsys.readouterr().err.startswith("2 of 9 requests, 63 seconds left\n")
 
 
@@ -566,11 +435,11 @@ def test_progress(
 
 #: What the first column of docs/RESTORE.md begins with, and the test of that row.
 ROWS = {
-    "the store is missing": "test_store[lose",
-    "`it is missing or empty": "test_store[empty",
+    "the store is missing": "test_store[Day.lose",
+    "`it is missing or empty": "test_store[Day.empty",
     "`store: StoreFailed` at every start": "test_store[damage_log",
     "`the log is of an earlier moment`": "test_older_log",
-    "`guard: not served: .. are missing`": "test_store[put_older",
+    "`guard: not served: .. are missing`": "test_store[Day.put_older",
     "`guard: not served: .. another history`": "test_store[put_other",
     "`the store was deleted": "test_deleted_while_served",
     "`process N serves from": "test_served",
@@ -603,3 +472,152 @@ def test_rows_of_the_page() -> None:
     for name in ROWS.values():
         test, _, case = name.partition("[")
         assert f"def {test}(" in tests and (not case or f"({case}, " in tests), name
+
+
+BONDS, CLIENTS = int(os.environ.get("BONDS", "4000")), 3
+WAYS = (
+    "the archive and the log",
+    "a nightly copy, the archive and the log",
+    "the log of another moment beside the file",
+    "the second machine's",
+)
+
+
+class Machine:
+    """`serve` with an archiver over a disk of btrfs, a log of requests, and a second machine that pulls both."""
+
+    def __init__(self, program: Path, folder: Path) -> None:
+        self.program, self.folder, self.lock = program, folder, threading.Lock()
+        self.count, self.at, self.disk = 0, 0.0, folder / "books"
+        self.archive, self.second = folder / "archives" / "counter", folder / "second"
+        self.log, self.followed = folder / "requests.log", folder / "followed" / "requests.log"
+        for path in (self.disk, self.archive, self.second, self.followed.parent):
+            path.mkdir(parents=True)
+        self.log.touch()
+        with open(folder / "books.disk", "w") as file:
+            file.truncate(2 << 30)
+        done("mkfs.btrfs", "-q", folder / "books.disk")
+        done("mount", "-o", "loop", folder / "books.disk", self.disk)
+        (self.disk / "snapshots").mkdir()
+        self.new_disk()
+        apply(program, self.store, beginning(BONDS))
+        self.nightly = copied(self.store, folder / "nightly")
+        self.processes: list[subprocess.Popen[str]] = []
+        self.start()
+        words = [RESTORE / "pull", self.archive, self.second, "--every", "1"]
+        words += ["--requests", self.log, self.followed]
+        self.pull = started(*words, stderr=subprocess.DEVNULL)
+
+    def new_disk(self) -> None:
+        self.count += 1
+        folder = self.disk / f"store-{self.count}"
+        done("btrfs", "-q", "subvolume", "create", folder)
+        self.store = folder / "day.db"
+
+    def start(self) -> None:
+        self.port = free_port()
+        words = [self.store, self.archive, "--snapshots", self.disk / "snapshots", "--every", "1"]
+        archiver = started(RESTORE / "archive", *words, stderr=subprocess.DEVNULL)
+        self.processes = [serve(self.program, self.store, self.port), archiver]
+        until((self.archive / "requests.jsonl").exists)
+
+    def ask(self, message: bytes) -> Answer | None:
+        """One answer, and its line in the log before the client has it."""
+        answer = ask(self.port, message)
+        if answer is not None and answer[0] in (200, 409):
+            with self.lock, open(self.log, "a") as log:
+                self.at += 0.001
+                sent = message.replace(b"Connection: close\r\n", b"")
+                log.write(entry_of(sent, answer[1], self.at, str(answer[0])))
+        return answer
+
+    def lose(self) -> None:
+        for process in self.processes:
+            process.kill()
+        for process in self.processes:
+            process.wait()
+
+    def end(self) -> None:
+        self.lose()
+        end(self.pull)
+        run("chattr", "-R", "-a", self.second)
+        done("umount", "-l", self.disk)
+
+
+@pytest.fixture
+def machine(program: Path, tmp_path: Path) -> Iterator[Machine]:
+    found = Machine(program, tmp_path)
+    yield found
+    found.end()
+
+
+@pytest.mark.root
+def test_moments(machine: Machine, dice: random.Random) -> None:
+    load = Load(machine.ask, BONDS, CLIENTS)
+    load.start()
+    seconds: list[float] = []
+    for nth in range(int(os.environ.get("MOMENTS", "5"))):
+        way = nth % len(WAYS)
+        time.sleep(dice.uniform(0.5, 2.0))
+        earlier = keep_log(machine) if way == 2 else None
+        time.sleep(dice.uniform(0.2, 0.6))
+        machine.lose()
+        begun = time.time()
+        acknowledged = dict(load.replies)
+        restore(machine, way, earlier)
+        machine.start()
+        seconds.append(time.time() - begun)
+        held = kept(machine.store)
+        wanted = {key_of(load.requests[name]): reply for name, reply in acknowledged.items()}
+        assert wanted.items() <= held.items(), WAYS[way]
+    load.stop()
+    assert len(load.replies) > 100, "control: it was lost under load"
+    keys = {key_of(load.requests[name]) for name in load.replies}
+    assert not keys & kept(machine.nightly).keys(), "control: the nightly copy lacks all of them"
+    for name in load.in_order():
+        assert machine.ask(load.requests[name]) == (200, load.replies[name])
+    machine.lose()
+    assert fault_of_books(copied(machine.store, machine.folder / "last"), load.replies) is None
+    took = f"{statistics.median(seconds):.1f} seconds, at most {max(seconds):.1f}"
+    print(f"{len(seconds)} moments, {len(load.replies)} replies; from the loss to serving {took}")
+
+
+def keep_log(machine: Machine) -> Path:
+    """The store's log as it is now, from a snapshot."""
+    machine.count += 1
+    snapshot = machine.disk / "snapshots" / f"earlier-{machine.count}"
+    done("btrfs", "-q", "subvolume", "snapshot", "-r", machine.store.parent, snapshot)
+    kept_log = machine.folder / f"earlier-{machine.count}"
+    shutil.copy(snapshot / "day.db-wal", kept_log)
+    done("btrfs", "-q", "subvolume", "delete", snapshot)
+    return kept_log
+
+
+def restore(machine: Machine, way: int, earlier: Path | None) -> None:
+    """Loses the store and its archive, or its log, and restores it by counter-restore."""
+    sources = [machine.log]
+    if earlier:
+        run(machine.program, "export", "1", "--db", machine.store)
+        shutil.copy(earlier, f"{machine.store}-wal")
+        sources.append(machine.archive)
+    else:
+        done("btrfs", "-q", "subvolume", "delete", machine.store.parent)
+        machine.new_disk()
+        sources += [machine.nightly.parent, machine.archive] if way == 1 else [machine.archive]
+    if way == 3:
+        # The last line is on its way.
+        size = machine.log.stat().st_size
+        until(lambda: machine.followed.stat().st_size == size)
+        sources = [machine.second, machine.followed]
+        shutil.rmtree(machine.archive)
+    named: list[object] = [word for path in sources for word in ("--from", path)]
+    named += ["--archive", machine.archive, "--program", machine.program, "--yes"]
+    done(RESTORE / "counter-restore", machine.store, *named)
+    done(RESTORE / "guard", machine.store, machine.archive)
+
+
+def kept(store: Path) -> dict[tuple[int, int], str]:
+    folder = Path("/dev/shm") / f"kept-{os.getpid()}"
+    found = rows(copied(store, folder), "SELECT desk, number, reply FROM answers")
+    shutil.rmtree(folder)
+    return {(desk, number): reply for desk, number, reply in found}

@@ -1,26 +1,30 @@
 """What the second machine pulls, and how it shows that the first one was taken back."""
 
-from __future__ import annotations
-
 import json
 import os
 import random
 import shutil
 import subprocess
+import tarfile
 import time
 from pathlib import Path
-from typing import Callable, Iterator
+from typing import Iterator
 
 import archives
 import machine_files
 import pytest
-from tests.conftest import TOP
+from tests.conftest import TOP, until
 from tests.restore.counter_day import RESTORE, Day, copied, entry_of, redemption, run, started
-from tests.shared.counter_calls import apply
+from tests.shared.counter_calls import apply, done
 
 
 def contents(folder: Path) -> dict[str, bytes]:
     return {path.name: path.read_bytes() for path in sorted(folder.iterdir())}
+
+
+def put(texts: dict[str, bytes], folder: Path) -> None:
+    for name, text in texts.items():
+        (folder / name).write_bytes(text)
 
 
 def request_of(line: bytes) -> archives.Request:
@@ -51,29 +55,31 @@ def test_refused_pull(day: Day, rows_more: int) -> None:
     (day.archive / "end.json").write_text(archives.compact({**end, "checksum": "0" * 64}) + "\n")
     refused = day.pull()
     assert refused.returncode == 1 and contents(day.second) == had, refused.stderr
-    for name, text in honest.items():
-        (day.archive / name).write_bytes(text)
+    put(honest, day.archive)
     assert day.pull().returncode == 0
     assert contents(day.second) == honest
 
 
-def changed(lines: list[bytes]) -> list[bytes]:
-    """One payee changed in the middle, and the chain made right behind it."""
-    found = lines[:50]
-    for line in lines[50:]:
-        request = request_of(line)
-        request = request._replace(act=request.act.replace('"payee":7', '"payee":8'))
-        found.append(archives.line_of(archives.checksum(found[-1]), request))
+#: The fields of requests that are changed, each with its old and new text.
+Texts = dict[str, tuple[str, str]]
+PAYEE: Texts = {"act": ('"payee":7', '"payee":8')}
+
+
+def changed(lines: list[bytes], texts: Texts, first: int = 50) -> list[bytes]:
+    """From a line on a text is changed, and the chain made right."""
+    found = lines[:first]
+    for request in map(request_of, lines[first:]):
+        parts = {name: getattr(request, name).replace(*pair) for name, pair in texts.items()}
+        found.append(archives.line_of(archives.checksum(found[-1]), request._replace(**parts)))
     return found
 
 
-@pytest.mark.parametrize(
-    "harm", [changed, lambda lines: lines[:60], lambda lines: changed(lines)[:120]]
-)
-def test_overwritten(day: Day, harm: Callable[[list[bytes]], list[bytes]]) -> None:
+@pytest.mark.parametrize("texts, count", [(PAYEE, 154), ({}, 60), (PAYEE, 120)])
+def test_overwritten(day: Day, texts: Texts, count: int) -> None:
     """What the first machine has is changed or cut: the second keeps what it has."""
     had = contents(day.second)
-    write_archive(day.archive, harm((day.archive / "requests.jsonl").read_bytes().splitlines()))
+    lines = (day.archive / "requests.jsonl").read_bytes().splitlines()
+    write_archive(day.archive, changed(lines, texts)[:count])
     refused = day.pull()
     assert refused.returncode == 1 and contents(day.second) == had, refused.stderr
 
@@ -81,16 +87,13 @@ def test_overwritten(day: Day, harm: Callable[[list[bytes]], list[bytes]]) -> No
 def test_pull_goes_on(day: Day) -> None:
     """Control: the archive as it is, is pulled; over connections that break after 9,000 bytes too, each from where the last one ended."""
     over = day.folder / "over"
-    over.write_text(
-        'case "$1" in *requests.jsonl*) sh -c "$1" | head -c 9000; exit 255 ;; esac; exec sh -c "$1"\n'
-    )
+    cut = 'case "$1" in *requests.jsonl*) sh -c "$1" | head -c 9000; exit 255 ;; esac'
+    over.write_text(f'{cut}; exec sh -c "$1"\n')
     target = day.new("cut")
     target.mkdir()
-    statuses: list[int] = []
+    pull, statuses = (RESTORE / "pull", day.archive, target, "--over", f"sh {over}"), list[int]()
     while len(statuses) < 99 and statuses[-1:] != [0]:
-        statuses.append(
-            run(RESTORE / "pull", day.archive, target, "--over", f"sh {over}").returncode
-        )
+        statuses.append(run(*pull).returncode)
     assert statuses[-1] == 0 and statuses.count(3) == len(statuses) - 1 > 3, statuses
     assert contents(target) == contents(day.archive)
     assert day.pull().returncode == 0 and contents(day.second) == contents(day.archive)
@@ -120,55 +123,17 @@ def follower(day: Day) -> Iterator[Path]:
     target.parent.mkdir()
     machine.mkdir()
     (day.folder / "machine.tar").write_bytes(b"one")
-    words = [
-        "--every",
-        "0.2",
-        "--requests",
-        day.log,
-        target,
-        "--machine",
-        day.folder / "machine.tar",
-        machine,
-    ]
+    words = ["--every", "0.2", "--requests", day.log, target]
+    words += ["--machine", day.folder / "machine.tar", machine]
     with started(RESTORE / "pull", day.archive, day.second, *words) as process:
         yield target
         process.terminate()
-    for name in os.listdir("/proc"):
-        if name.isdigit() and str(day.log) in command_of(name):
-            os.kill(int(name), 15)
-
-
-def command_of(process: str) -> str:
-    try:
-        return (
-            Path(f"/proc/{process}/cmdline")
-            .read_bytes()
-            .replace(b"\0", b" ")
-            .decode(errors="replace")
-        )
-    except OSError:
-        return ""
-
-
-def is_equal_soon(
-    wanted: Callable[[], object], found: Callable[[], object], seconds: float = 20
-) -> None:
-    until = time.time() + seconds
-    while found() != wanted() and time.time() < until:
-        time.sleep(0.05)
-    assert found() == wanted()
+    run("pkill", "-f", day.log)
 
 
 def break_connection(day: Day) -> None:
     """Ends the shell that sends the log, and its tail."""
-    found = [
-        name
-        for name in os.listdir("/proc")
-        if name.isdigit() and "tail" in command_of(name) and str(day.log) in command_of(name)
-    ]
-    assert found, "control: a connection is there"
-    for name in found:
-        os.kill(int(name), 9)
+    done("pkill", "-KILL", "-f", f"tail.*{day.log}")
 
 
 def test_log_is_followed_by_position(day: Day, follower: Path) -> None:
@@ -180,17 +145,15 @@ def test_log_is_followed_by_position(day: Day, follower: Path) -> None:
         files = sorted(followed.glob("requests.log*"), key=os.path.getmtime)
         return [line for path in files for line in path.read_text().splitlines()]
 
-    is_equal_soon(lambda: every, lines_there)
+    until(lambda: lines_there() == every, lines_there)
     for turn in range(4):
         break_connection(day)
-        new = [
-            entry_of(redemption(300 + turn * 5 + nth), "{}", 5000 + turn * 5 + nth)
-            for nth in range(5)
-        ]
+        places = range(5 * turn, 5 * turn + 5)
+        new = "".join(entry_of(redemption(300 + at), "{}", 5000 + at) for at in places)
         with open(day.log, "a") as log:
-            log.write("".join(new))
-        every += [line.rstrip("\n") for line in new]
-        is_equal_soon(lambda: every, lines_there)
+            log.write(new)
+        every += new.splitlines()
+        until(lambda: lines_there() == every, lines_there)
         if turn == 1:
             os.rename(day.log, f"{day.log}-20260206")
             day.log.touch()
@@ -207,7 +170,7 @@ def test_cut_line_comes_again(day: Day) -> None:
     target.write_text(text[: len(text) // 2])
     words = ["--every", "1", "--requests", day.log, target]
     with started(RESTORE / "pull", day.archive, day.second, *words) as process:
-        is_equal_soon(lambda: text, target.read_text)
+        until(lambda: target.read_text() == text, target.read_text)
         process.terminate()
     break_connection(day)
 
@@ -215,14 +178,13 @@ def test_cut_line_comes_again(day: Day) -> None:
 def test_machine_states_are_kept(day: Day, follower: Path) -> None:
     """Each state of the machine's files comes once, and 30 are kept."""
     machines = day.folder / "machines"
-    is_equal_soon(
-        lambda: [b"one"], lambda: [path.read_bytes() for path in machines.glob("machine-*.tar")]
-    )
+
+    def states() -> list[bytes]:
+        return sorted(path.read_bytes() for path in machines.glob("machine-*.tar"))
+
+    until(lambda: states() == [b"one"], states)
     (day.folder / "machine.tar").write_bytes(b"two")
-    is_equal_soon(
-        lambda: {b"one", b"two"},
-        lambda: {path.read_bytes() for path in machines.glob("machine-*.tar")},
-    )
+    until(lambda: states() == [b"one", b"two"], states)
     time.sleep(1)
     assert len(list(machines.iterdir())) == 2
 
@@ -244,9 +206,9 @@ def taken_back(day: Day) -> Day:
     return day
 
 
-def witness_of(day: Day, name: str = "witness", rows: int | None = None) -> Path:
+def witness_of(day: Day) -> Path:
     """What the second machine prints: its end, and the last lines of its log."""
-    folder = day.folder / name
+    folder = day.folder / "witness"
     folder.mkdir()
     shutil.copy(day.second / "end.json", folder)
     (folder / "requests").write_text("".join(day.log.read_text().splitlines(keepends=True)[-20:]))
@@ -255,7 +217,6 @@ def witness_of(day: Day, name: str = "witness", rows: int | None = None) -> Path
 
 def test_witness_ahead(day: Day) -> None:
     """The archive that the second machine pulled has more: refused for good, also if the bank chose to serve while it is away."""
-    old = copied(day.store, day.new("old"))
     assert day.guard(day.archive).returncode == 0 and not day.pays(150), "control"
     day.archive_now()
     day.pull()
@@ -266,27 +227,21 @@ def test_witness_ahead(day: Day) -> None:
     short = copied(day.before, day.new("short"))
     for away in ("wait", "serve"):
         refused = day.guard(store=short, WITNESS=folder, WITNESS_AWAY=away)
-        assert (
-            refused.returncode == 1 and "200 that were done are missing" in refused.stderr
-        ), refused.stderr
-    assert old.exists()
+        assert refused.returncode == 1, refused
+        assert "200 that were done are missing" in refused.stderr
 
 
 def test_taken_back_by_seconds(day: Day) -> None:
     """The second machine pulled before the moment to which this one was taken back: its archive shows nothing, its log of requests does."""
     folder = witness_of(day)
-    assert (
-        day.guard(day.archive, WITNESS=folder).returncode == 0
-    ), "control: the newest store is served"
+    assert day.guard(day.archive, WITNESS=folder).returncode == 0, "control: the newest is served"
     earlier = copied(day.before, day.new("earlier"))
     apply(day.program, earlier, [redemption(turn) for turn in range(199)])
-    assert day.guard(day.archive, store=earlier).returncode == 0 and day.pays(
-        199, earlier
-    ), "control: the archive shows nothing, and it pays again"
+    assert day.guard(day.archive, store=earlier).returncode == 0, "control: the archive is silent"
+    assert day.pays(199, earlier), "control: it pays again"
     refused = day.guard(day.archive, store=earlier, WITNESS=folder)
-    assert (
-        refused.returncode == 1 and "number 200" in refused.stderr and "lacks it" in refused.stderr
-    ), refused.stderr
+    assert refused.returncode == 1 and "number 200" in refused.stderr, refused
+    assert "lacks it" in refused.stderr
 
 
 @pytest.mark.parametrize("text", ["", "{", '{"row":7}', None])
@@ -305,10 +260,8 @@ def test_old_answer(day: Day) -> None:
     """An answer from before the start is none: a machine that was taken back has it too."""
     folder = witness_of(day)
     begun = time.time()
-    assert (
-        day.guard(day.archive, WITNESS=folder, WITNESS_WAIT="1").returncode == 3
-        and time.time() - begun < 6
-    )
+    assert day.guard(day.archive, WITNESS=folder, WITNESS_WAIT="1").returncode == 3
+    assert time.time() - begun < 6
     touch = f"while sleep 0.5; do touch {folder}/end.json; done"
     with subprocess.Popen(["sh", "-c", touch]) as toucher:
         assert day.guard(day.archive, WITNESS=folder, WITNESS_WAIT="15").returncode == 0
@@ -323,20 +276,6 @@ def test_other_history(day: Day) -> None:
     assert refused.returncode == 1 and "another history" in refused.stderr
 
 
-def ask_second(day: Day, folder: Path) -> list[object]:
-    """The words of `witness`, which asks the second machine of the test."""
-    followed = day.folder / "followed.log"
-    return [
-        RESTORE / "witness",
-        folder,
-        day.archive,
-        day.log,
-        "sh",
-        "-c",
-        f"cat {day.second}/end.json; tail -n 20 {followed}",
-    ]
-
-
 @pytest.mark.parametrize("what", ["nothing", "archive", "log", "row"])
 def test_taken_back_while_it_serves(day: Day, what: str) -> None:
     """A machine that is taken back with its memory serves on. `witness` finds it at its next question, and ends with status 1, which stops the counter."""
@@ -344,8 +283,10 @@ def test_taken_back_while_it_serves(day: Day, what: str) -> None:
     folder.mkdir()
     shutil.copy(day.log, day.folder / "followed.log")
     day.archive_now()
-    old_archive, old_log = copied_folder(day.archive, day.new("archive")), day.log.read_bytes()
-    with started(*ask_second(day, folder), stderr=subprocess.PIPE) as process:
+    old_archive, old_log = contents(day.archive), day.log.read_bytes()
+    asks = f"cat {day.second}/end.json; tail -n 20 {day.folder}/followed.log"
+    words = (RESTORE / "witness", folder, day.archive, day.log, "sh", "-c", asks)
+    with started(*words, stderr=subprocess.PIPE) as process:
         time.sleep(1.5)
         assert process.poll() is None, "control: nothing was taken back"
         day.pay(range(200, 205))
@@ -355,34 +296,20 @@ def test_taken_back_while_it_serves(day: Day, what: str) -> None:
             assert day.pull().returncode == 0
         time.sleep(1.5)
         assert process.poll() is None, "control: it goes on as the second machine does"
-        begun = time.time()
         if what == "archive":
-            put_folder(old_archive, day.archive)
+            put(old_archive, day.archive)
         elif what == "log":
             day.log.write_bytes(old_log)
         elif what == "row":
             end = json.loads((day.archive / "end.json").read_text())
             (day.second / "end.json").write_text(json.dumps({**end, "checksum": "0" * 64}) + "\n")
-        try:
-            status: int | None = process.wait(4)
-        except subprocess.TimeoutExpired:
-            status = None
+        if what == "nothing":
+            with pytest.raises(subprocess.TimeoutExpired):
+                process.wait(4)
             process.terminate()
-        assert status == (None if what == "nothing" else 1)
-        assert status is None or (
-            time.time() - begun < 3
-            and "taken back" in (process.stderr.read() if process.stderr else "")
-        )
-
-
-def copied_folder(folder: Path, target: Path) -> Path:
-    shutil.copytree(folder, target)
-    return target
-
-
-def put_folder(source: Path, target: Path) -> None:
-    for path in source.iterdir():
-        shutil.copy(path, target)
+        else:
+            said = process.communicate(timeout=3)[1]
+            assert process.returncode == 1 and "taken back" in said
 
 
 # ---- the machine's files
@@ -420,8 +347,6 @@ def test_machine_files(tmp_path: Path, dice: random.Random) -> None:
 
 def test_machine_files_of_others(tmp_path: Path) -> None:
     """Control: a tar with any other file is refused before the first is written."""
-    import tarfile
-
     (tmp_path / "x").write_bytes(b"")
     with tarfile.open(tmp_path / "machine.tar", "w") as tar:
         tar.add(tmp_path / "x", "etc/counter/x")
@@ -445,8 +370,8 @@ def test_new_host_key(tmp_path: Path) -> None:
     block = (TOP / "samples/restore/README.md").read_text().split("```\n")[13]
     block = block.replace("/etc/counter/known_hosts", str(known))
     lines = "\n".join(block.splitlines()[1:])
-    ran = run("sh", "-ec", f"PATH={tmp_path}:$PATH; cd {tmp_path}; {lines}")
-    assert ran.returncode == 0 and "SHA256:" in ran.stdout, ran.stderr
+    ran = done("sh", "-ec", f"PATH={tmp_path}:$PATH; cd {tmp_path}; {lines}")
+    assert "SHA256:" in ran
     left = known.read_text().splitlines()
     assert left == [f"second.bank.example {keys['other']}", f"counter.bank.example {keys['new']}"]
 
@@ -489,12 +414,9 @@ def test_new_machine(day: Day) -> None:
         mkdir /srv/archive
         {RESTORE}/counter-restore {day.store} --second 'sh {over}' --program {day.program} --yes || exit
         ls /srv/archive/counter; stat -c %a /srv/brought"""
-    ran = run("unshare", "--mount", "sh", "-ec", script)
-    assert ran.returncode == 0 and "/etc/counter is lost; its files are restored" in ran.stdout, (
-        ran.stdout + ran.stderr
-    )
-    files = ["end.json", "first.db", "first.db-wal", "requests.jsonl"]
-    assert ran.stdout.split()[-5:] == [*files, "700"]
+    said = done("unshare", "--mount", "sh", "-ec", script)
+    assert "/etc/counter is lost; its files are restored" in said
+    assert said.split()[-5:] == ["end.json", "first.db", "first.db-wal", "requests.jsonl", "700"]
     assert (upper / "counter" / "key.pem").read_text() == "etc/counter/key.pem"
     assert (upper / "systemd/system/counter.service.d/archives.conf").exists()
     assert day.tables() == wanted

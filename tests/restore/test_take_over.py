@@ -1,24 +1,19 @@
 """take_over refuses a damaged or an orphaned log, as the program does, and names what is lost with it."""
 
-from __future__ import annotations
-
 import random
 from pathlib import Path
 
 import pytest
 from tests.conftest import TOP
 from tests.restore.counter_day import Day, Served, copied, run
-from tests.shared.counter_calls import rows
+from tests.shared.counter_calls import done, rows
 
 TAKE_OVER = TOP / "samples" / "take_over"
 
 
-@pytest.fixture
-def killed(day: Day, served: Served) -> Path:
-    """A copy of the store of a killed server, whose log has 16 redemptions alone."""
-    day.archive_now()
-    # The server ends without a checkpoint of these.
-    return day.store
+def refuses(day: Day, new: Path, said: str) -> None:
+    ran = run(TAKE_OVER, day.store, new, day.program)
+    assert ran.returncode == 1 and said in ran.stderr and not new.exists(), ran
 
 
 def damage(log: Path, at: int, kind: str, dice: random.Random) -> None:
@@ -40,22 +35,20 @@ def test_damaged_log(
     served.kill()
     log = Path(f"{day.store}-wal")
     whole = log.read_bytes()
-    control = run(TAKE_OVER, day.store, tmp_path / "control.db", day.program)
-    assert control.returncode == 0 and "replies     220" in control.stdout, control.stderr
+    control = done(TAKE_OVER, day.store, tmp_path / "control.db", day.program)
+    assert "replies     220" in control
     day.archive_now()
     at = len(whole) // 4
     damage(log, at, kind, dice)
     new = tmp_path / "new.db"
     program = run(day.program, "export", "7", "--db", copied(day.store, tmp_path / "asked"))
-    refused = run(TAKE_OVER, day.store, new, day.program)
-    assert refused.returncode == 1 and "stands behind damage" in refused.stderr, refused.stderr
-    assert not new.exists() and "store: StoreFailed" in program.stderr
-    taken = run(
-        TAKE_OVER, day.store, new, day.program, "--drop-after-damage", "--archive", day.archive
-    )
-    had, gone = len(rows(new, "SELECT * FROM answers")), taken.stdout.count("\n  row ")
-    assert taken.returncode == 0 and had + gone == 220 and gone > 0, taken.stdout + taken.stderr
-    assert f"{gone} requests of {day.archive} are gone" in taken.stdout
+    assert "store: StoreFailed" in program.stderr
+    refuses(day, new, "stands behind damage")
+    words = ("--drop-after-damage", "--archive", day.archive)
+    said = done(TAKE_OVER, day.store, new, day.program, *words)
+    had, gone = len(rows(new, "SELECT * FROM answers")), said.count("\n  row ")
+    assert had + gone == 220 and gone > 0, said
+    assert f"{gone} requests of {day.archive} are gone" in said
 
 
 def test_damaged_header(day: Day, served: Served, tmp_path: Path) -> None:
@@ -63,8 +56,7 @@ def test_damaged_header(day: Day, served: Served, tmp_path: Path) -> None:
     served.kill()
     log = Path(f"{day.store}-wal")
     log.write_bytes(b"\x37" + log.read_bytes()[1:20] + b"\xff" + log.read_bytes()[21:])
-    refused = run(TAKE_OVER, day.store, tmp_path / "new.db", day.program)
-    assert refused.returncode == 1 and "header is damaged" in refused.stderr, refused.stderr
+    refuses(day, tmp_path / "new.db", "header is damaged")
 
 
 @pytest.mark.parametrize("is_missing", [True, False])
@@ -74,7 +66,4 @@ def test_orphaned_log(day: Day, served: Served, tmp_path: Path, is_missing: bool
     day.store.unlink()
     if not is_missing:
         day.store.touch()
-    refused = run(TAKE_OVER, day.store, tmp_path / "new.db", day.program)
-    assert (
-        refused.returncode == 1 and "missing or empty next to its log" in refused.stderr
-    ), refused.stderr
+    refuses(day, tmp_path / "new.db", "missing or empty next to its log")

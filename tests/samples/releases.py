@@ -9,9 +9,8 @@ from pathlib import Path
 from typing import Iterator, Mapping
 
 from tests.conftest import TOP
-from tests.restore.counter_day import Ran, run
-from tests.shared.counter_calls import matched
-from tests.shared.counter_calls import run as merged
+from tests.restore.counter_day import Ran
+from tests.shared.counter_calls import done, matched, run
 
 #: The toolchain's last line on a crate that was proved from nothing, and on one that was checked over kept work.
 VERDICT = "logic=proved functions=9 axioms=63 target=x86_64-unknown-linux-gnu cpu=x86-64-v2 sum=dac8208d650f15bf native=nat,char,string logic-built=trusted libraries-built=trusted statements=trusted"
@@ -41,12 +40,6 @@ LIBRARY = "clients/value/out"
 
 def sum_of(path: Path) -> str:
     return hashlib.sha256(path.read_bytes()).hexdigest()
-
-
-def done(*words: object, cwd: Path | None = None) -> str:
-    ran = run(*words, cwd=cwd)
-    assert ran.returncode == 0, ran
-    return ran.stdout
 
 
 def change(path: Path, old: str, new: str) -> None:
@@ -161,8 +154,7 @@ class Tree:
         self, to: Path, *words: object, umask: int = 0o022, env: Mapping[str, str] = QUICKLY
     ) -> Ran:
         named = {**os.environ, "SOURCE_DATE_EPOCH": "1700000000", "TMPDIR": str(to.parent), **env}
-        command = map(str, (self.path / "packaging/build", "--to", to, *words))
-        return merged(*command, env=named, umask=umask)
+        return run(self.path / "packaging/build", "--to", to, *words, env=named, umask=umask)
 
     def refuses(self, to: Path, said: str, *words: object) -> None:
         """It ends with status 1, says why, and makes nothing."""

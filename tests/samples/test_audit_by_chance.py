@@ -13,7 +13,7 @@ from reporting import making, page, store as reading, texts
 
 from tests.restore.counter_day import run
 from tests.samples.books import changed
-from tests.samples.reports import AUDIT, differing, reported
+from tests.samples.books import AUDIT, differing, reported
 from tests.shared.counter_calls import apply, post
 from tests.shared.hostile import counter, desk, making as requests, spelling
 

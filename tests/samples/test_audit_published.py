@@ -1,6 +1,5 @@
 """`samples/audit/report --published` compares each payment with Treasury's table (parts/sb201112.asc, of Debian's gbonds-data, in the public domain), and takes no other file."""
 
-import csv
 import hashlib
 import random
 import re
@@ -13,8 +12,8 @@ from reporting import making, published, texts
 from tests.conftest import TOP
 from tests.restore.counter_day import run
 from tests.samples.books import changed
-from tests.samples.reports import REPORT, made
-from tests.shared.counter_calls import apply, post, redeem
+from tests.samples.books import REPORT, made
+from tests.shared.counter_calls import apply, csv_rows, done, post, redeem
 
 TABLE = Path(__file__).parent / "parts/sb201112.asc"
 SHA256 = "f8581a0b980c6f823b996861d5958045e0d00e357e91b238f376ded82384658d"
@@ -28,8 +27,8 @@ Units = dict[tuple[str, str], int]
 
 
 def listed() -> Units:
-    with open(TOP / "crates/published_values/data/published-values.csv") as file:
-        return {(r["redeemed"], r["issued"]): int(r["unit_cents"]) for r in csv.DictReader(file)}
+    listed = csv_rows(TOP / "crates/published_values/data/published-values.csv")
+    return {(row["redeemed"], row["issued"]): int(row["unit_cents"]) for row in listed}
 
 
 def read(*paths: Path) -> Units:
@@ -67,8 +66,8 @@ class Paid:
         dice, self.path = random.Random(7), path
         self.bonds: dict[str, list[dict[str, Any]]] = {}
         self.rows: dict[str, str] = {}
-        with open(TOP / "samples/rates.csv") as file:
-            messages = [post("/rates", {"number": 1, "rates": list(csv.DictReader(file))}, b"")]
+        rates = csv_rows(TOP / "samples/rates.csv")
+        messages = [post("/rates", {"number": 1, "rates": rates}, b"")]
         for nth, month in enumerate([*MONTHS, "2012-06"]):
             found = self.bonds[month] = []
             for at, (dollars, letter) in enumerate(LETTERS.items()):
@@ -160,9 +159,8 @@ def test_table_by_hand(program: Path, tmp_path: Path) -> None:
     path, table = tmp_path / "samples.db", tmp_path / "hand.asc"
     for number, kind in ((1, "rates"), (2, "inventory")):
         words = ["import", kind, TOP / f"samples/{kind}.csv", "--db", path, "--number", number]
-        assert run(program, *words).returncode == 0
-    with open(TOP / "samples/inventory.csv") as file:
-        serials = [row["serial"] for row in csv.DictReader(file)]
+        done(program, *words)
+    serials = [row["serial"] for row in csv_rows(TOP / "samples/inventory.csv")]
     opening = post("/day/open", {"number": 3, "day": "2012-02-06"}, b"")
     apply(program, path, [opening, redeem(0, 4, "2012-02-06", 7, *serials)])
     table.write_text(by_hand(BY_HAND))
@@ -184,10 +182,6 @@ def with_lines(*lines: bytes) -> bytes:
     return b"\r\n".join([*LINES[:AT], *lines, *LINES[AT + 1 :]])
 
 
-def with_cell(cell: bytes) -> bytes:
-    return with_lines(LINE[:11] + cell + LINE[17:])
-
-
 NO_TABLES = {
     "nothing": b"",
     "a list of rates": (TOP / "samples/rates.csv").read_bytes(),
@@ -202,10 +196,10 @@ NO_TABLES = {
     "a month 13": with_lines(b"N201213" + LINE[7:]),
     "a short line": with_lines(LINE[:-6]),
     "a long line": with_lines(LINE + b"000000"),
-    "a letter in a value": with_cell(b"00l258"),
-    "a value of 0": with_cell(b"000000"),
-    "NO PAY for a bond of two years": with_cell(b"NO PAY"),
-    "spaces for a bond of two years": with_cell(b"      "),
+    "a letter in a value": with_lines(LINE[:11] + b"00l258" + LINE[17:]),
+    "a value of 0": with_lines(LINE[:11] + b"000000" + LINE[17:]),
+    "NO PAY for a bond of two years": with_lines(LINE[:11] + b"NO PAY" + LINE[17:]),
+    "spaces for a bond of two years": with_lines(LINE[:11] + b" " * 6 + LINE[17:]),
     "a value of a bond under 12 months": DATA.replace(b"NO PAY\r\n", b"001250\r\n", 1),
     "no month between two": re.sub(rb"(?m)^.201202.*\r\n", b"", DATA),
     "a line end alone in the midst": DATA.replace(b"\r\n", b"\r", 1),

@@ -1,6 +1,5 @@
 """The arithmetic of the report for auditors against the published values, exact arithmetic and the announced rates; and the names of docs/CONTROL_MATRIX.md."""
 
-import csv
 import random
 import re
 from collections import defaultdict
@@ -11,6 +10,7 @@ from reporting import texts, values
 
 from tests.conftest import TOP
 from tests.shared import exact
+from tests.shared.counter_calls import csv_rows
 
 DATA = TOP / "crates/published_values/data"
 #: Months of issue and redemption, and the cents of a unit.
@@ -18,16 +18,12 @@ Row = tuple[int, int, int]
 
 
 def rates_in(path: Path) -> dict[int, int]:
-    with open(path) as file:
-        return {
-            texts.MONTHS[row["from"]]: int(row["rate"].replace(".", ""))
-            for row in csv.DictReader(file)
-        }
+    found = csv_rows(path)
+    return {texts.MONTHS[row["from"]]: int(row["rate"].replace(".", "")) for row in found}
 
 
 def published() -> list[Row]:
-    with open(DATA / "published-values.csv") as file:
-        found = list(csv.DictReader(file))
+    found = csv_rows(DATA / "published-values.csv")
     months, columns = texts.MONTHS, itemgetter("issued", "redeemed", "unit_cents")
     return [(months[one], months[at], int(cents)) for one, at, cents in map(columns, found)]
 
@@ -78,9 +74,8 @@ def test_exact_arithmetic() -> None:
     odd = ((350, 350), (0, 0), (2000, 0), (340, 400), (402, 1632))
     for _ in range(8_000):
         even = (dice.randrange(2001), dice.randrange(2001))
-        terms, denomination = dice.choice((even, dice.choice(odd))), dice.choice(
-            values.DENOMINATIONS
-        )
+        terms = dice.choice((even, dice.choice(odd)))
+        denomination = dice.choice(values.DENOMINATIONS)
         issued, age = dice.randrange(1136), dice.randrange(-5, 420)
         begun, at = (exact.number_of(12 * 2005 + 4 + month) for month in (issued, issued + age))
         if at >= 200505:

@@ -13,22 +13,13 @@ from typing import Any, Iterator
 import pytest
 
 from tests.conftest import TOP
-from tests.restore.counter_day import Ran, run
+from tests.restore.counter_day import Ran, copied, run, started
 from tests.samples.books import LAST, REQUESTS, STATUSES, files_of, forget, held, refused
 from tests.samples.books import script, stopped
 from tests.samples.conftest import Mount
-from tests.samples.load import Busy, copied
-from tests.shared.counter_calls import (
-    Answer,
-    Name,
-    answered,
-    apply,
-    free_port,
-    replaced,
-    rows,
-    serve,
-)
-from tests.shared.counter_calls import sql
+from tests.samples.books import Busy
+from tests.shared.counter_calls import Answer, Name, answered, apply, done, end, free_port, replaced
+from tests.shared.counter_calls import rows, serve, sql
 
 COPY_STORE, TAKE_OVER = TOP / "samples/copy_store", TOP / "samples/take_over"
 HEADING = "| Copy by | When | A new store | A store without checksums |"
@@ -40,7 +31,7 @@ def make_store(program: Path, path: Path, kind: str = "new") -> Path:
     if kind != "new":
         sql(path, "PRAGMA page_size = 4096; VACUUM")
     assert [status for status, _ in apply(program, path, REQUESTS)] == STATUSES
-    assert run(program, "export", "7", "--db", path).returncode == 0
+    done(program, "export", "7", "--db", path)
     return path
 
 
@@ -97,29 +88,27 @@ class Row:
 
     def __init__(self, program: Path, folder: Path, when: str, kind: str) -> None:
         self.program, self.folder, self.path = program, folder, folder / "day.db"
-        subprocess.run(["btrfs", "-q", "subvolume", "create", folder], check=True)
+        done("btrfs", "-q", "subvolume", "create", folder)
         make_store(program, self.path, kind)
         (folder / "ee_cli").symlink_to(program)
         (folder / "samples").symlink_to(TOP / "samples")
-        self.server: subprocess.Popen[str] | None = None
+        self.servers: list[subprocess.Popen[str]] = []
         if when != "at rest":
             port = free_port()
-            self.server = serve(program, self.path, port)
+            self.servers.append(serve(program, self.path, port))
             assert answered(port, LAST)[0] == 200
         if when == "after a kill":
             self.stop()
 
     def stop(self) -> None:
-        if self.server:
-            self.server.kill()
-            self.server.communicate()
-            self.server = None
+        for server in self.servers:
+            end(server)
 
     def run(self, command: str) -> tuple[str, bool]:
         """What a command said, and whether it waited for the counter, which is stopped after 10 seconds then."""
-        words = ["timeout", "60", "bash", "-c", command]
         pipes: dict[str, Any] = {"stdout": subprocess.PIPE, "stderr": subprocess.STDOUT}
-        with subprocess.Popen(words, cwd=self.folder, text=True, **pipes) as process:
+        words = ("timeout", "60", "bash", "-c", command)
+        with started(*words, cwd=self.folder, **pipes) as process:
             try:
                 return process.communicate(timeout=10)[0].strip(), False
             except subprocess.TimeoutExpired:
@@ -151,7 +140,7 @@ class Row:
         self.stop()
         for path in (self.folder / "copy", self.folder):
             if path.is_dir() and path.stat().st_ino == 256:
-                subprocess.run(["btrfs", "-q", "subvolume", "delete", path], check=True)
+                done("btrfs", "-q", "subvolume", "delete", path)
 
 
 @pytest.fixture(scope="module")
@@ -174,8 +163,8 @@ def test_cell(program: Path, disk: Path, way: str, when: str, kind: str, wanted:
         row.stop()
         assert found(program, row.path) == whole
         if outcome.startswith("`"):
-            ran = run(TAKE_OVER, copy, row.folder / "new.db", program)
-            assert ran.returncode == 0 and found(program, row.folder / "new.db") == whole, ran
+            done(TAKE_OVER, copy, row.folder / "new.db", program)
+            assert found(program, row.folder / "new.db") == whole
     finally:
         row.remove()
 
@@ -204,7 +193,7 @@ def test_torn(busy: Busy, folder: Path) -> None:
         busy.redeem(5)
     assert beside_the_log(file) is None
     busy.stop()
-    assert run(busy.program, "export", "999", "--db", busy.path).returncode == 0
+    done(busy.program, "export", "999", "--db", busy.path)
     assert len(beside_the_log(file) or ()) == len(acknowledged) >= 60
 
 
@@ -224,9 +213,8 @@ def test_copies_at_a_stop(program: Path, folder: Path) -> None:
     busy.stop()
 
 
-BETWEEN = (
-    '    for end in ("", "-wal"):\n        if os.path.exists(store + end):\n            name ='
-)
+BETWEEN = '    for end in ("", "-wal"):\n'
+BETWEEN += "        if os.path.exists(store + end):\n            name ="
 PAUSE = '        if end:\n            run("sh", "-c", os.environ["PAUSE"])\n        if os'
 UNCHECKED = [
     ('        if start_of(store + "-wal") == before:\n', "        if True:\n"),
@@ -247,8 +235,8 @@ def with_pauses(
     waits = f"{{ rm -f {go}; touch {reached}; while [ ! -e {go} ]; do sleep 0.02; done; }}"
     env = {**os.environ, "PAUSE": waits if is_each else f"[ -e {go} ] || {waits}"}
     words = [by, busy.path, copy, busy.program]
-    pipes: dict[str, Any] = {"stdout": subprocess.PIPE, "stderr": subprocess.PIPE, "text": True}
-    with subprocess.Popen(words, env=env, **pipes) as process:
+    pipes: dict[str, Any] = {"stdout": subprocess.PIPE, "stderr": subprocess.PIPE}
+    with started(*words, env=env, **pipes) as process:
         while process.poll() is None:
             if reached.exists():
                 reached.unlink()
@@ -365,7 +353,7 @@ def test_turned_bits(program: Path, folder: Path, dice: random.Random, kind: str
     busy = Busy(program, folder / "day.db", 3000)
     busy.redeem(1000)
     busy.stop()
-    assert run(program, "export", "999", "--db", busy.path).returncode == 0
+    done(program, "export", "999", "--db", busy.path)
     whole, data = held(busy.path), busy.path.read_bytes()
     counts = {"found": 0, "same": 0, "changed": 0}
     for _ in range(200):

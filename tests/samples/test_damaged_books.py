@@ -21,7 +21,7 @@ from reporting import archive, digests, making, replay, texts
 from tests.conftest import TOP
 from tests.restore.counter_day import Ran, run
 from tests.samples.books import changed
-from tests.samples.reports import REPORT, differing, made, reported
+from tests.samples.books import REPORT, differing, made, reported
 from tests.shared.checksums import size_of_pages, with_checksums
 from tests.shared.counter_calls import TABLES, apply, post, rows
 from tests.shared.hostile import counter, desk

@@ -288,31 +288,7 @@ def test_full_disk(old: Old, mount: Mount, more: int) -> None:
 
 
 WRONG = tomllib.loads((Path(__file__).parent / "parts/wrong_programs.toml").read_text())
-FAKE = """#!{python}
-import re, subprocess, sys
-words, given = sys.argv[1:], b""
-is_new = any("new.db" in word for word in words)
-if words[0] == "apply":
-    given = sys.stdin.buffer.read()
-def other_rates(word):
-    if not word.endswith("rates.csv"):
-        return word
-    with open(word) as file, open(word + ".other", "w") as to:
-        to.write(file.read().replace("3.50", "3.60"))
-    return word + ".other"
-if is_new:
-    {before}
-    if given.startswith(b"POST"):
-        body = given.partition(b"\\r\\n\\r\\n")[2]
-        given = re.sub(rb"Content-Length: \\d+", b"Content-Length: %d" % len(body), given, count=1)
-ran = subprocess.run([{program!r}, *words], input=given, stdout=subprocess.PIPE, stderr=subprocess.PIPE)
-out = ran.stdout
-if is_new:
-    {after}
-sys.stdout.buffer.write(out)
-sys.stderr.buffer.write(ran.stderr)
-sys.exit(ran.returncode)
-"""
+FAKE: str = WRONG.pop("FAKE")
 
 
 def fake(old: Old, path: Path, before: str, after: str) -> Path:

@@ -4,7 +4,6 @@ import os
 import random
 import shutil
 import signal
-import subprocess
 import time
 from pathlib import Path
 from typing import Any, Iterator
@@ -12,11 +11,11 @@ from typing import Any, Iterator
 import pytest
 
 from tests.conftest import TOP
-from tests.restore.counter_day import Ran, run
+from tests.restore.counter_day import Ran, copied, run
 from tests.samples.books import forget, script, stopped
 from tests.samples.conftest import Mount
-from tests.samples.load import Busy, copied
-from tests.shared.counter_calls import Name, replaced
+from tests.samples.books import Busy
+from tests.shared.counter_calls import Name, done, replaced
 
 SNAPSHOT_COPY, COPY_STORE = TOP / "samples/snapshots/snapshot_copy", TOP / "samples/copy_store"
 SNAPSHOTS, BONDS = 30, 8000
@@ -31,7 +30,7 @@ class Disks:
         self.program, books = program, mount("btrfs", "books")
         self.copies = mount("btrfs", "copies")
         self.store, self.snapshots = books / "store", books / "snapshots"
-        subprocess.run(["btrfs", "-q", "subvolume", "create", self.store], check=True)
+        done("btrfs", "-q", "subvolume", "create", self.store)
         self.snapshots.mkdir()
 
     def command(
@@ -42,10 +41,6 @@ class Disks:
 
     def copy(self, *before: object, **more: Any) -> Ran:
         return run(*before, *self.command(**more))
-
-    def opens(self) -> bool:
-        """Whether a copy is opened now."""
-        return any(name.startswith("opened-") for name in os.listdir(self.copies))
 
     def names(self) -> tuple[set[str], set[str]]:
         return set(os.listdir(self.snapshots)), set(os.listdir(self.copies))
@@ -83,7 +78,7 @@ def test_snapshots(busy: Busy, disks: Disks, dice: random.Random, folder: Path) 
         time.sleep(dice.uniform(0.02, 0.35))
         taken.append(dict(busy.load.replies))
         to = disks.snapshots / f"random-{nth}"
-        run("btrfs", "subvolume", "snapshot", "-r", disks.store, to).check_returncode()
+        done("btrfs", "subvolume", "snapshot", "-r", disks.store, to)
     assert busy.load.turn < BONDS, "the clients still redeem"
     busy.load.stop()
     for nth, acknowledged in enumerate(taken[1:], 1):
@@ -98,10 +93,8 @@ def test_sent(busy: Busy, disks: Disks, folder: Path) -> None:
     """Three nightly copies while clients redeem, of which two are kept."""
     for night in range(3):
         acknowledged = while_clients_redeem(busy, 1)
-        ran = disks.copy()
+        name = done(*disks.command()).split(": ")[0]
         busy.load.stop()
-        assert ran.returncode == 0, ran
-        name = ran.stdout.split(": ")[0]
         busy.is_right(copied(disks.copies / name / "day.db", folder / str(night)), acknowledged)
     assert [len(names) for names in disks.kept()] == [2, 2]
 
@@ -141,7 +134,8 @@ def test_killed_copies(busy: Busy, disks: Disks, folder: Path) -> None:
     """A stopped copy leaves nothing; a killed one nothing that has a copy's name, and the next one removes what it left."""
     waits, before = script(folder / "waits", "#!/bin/sh\nexec sleep 600\n"), disks.names()
     for by, wanted in ((signal.SIGTERM, []), (signal.SIGKILL, ["opened-", "part-", "part-"])):
-        stopped(disks.command(program=waits), disks.opens, by)
+        opened = lambda: any(name.startswith("opened-") for name in os.listdir(disks.copies))
+        stopped(disks.command(program=waits), opened, by)
         left = [now - then for now, then in zip(disks.names(), before)]
         assert sorted(name.split("2")[0] for names in left for name in names) == wanted
     assert disks.copy().returncode == 0
@@ -153,13 +147,11 @@ def test_killed_copies(busy: Busy, disks: Disks, folder: Path) -> None:
 def test_gone_back(busy: Busy, disks: Disks) -> None:
     """The store is lost, and the last copy takes its place."""
     acknowledged = while_clients_redeem(busy, 0.5)
-    ran = disks.copy()
+    copy = disks.copies / done(*disks.command()).split(": ")[0]
     busy.load.stop()
-    assert ran.returncode == 0, ran
     busy.stop()
     forget(busy.path)
-    for name in ("day.db", "day.db-wal"):
-        shutil.copy(disks.copies / ran.stdout.split(": ")[0] / name, disks.store)
+    shutil.copytree(copy, disks.store, dirs_exist_ok=True)
     busy.start()
     answers = [busy.ask(busy.load.requests[name]) for name in acknowledged]
     assert answers == [(200, reply) for reply in acknowledged.values()]
@@ -183,8 +175,7 @@ def test_copy_store(
         while len(taken) < 8 and busy.load.turn < BONDS * 3 // 4:
             time.sleep(dice.uniform(0.05, 0.2))
             taken.append(dict(busy.load.replies))
-            ran = run(COPY_STORE, busy.path, folder / str(len(taken)), program)
-            assert ran.returncode == 0, ran
+            done(COPY_STORE, busy.path, folder / str(len(taken)), program)
         assert busy.load.turn < BONDS and len(taken) >= 4
         busy.load.stop()
     finally:

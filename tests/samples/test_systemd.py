@@ -10,7 +10,7 @@ import pytest
 
 from tests.conftest import TOP, at_once, until
 from tests.fence.conftest import Machine, MakeMachine
-from tests.samples.load import copied
+from tests.restore.counter_day import copied
 from tests.shared.counter_calls import Answer, Load, apply, ask, beginning, bond, day_text, get
 from tests.shared.counter_calls import post, sql
 

@@ -8,6 +8,7 @@ import re
 import shutil
 import sqlite3
 import subprocess
+from contextlib import closing
 from pathlib import Path
 from typing import Iterator, NamedTuple
 
@@ -45,6 +46,13 @@ class Known(NamedTuple):
     program: Path
     path: Path
     answers: tuple[list[str], list[Answer]]
+
+    def taken(self, store: Path) -> str:
+        """What take_over says of a store; the new one has the rows of this one, and goes on."""
+        new, said = taken(self.program, store)
+        assert held(new) == held(self.path)
+        self.goes_on(new)
+        return said
 
     def goes_on(self, new: Path) -> None:
         """The new store is like one of the program's own, gives the same answers, and is paid from."""
@@ -116,9 +124,7 @@ replies     9
 def test_changed_store(known: Known, tmp_path: Path, statements: str) -> None:
     store = changed(known.path, tmp_path / "changed.db", statements)
     is_refused(known.program, store, "Unusable")
-    new, said = taken(known.program, store)
-    assert held(new) == held(known.path)
-    known.goes_on(new)
+    said = known.taken(store)
     is_named = "not taken over: notes, unpaid" in said
     assert is_named == (statements == MORE) and said.startswith(SAID)
 
@@ -137,9 +143,7 @@ def test_dump(known: Known, tmp_path: Path, begin: str, fault: str) -> None:
     text = f"{begin}\n{sql(known.path, '.dump')}"
     subprocess.run(["sqlite3", store], input=text, stdout=subprocess.DEVNULL, text=True, check=True)
     is_refused(known.program, store, fault)
-    new, _ = taken(known.program, store)
-    assert held(new) == held(known.path)
-    known.goes_on(new)
+    known.taken(store)
 
 
 @pytest.mark.parametrize("statement", ["", "VACUUM", MORE])
@@ -151,9 +155,7 @@ def test_store_with_checksums(known: Known, tmp_path: Path, statement: str) -> N
     if statement:
         sql(store, statement)
         is_refused(known.program, store, "StoreFailed")
-    new, _ = taken(known.program, store)
-    assert held(new) == held(known.path)
-    known.goes_on(new)
+    known.taken(store)
 
 
 # A bond that is taken out, and what a writer did then: in the log it committed the bond again, in the journal it has to take back what it changed.
@@ -168,15 +170,13 @@ WRITERS = {
 def test_stopped_writer(known: Known, tmp_path: Path, end: str) -> None:
     """What a writer left in its log counts, and what it left in its journal is taken back."""
     busy, store = Path(shutil.copy(known.path, tmp_path / "busy.db")), tmp_path / "stopped.db"
-    base = sqlite3.connect(busy, isolation_level=None)
-    base.executescript(f"PRAGMA journal_mode = DELETE; {WRITERS[end]}")
-    for part in ("", end):
-        shutil.copy(f"{busy}{part}", f"{store}{part}")
-    base.close()
+    with closing(sqlite3.connect(busy, isolation_level=None)) as base:
+        base.executescript(f"PRAGMA journal_mode = DELETE; {WRITERS[end]}")
+        for part in ("", end):
+            shutil.copy(f"{busy}{part}", f"{store}{part}")
     alone = Path(shutil.copy(store, tmp_path / "alone.db"))
-    assert (
-        sql(alone, "SELECT count(*) FROM bonds") == "4\n"
-    ), "control: without it a bond is missing"
+    bonds = sql(alone, "SELECT count(*) FROM bonds")
+    assert bonds == "4\n", "control: without it a bond is missing"
     new, _ = taken(known.program, store)
     known.goes_on(new)
 
@@ -236,6 +236,7 @@ CENTS = "UPDATE paid SET cents = cents + 1 WHERE ticket = 1 AND place = 1"
 SUM = "SET total = total + 1"
 SUMS = f"; UPDATE tickets {SUM} WHERE ticket = 1; UPDATE batches {SUM}"
 RATES = "DROP TABLE rates; CREATE TABLE rates (period, rate)"
+RATES += "; INSERT INTO rates VALUES ('60', 200), (66, 350)"
 REFUSED = "refuses the new store: store: Unusable"
 WRONG_ROWS = [
     (CENTS, REFUSED),
@@ -246,10 +247,7 @@ WRONG_ROWS = [
     ("DELETE FROM desk", "its table desk has other rows"),
     ("DROP TABLE batches", "it has no table batches"),
     ("ALTER TABLE bonds ADD COLUMN note TEXT", "its table bonds has other columns"),
-    (
-        f"{RATES}; INSERT INTO rates VALUES ('60', 200), (66, 350)",
-        f"differs in rates|{REFUSED[:21]}",
-    ),
+    (RATES, f"differs in rates|{REFUSED[:21]}"),
 ]
 
 

@@ -18,8 +18,8 @@ import pytest
 
 from tests.conftest import TOP, until
 from tests.restore.counter_day import Ran, run
-from tests.shared.counter_calls import Answer, Load, beginning, bond, day_text, fault_of_books, get
-from tests.shared.counter_calls import post, read_answer
+from tests.shared.counter_calls import Answer, Load, beginning, bond, day_text, done, end
+from tests.shared.counter_calls import fault_of_books, get, post, read_answer
 
 pytestmark = [pytest.mark.root, pytest.mark.slow, pytest.mark.needs("glusterd", "ip", "sqlite3")]
 SAMPLES = TOP / "samples/replicated"
@@ -43,11 +43,6 @@ ENDS = (
 )
 
 
-def done(*words: object) -> None:
-    ran = run(*words)
-    assert ran.returncode == 0, ran
-
-
 class Host:
     """Its network, its first process, and its folders, which are its disk."""
 
@@ -68,19 +63,13 @@ class Host:
     def boot(self) -> None:
         words = f"ip netns exec {self.space} unshare --mount --pid --fork --mount-proc --kill-child"
         boot = BOOT.format(folder=self.folder, program=self.program)
-        self.outer = subprocess.Popen(
-            [*words.split(), "sh", "-c", boot], start_new_session=True, **QUIET
-        )
+        line = [*words.split(), "sh", "-c", boot]
+        self.outer = subprocess.Popen(line, start_new_session=True, **QUIET)
         children = Path(f"/proc/{self.outer.pid}/task/{self.outer.pid}/children")
-
-        def has_begun() -> bool:
-            found = children.read_text().split()
-            if not found or Path(f"/proc/{found[0]}/comm").read_text().strip() != "sleep":
-                return False
-            self.first = int(found[0])
-            return True
-
-        until(has_begun, f"host {self.nth} begins", 20)
+        until(children.read_text, f"host {self.nth} begins", 20)
+        self.first = int(children.read_text())
+        comm = Path(f"/proc/{self.first}/comm")
+        until(lambda: comm.read_text() == "sleep\n", f"host {self.nth} begins", 20)
 
     def words(self, *words: object) -> list[str]:
         return ["nsenter", "-t", str(self.first), "-n", "-m", "-p", *map(str, words)]
@@ -113,8 +102,7 @@ class Host:
 
     def forget_server(self) -> None:
         if self.server:
-            self.server.kill()
-            self.server.communicate()
+            end(self.server)
             self.server = None
 
     def stop_server(self) -> None:
@@ -124,20 +112,19 @@ class Host:
 
     def ask(self, message: bytes, patience: float = 15) -> Answer | None:
         """The answer of this host's counter, asked in its own network; None if none came."""
-        with contextlib.suppress(OSError), self.connected() as client:
+        with contextlib.suppress(OSError), self.socket() as client:
             client.settimeout(patience)
             client.connect(("127.0.0.1", PORT))
             client.sendall(message)
             return read_answer(client)
         return None
 
-    def connected(self) -> socket.socket:
+    def socket(self) -> socket.socket:
         """A socket of the counter's network, which this thread enters for a moment."""
-        libc = ctypes.CDLL(None, use_errno=True)
-        with open("/proc/thread-self/ns/net") as here:
-            with open(f"/proc/{self.first}/root{NETWORK}") as network:
-                if libc.setns(network.fileno(), 0x40000000) != 0:
-                    raise OSError("setns")
+        libc, place = ctypes.CDLL(None), f"/proc/{self.first}/root{NETWORK}"
+        with open("/proc/thread-self/ns/net") as here, open(place) as network:
+            if libc.setns(network.fileno(), 0x40000000) != 0:
+                raise OSError("setns")
             try:
                 return socket.socket()
             finally:
@@ -159,8 +146,8 @@ class Hosts:
         self.all = [Host(nth, folder, self.bridge, program) for nth in (1, 2, 3)]
         for host in self.all:
             host.boot()
-        first, others = self.all[0], self.all[1:]
-        for host in others:
+        first = self.all[0]
+        for host in self.all[1:]:
             probe = ("gluster", "peer", "probe", host.address)
             until(lambda: first.on(*probe).returncode == 0, "peers", 120)
         status = ("gluster", "peer", "status")
@@ -168,11 +155,7 @@ class Hosts:
         bricks = [f"{host.address}:{host.folder}/brick" for host in self.all]
         ran = first.on(SAMPLES / "make_volume", VOLUME, *bricks)
         assert ran.returncode == 0, ran
-        self.make_store()
-
-    def make_store(self) -> None:
-        """The bank's first store, on the volume, of the counter's user."""
-        first = self.all[0]
+        # The bank's first store, on the volume, of the counter's user.
         (first.folder / "first").write_bytes(b"".join(beginning(BONDS)))
         apply = f"{MOUNTED} && {PROGRAM} apply --db {MOUNT}/day.db < {first.folder}/first"
         said = first.on("sh", "-c", apply).stdout
@@ -182,12 +165,10 @@ class Hosts:
         self.serve_on(first)
         self.whole()
 
-    def server(self) -> Host:
+    def both(self) -> tuple[Host, Host]:
+        """The host that serves, and the next one."""
         assert self.serving is not None
-        return self.serving
-
-    def next(self) -> Host:
-        return self.all[self.server().nth % 3]
+        return self.serving, self.all[self.serving.nth % 3]
 
     def whole(self) -> None:
         """All bricks are connected to the mount that is served from, and nothing is left to heal."""
@@ -218,26 +199,27 @@ class Hosts:
     def serve_on(self, host: Host, *words: str) -> None:
         """A supervisor's work: the host's counter is started until it answers. Each start that ends says that the store isn't to be had."""
         host.start(*words)
-        end = time.time() + 60
-        while host.ask(get("/ticket/1"), 2) is None:
-            assert time.time() < end, f"host {host.nth} doesn't serve"
+
+        def serves() -> bool:
             said = host.end_of_server()
             if said is not None:
                 assert words or said.partition("\n")[0] in ENDS, said
                 host.start(*words)
-            time.sleep(0.05)
+            return host.ask(get("/ticket/1"), 2) is not None
+
+        until(serves, f"host {host.nth} doesn't serve")
         self.serving = host
 
     def lose(self, is_power: bool) -> Host:
         """The host that serves is lost, and the next one serves."""
-        lost, following = self.server(), self.next()
+        lost, following = self.both()
         lost.power_off() if is_power else lost.cable("down")
         self.serving = None
         self.serve_on(following)
         return lost
 
     def give_all_replies_again(self) -> None:
-        names, host = self.load.in_order(), self.server()
+        names, (host, _) = self.load.in_order(), self.both()
         wanted = [(200, self.load.replies[name]) for name in names]
         assert [host.ask(self.load.requests[name]) for name in names] == wanted != []
 
@@ -282,15 +264,15 @@ def test_losses(hosts: Hosts) -> None:
 
 def test_two_lost_at_once(hosts: Hosts) -> None:
     """Nothing is served until they are back; then all replies are given again, and SQLite finds each bond paid once."""
-    host = hosts.server()
+    host, _ = hosts.both()
     others = [each for each in hosts.all if each is not host]
     hosts.load.start()
     time.sleep(1)
     for other in others:
         other.power_off()
     time.sleep(1)
-    before, end, answers = len(hosts.load.replies), time.time() + 20, list[Answer | None]()
-    while time.time() < end:
+    before, ends, answers = len(hosts.load.replies), time.time() + 20, list[Answer | None]()
+    while time.time() < ends:
         answers.append(host.ask(get("/ticket/1"), 5))
         if host.end_of_server() is not None:
             host.start()
@@ -315,7 +297,7 @@ def test_two_lost_at_once(hosts: Hosts) -> None:
 @pytest.mark.parametrize("nth", range(2))
 def test_cut_off(hosts: Hosts, nth: int) -> None:
     """The start script ends the counter of a host that is cut off, so no query has an answer of before."""
-    old, following = hosts.server(), hosts.next()
+    old, following = hosts.both()
     old.cable("down")
     until(lambda: old.ask(get("/ticket/1"), 2) is None, "it goes on answering", 20)
     hosts.serving = None
@@ -325,7 +307,7 @@ def test_cut_off(hosts: Hosts, nth: int) -> None:
 
 def test_one_serves_at_a_time(hosts: Hosts) -> None:
     """With a supervisor on each host, which starts the script again after each end, the lock on the store decides."""
-    hosts.server().stop_server()
+    hosts.both()[0].stop_server()
     is_over = False
 
     def supervise(host: Host) -> None:
@@ -354,7 +336,7 @@ def test_one_serves_at_a_time(hosts: Hosts) -> None:
             lost.boot()
             until(hosts.is_healed, "the volume is whole again", 120)
         if nth < 2:
-            lost = hosts.server()
+            lost, _ = hosts.both()
             lost.lose_power()
             hosts.serving = None
     is_over = True
@@ -364,23 +346,23 @@ def test_one_serves_at_a_time(hosts: Hosts) -> None:
             time.sleep(0.2)
     for thread in threads:
         thread.join()
-    hosts.serve_on(hosts.server())
+    hosts.serve_on(hosts.both()[0])
 
 
-def redemption(hosts: Hosts, turn: int, desk: int) -> bytes:
-    """Of a bond that the load doesn't come to, on the day that is open."""
+def paid(hosts: Hosts, host: Host, turn: int, desk: int) -> Answer | None:
+    """The answer to a payment of a bond that the load doesn't come to, on the day that is open."""
     value = {"desk": desk, "number": 5_000_000 + turn, "day": day_text(hosts.load.turn - 1)}
-    return post("/redeem", value | {"payee": 7, "serials": [bond(turn)["serial"]]})
+    return host.ask(post("/redeem", value | {"payee": 7, "serials": [bond(turn)["serial"]]}))
 
 
 def pays(hosts: Hosts, host: Host, turn: int, desk: int) -> None:
-    answer = host.ask(redemption(hosts, turn, desk))
+    answer = paid(hosts, host, turn, desk)
     assert answer is not None and answer[0] == 200, answer
 
 
 def isolated(hosts: Hosts, *start: str) -> tuple[Host, list[Answer | None], int]:
     """The counter is started without the sample's script. Its host's cable is cut, it lives on, the next host serves and pays, the cable is mended, and a client talks to the old counter again. That host, what it answers, and the first bond."""
-    old, following = hosts.server(), hosts.next()
+    old, following = hosts.both()
     old.stop_server()
     hosts.serve_on(old, "sh", "-c", PLAIN)
     hosts.load.bonds -= 10
@@ -394,7 +376,7 @@ def isolated(hosts: Hosts, *start: str) -> tuple[Host, list[Answer | None], int]
     old.cable("up")
     time.sleep(8)
     pays(hosts, following, turn + 2, 51)
-    return old, [old.ask(redemption(hosts, turn + 3 + nth, 50)) for nth in range(3)], turn
+    return old, [paid(hosts, old, turn + 3 + nth, 50) for nth in range(3)], turn
 
 
 def test_isolated(hosts: Hosts) -> None:
@@ -402,14 +384,14 @@ def test_isolated(hosts: Hosts) -> None:
     old, answers, turn = isolated(hosts)
     assert all(answer is None or answer[0] == 503 for answer in answers) and any(answers), answers
     for nth in range(3):
-        pays(hosts, hosts.server(), turn + nth, 50 if nth == 0 else 51)
+        pays(hosts, hosts.both()[0], turn + nth, 50 if nth == 0 else 51)
     hosts.restore(old)
     hosts.give_all_replies_again()
 
 
 def test_control_without_strict_locks(hosts: Hosts) -> None:
     """The old counter pays into the store that another host serves: two writers. The sample's script refuses such a volume."""
-    host = hosts.server()
+    host, _ = hosts.both()
     words = ("gluster", "--mode=script", "volume", "set", VOLUME, "client.strict-locks", "off")
     assert host.on(*words).returncode == 0
     refused = host.on(SAMPLES / "serve_replicated", VOLUME, f"{MOUNT}2", PROGRAM, "8378")

@@ -14,8 +14,9 @@ import pytest
 from tests.conftest import TOP
 from tests.restore.counter_day import run
 from tests.samples.books import script
-from tests.samples.releases import KEPT, VERDICT, Packages, Tree, change, done, end_keys
+from tests.samples.releases import KEPT, VERDICT, Packages, Tree, change, end_keys
 from tests.samples.releases import fingerprint, library_in, make_key, sum_of, with_line, without
+from tests.shared.counter_calls import done
 
 pytestmark = pytest.mark.needs("dh", "esbuild", "fakeroot", "git", "cc", "gpg")
 VERIFIER = TOP / "packaging/verify"

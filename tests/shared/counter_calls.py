@@ -1,6 +1,7 @@
 """What the tests share: messages and answers, servers, and a load whose answers the rules give."""
 
 import contextlib
+import csv
 import json
 import os
 import re
@@ -36,9 +37,17 @@ BONDS = [
 ]
 
 
-def run(*words: str | Path, **more: Any) -> subprocess.CompletedProcess[str]:
-    """How a command ended, with both of its outputs in one text."""
-    return subprocess.run(words, stdout=PIPE, stderr=subprocess.STDOUT, text=True, **more)
+def run(*words: object, **more: Any) -> subprocess.CompletedProcess[str]:
+    """How a command ended, with both of its outputs in one text if `stderr` isn't given."""
+    more = {"stdout": PIPE, "stderr": subprocess.STDOUT, "text": True, **more}
+    return subprocess.run([str(word) for word in words], **more)
+
+
+def done(*words: object, **more: Any) -> str:
+    """What a command prints. It has to end with status 0."""
+    ran = run(*words, **{"stderr": PIPE, **more})
+    assert ran.returncode == 0, ran
+    return ran.stdout
 
 
 def matched(pattern: AnyStr, text: AnyStr) -> re.Match[AnyStr]:
@@ -165,7 +174,7 @@ def serve(
 
 def end(process: subprocess.Popen[Any]) -> None:
     process.kill()
-    process.communicate()
+    process.wait()
 
 
 @contextlib.contextmanager
@@ -205,6 +214,10 @@ def split_answers(text: bytes) -> list[Answer]:
         answers.append((int(head.split(b" ")[1]), text[end : end + length].decode()))
         at = end + length
     return answers
+
+
+def csv_rows(path: Path) -> list[dict[str, str]]:
+    return list(csv.DictReader(path.read_text().splitlines()))
 
 
 def rows(store: str | Path, statement: str) -> list[tuple[Any, ...]]:

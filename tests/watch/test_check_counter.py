@@ -12,9 +12,9 @@ from typing import Callable, Iterator
 
 import pytest
 
-from tests.conftest import TOP, is_listening, until
+from tests.conftest import TOP
 from tests.fence.conftest import Counter
-from tests.shared.counter_calls import run
+from tests.shared.counter_calls import run, serve
 
 CHECK = TOP / "samples/watch/check_counter"
 LIMIT = 2.0
@@ -29,19 +29,16 @@ def checked(*words: str, check: Path = CHECK) -> tuple[int, str, float]:
     return ran.returncode, ran.stdout.strip(), time.monotonic() - begun
 
 
-def test_a_counter(counter: Counter, tmp_path: Path) -> None:
+def test_a_counter(counter: Counter) -> None:
     """One connection with one message, which asks to close; the store is the same, byte for byte. Then the counter has ended."""
     counter.end()
     before = hashlib.sha256(counter.store.read_bytes()).hexdigest()
-    said = tmp_path / "said"
-    words = ["serve", "--db", str(counter.store), "--port", str(counter.port), "--connections", "1"]
-    with open(said, "w") as out:
-        served = subprocess.Popen([counter.program, *words], stdout=out)
-    until(lambda: is_listening(counter.port), "the counter doesn't listen")
+    words = (counter.program, counter.store, counter.port, "--connections", "1")
+    served = serve(*words, stdout=subprocess.PIPE)
     status, line, _ = checked(counter.url)
     assert (status, line[:13]) == (0, "COUNTER OK - ") and " | time=0." in line
-    assert served.wait(60) == 0
-    assert said.read_text() == "connection 1: 1 messages, Asked\n"
+    assert served.communicate(timeout=60)[0] == "connection 1: 1 messages, Asked\n"
+    assert served.returncode == 0
     assert hashlib.sha256(counter.store.read_bytes()).hexdigest() == before
     status, line, _ = checked(counter.url)
     assert status == 2 and "refused" in line

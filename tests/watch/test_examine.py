@@ -4,17 +4,15 @@ import contextlib
 import json
 import shutil
 import sqlite3
-import subprocess
 from pathlib import Path
-from typing import Callable, Iterator, NamedTuple
+from typing import Callable, NamedTuple
 
 import pytest
 
 from tests.conftest import TOP
-from tests.shared.counter_calls import apply, post, run
+from tests.shared.counter_calls import RATES, apply, done, post, run
 
 DAY = "2012-02-06"
-RATES = [{"from": "2010-05", "rate": "2.00"}, {"from": "2010-11", "rate": "3.50"}]
 
 
 def bond(serial: str) -> dict[str, object]:
@@ -50,16 +48,18 @@ class Examined(NamedTuple):
 
 
 class Examination:
-    """A store with a closed day, its archive, and nginx's log."""
+    """A store with a closed day, its archive, and the entries of nginx's log."""
 
-    def __init__(self, program: Path, folder: Path) -> None:
+    def __init__(self, program: Path, folder: Path, entries: list[dict[str, str]]) -> None:
         self.program, self.store, self.archive = program, folder / "day.db", folder / "archive"
-        self.log, self.entries = folder / "counter.log", list[dict[str, str]]()
+        self.folder, self.entries = folder, entries
+
+    def fill(self) -> None:
         self.archive.mkdir()
         for nth, (user, path, value) in enumerate(ASKED):
             self.send(user, path, value)
             if nth in (1, len(ASKED) - 1):
-                self.keep()
+                done(TOP / "samples/restore/archive", self.store, self.archive)
 
     def send(self, user: str, path: str, value: dict[str, object]) -> None:
         """Delivers a request, and logs it as nginx would if it has a user."""
@@ -71,18 +71,15 @@ class Examination:
             fields |= {"counter": str(status), "body": json.dumps(value), "reply": reply}
             self.entries.append(fields)
 
-    def keep(self) -> None:
-        words = (TOP / "samples/restore/archive", self.store, self.archive)
-        subprocess.run(words, check=True, stdout=subprocess.DEVNULL)
-
     def change(self, statement: str) -> None:
         """What a stock SQLite does to the store."""
         with contextlib.closing(sqlite3.connect(self.store, isolation_level=None)) as books:
             assert books.execute(statement).rowcount == 1, statement
 
     def examine(self, day: str = DAY) -> Examined:
-        self.log.write_text("".join(json.dumps(one) + "\n" for one in self.entries))
-        files = ("--log", self.log, "--archive", self.archive)
+        log = self.folder / "counter.log"
+        log.write_text("".join(json.dumps(one) + "\n" for one in self.entries))
+        files = ("--log", log, "--archive", self.archive)
         words = (self.store, day, *files, "--command-line", "999", "--as-of", day)
         ran = run(TOP / "samples/audit/examine", *words)
         return Examined(ran.returncode, ran.stdout)
@@ -90,16 +87,15 @@ class Examination:
 
 @pytest.fixture(scope="session")
 def made(program: Path, tmp_path_factory: pytest.TempPathFactory) -> Examination:
-    return Examination(program, tmp_path_factory.mktemp("examined"))
+    found = Examination(program, tmp_path_factory.mktemp("examined"), [])
+    found.fill()
+    return found
 
 
 @pytest.fixture
-def day(made: Examination, tmp_path: Path) -> Iterator[Examination]:
-    copy = Examination.__new__(Examination)
-    shutil.copytree(made.store.parent, tmp_path, dirs_exist_ok=True)
-    copy.program, copy.store, copy.archive = made.program, tmp_path / "day.db", tmp_path / "archive"
-    copy.log, copy.entries = tmp_path / "counter.log", [dict(one) for one in made.entries]
-    yield copy
+def day(made: Examination, tmp_path: Path) -> Examination:
+    shutil.copytree(made.folder, tmp_path, dirs_exist_ok=True)
+    return Examination(made.program, tmp_path, [dict(one) for one in made.entries])
 
 
 def test_a_right_day(day: Examination) -> None:
@@ -113,12 +109,9 @@ def test_a_right_day(day: Examination) -> None:
     assert "7 - - 3 3 yes refused: AlreadyPaid" in lines
 
 
-def body_of(desk: int, number: int, *serials: str) -> str:
-    return json.dumps({"desk": desk, "number": number, "day": DAY, "payee": 7, "serials": serials})
-
-
 def taken_back(day: Examination) -> None:
-    day.entries.append(day.entries[1] | {"body": body_of(3, 9, "L5EE"), "reply": ""})
+    body = json.dumps(payment(9, "L5EE")[2])
+    day.entries.append(day.entries[1] | {"body": body, "reply": ""})
 
 
 def another_reply(day: Examination) -> None:
@@ -131,6 +124,7 @@ def the_archive(day: Examination) -> None:
 
 
 REPLY = "UPDATE answers SET reply = replace(reply, '25.88', '26.88') WHERE desk = 3 AND number = 2"
+NO_REPLY = "DELETE FROM answers WHERE desk = 3 AND number = 4"
 #: A change by a function or by SQLite, and a part of the difference that is named.
 FAULTS: list[tuple[str | Callable[[Examination], object], str]] = [
     (lambda day: day.entries.pop(1), f"row 4, desk 3, number 1: ticket 1: 51.76 to 7 on {DAY}: no"),
@@ -141,10 +135,7 @@ FAULTS: list[tuple[str | Callable[[Examination], object], str]] = [
     ("UPDATE batches SET total = total + 1", "batches: batches, "),
     ("UPDATE tickets SET payee = 8 WHERE ticket = 2", "ticket 2: payee: 8"),
     (REPLY, "reply of row 6: "),
-    (
-        "DELETE FROM answers WHERE desk = 3 AND number = 4",
-        "archive: answers, desk 3 number 4: row 8",
-    ),
+    (NO_REPLY, "archive: answers, desk 3 number 4: row 8"),
     ("UPDATE rates SET rate = 360 WHERE rate = 350", "books: rates, "),
 ]
 

@@ -18,9 +18,9 @@ from xml.etree import ElementTree
 import pytest
 
 from tests.conftest import TOP, until
-from tests.watch.machine import Machine
+from tests.shared.counter_calls import replaced
 from tests.watch.troubles import FIRST, LAST, TROUBLES
-from tests.watch.world import DEBIANS, QUICK, World
+from tests.watch.world import DEBIANS, QUICK, Machine, World
 
 pytestmark = [pytest.mark.machine, pytest.mark.root, pytest.mark.slow]
 
@@ -41,13 +41,8 @@ CHECK = "/opt/counter/watch/check_counter"
 def quick_rules() -> str:
     """The rules with two seconds for each minute and 30 for each hour."""
     text = (WATCH / "alerts.yml").read_text()
-    text = re.sub(
-        r"(for: |\[)(\d+)m\b", lambda found: f"{found[1]}{2 * int(found[2])}s", text
-    ).replace("[1h]", "[30s]")
-    for old, new in SHORTER.items():
-        assert old in text, old
-        text = text.replace(old, new)
-    return text
+    seconds = re.sub(r"(for: |\[)(\d+)m\b", lambda it: f"{it[1]}{2 * int(it[2])}s", text)
+    return replaced(seconds, [("[1h]", "[30s]"), *SHORTER.items()])
 
 
 @pytest.fixture(scope="module")
@@ -234,12 +229,10 @@ def test_dashboard(today: World) -> None:
         assert panel["title"] and panel["description"]
         assert panel["datasource"]["uid"] == "${DS_PROMETHEUS}"
     expressions = [target["expr"] for panel in panels for target in panel["targets"]]
-    assert [expression for expression in expressions if not has_data(today, expression)] == []
-    assert not has_data(today, "ladwenpik_no_such_metric"), "control"
-
-
-def has_data(world: World, expression: str) -> bool:
-    return any(item["value"][1] != "NaN" for item in world.query(expression))
+    expressions.append("ladwenpik_no_such_metric")
+    found = {one: [item["value"][1] for item in today.query(one)] for one in expressions}
+    empty = [expression for expression in expressions if set(found[expression]) <= {"NaN"}]
+    assert empty == ["ladwenpik_no_such_metric"], "which is the control"
 
 
 def test_page(today: World) -> None:

@@ -13,6 +13,7 @@ import pytest
 from tests.conftest import TOP
 from tests.fence.conftest import Counter, MakeSite
 from tests.fence.site import Site
+from tests.shared.counter_calls import done, run
 
 from watching.counts import UNLOGGED
 
@@ -45,8 +46,8 @@ class Asked:
     """What who_asked said: its status, each line's user, desk and number, and its standard error."""
 
     def __init__(self, store: Path, logs: Sequence[Path], *words: str) -> None:
-        line: list[str | Path] = [TOP / "samples/audit/who_asked", *words, store, *logs]
-        ran = subprocess.run(line, capture_output=True, text=True)
+        line = (TOP / "samples/audit/who_asked", *words, store, *logs)
+        ran = run(*line, stderr=subprocess.PIPE)
         rows = [[part for part in row.split("  ") if part] for row in ran.stdout.splitlines()]
         self.status, self.said = ran.returncode, ran.stderr
         self.users = {(int(row[2]), int(row[3]), row[1].strip()) for row in rows[:-1]}
@@ -71,16 +72,11 @@ def log(path: Path, *lines: str) -> Path:
 
 def test_a_right_day(books: Path, tmp_path: Path) -> None:
     """An import, a request that was sent twice, a refusal, and bodies that the counter or nginx refused: nothing is found."""
-    whole = log(
-        tmp_path / "counter.log",
-        OPENED,
-        entry("anna", "/redeem", 3, 1, "502"),
-        FIRST,
-        SECOND,
-        entry("anna", "/redeem", 3, 3, "409"),
-        entry("anna", "/redeem", 3, 4, "400", '{"desk":3,"number":'),
-        entry("anna", "/redeem", 3, 4, "", ""),
-    )
+    lines = [OPENED, entry("anna", "/redeem", 3, 1, "502"), FIRST, SECOND]
+    bodies = {"400": '{"desk":3,"number":', "": ""}
+    lines.append(entry("anna", "/redeem", 3, 3, "409"))
+    lines += [entry("anna", "/redeem", 3, 4, *one) for one in bodies.items()]
+    whole = log(tmp_path / "counter.log", *lines)
     found = Asked(books, [whole], "--command-line", "0,999")
     assert (found.status, found.said) == (0, "")
     again = {(3, 1, "anna?"), (3, 1, "anna"), (3, 2, "dora")}
@@ -132,13 +128,10 @@ def full_disk(site: MakeSite) -> Iterator[tuple[Site, Path]]:
     """A site whose logs have a small disk of their own, and the file that fills it."""
     made = site()
     logs = made.folder / "log"
-    mounted = ["mount", "-t", "tmpfs", "-o", "size=64k,mode=755", "log", str(logs)]
-    subprocess.run(mounted, check=True)
-    try:
-        made.restart()
-        yield made, logs / "fill"
-    finally:
-        subprocess.run(["umount", "-l", logs], check=True)
+    done("mount", "-t", "tmpfs", "-o", "size=64k,mode=755", "log", logs)
+    made.restart()
+    yield made, logs / "fill"
+    done("umount", "-l", logs)
 
 
 @pytest.mark.root

@@ -2,11 +2,13 @@
 import contextlib
 import threading
 import time
+from concurrent.futures import ThreadPoolExecutor
 from typing import Any, Callable, Iterator
 
 from tests.conftest import at_once, until
+from tests.shared.counter_calls import connected
 from tests.watch.world import TROUBLES as TABLE
-from tests.watch.world import World, day_after
+from tests.watch.world import Body, World, day_after
 
 #: Makes a trouble, waits until its alert fires, and mends it.
 Making = Callable[[World], Iterator[None]]
@@ -83,34 +85,25 @@ def day_in_future(w: World) -> Iterator[None]:
     yield
 
 
-@trouble("ManyRefusals")
-def many_refusals(w: World) -> Iterator[None]:
-    for _ in range(40):
-        w.ask("POST", "/redeem", w.redemption("Z999EE"))
-    yield
+def two_payees(request: Body) -> list[Body]:
+    return [request, {**request, "payee": 8}]
 
 
-@trouble("NumberReused")
-def number_reused(w: World) -> Iterator[None]:
-    first = w.redemption(0)
-    for payee in (7, 8):
-        w.ask("POST", "/redeem", {**first, "payee": payee})
-    yield
+def by_requests(requests: Callable[[World], list[Body]]) -> Making:
+    def make(w: World) -> Iterator[None]:
+        for request in requests(w):
+            w.ask("POST", "/redeem", request)
+        yield
+
+    return make
 
 
-@trouble("PaidAgain")
-def paid_again(w: World) -> Iterator[None]:
-    for _ in range(10):
-        w.ask("POST", "/redeem", w.redemption(0))
-    yield
-
-
-@trouble("ManyRetries", "ManyRefusals")
-def many_retries(w: World) -> Iterator[None]:
-    request = w.next_redemption()
-    for _ in range(50):
-        w.ask("POST", "/redeem", request)
-    yield
+TROUBLES |= {
+    "ManyRefusals": (by_requests(lambda w: [w.redemption("Z999EE") for _ in range(40)]), set()),
+    "NumberReused": (by_requests(lambda w: two_payees(w.redemption(0))), set()),
+    "PaidAgain": (by_requests(lambda w: [w.redemption(0) for _ in range(10)]), set()),
+    "ManyRetries": (by_requests(lambda w: [w.next_redemption()] * 50), {"ManyRefusals"}),
+}
 
 
 @trouble("ManyForbidden")
@@ -129,15 +122,13 @@ def running(*loops: Callable[[], object]) -> Iterator[None]:
             with contextlib.suppress(OSError):
                 one()
 
-    threads = [threading.Thread(target=repeat, args=(one,)) for one in loops]
-    for thread in threads:
-        thread.start()
-    try:
-        yield
-    finally:
-        is_over.set()
-        for thread in threads:
-            thread.join()
+    with ThreadPoolExecutor(len(loops)) as pool:
+        for one in loops:
+            pool.submit(repeat, one)
+        try:
+            yield
+        finally:
+            is_over.set()
 
 
 @trouble("Slow", "NotAnswering")
@@ -145,7 +136,7 @@ def slow(w: World) -> Iterator[None]:
     """Beside payments, a client past nginx is silent for three seconds, again and again."""
 
     def hold() -> None:
-        with w.connected():
+        with connected(w.socket, 60):
             time.sleep(3)
 
     with running(hold, lambda: w.ask("GET", "/ticket/1")):
@@ -156,7 +147,7 @@ def slow(w: World) -> Iterator[None]:
 def many_held(w: World) -> Iterator[None]:
     with contextlib.ExitStack() as held:
         for _ in range(100):
-            held.enter_context(w.connected())
+            held.enter_context(connected(w.socket, 60))
         yield
 
 
@@ -254,9 +245,8 @@ def unlogged(w: World) -> Iterator[None]:
 def log_gap(w: World) -> Iterator[None]:
     w.shell("systemctl stop counter-watch.timer")
     w.ask("GET", "/ticket/1")
-    w.shell(
-        "cd /var/log/counter; mv watch.log watch.log.1; install -g adm -m 640 /dev/null watch.log"
-    )
+    w.shell("cd /var/log/counter; mv watch.log watch.log.1")
+    w.shell("install -g adm -m 640 /dev/null /var/log/counter/watch.log")
     w.shell("systemctl reload counter-nginx.service; sleep 1; rm /var/log/counter/watch.log.*")
     w.ask("GET", "/ticket/1")
     w.shell("systemctl start counter-watch.timer")

@@ -1,22 +1,30 @@
 """The counter on its machine, set up by the commands of the samples' pages, with a user of every group."""
 import contextlib
+import ctypes
 import datetime
 import http.client
 import json
+import os
 import re
+import shutil
 import ssl
 import time
 import tomllib
 import urllib.parse
 import urllib.request
 from pathlib import Path
-from typing import Any, ContextManager
-from socket import socket
+from typing import Any
+
+import pytest
 
 from tests.conftest import TOP, until
-from tests.shared.counter_calls import Answer, ask, bond, connected, get, post, replaced
-from tests.watch.machine import Machine
+from tests.fence import conftest as fence
+from tests.shared.counter_calls import RATES, Answer, ask, bond, get, post, replaced
 
+CLONE_NEWNET = 0x40000000
+SMALL = ("/srv/archive", "/srv/elsewhere", "/srv/requests", "/var/log/counter")
+#: The packages of INCLUDED that aren't the counter's, and that a root of one's own may lack.
+NEEDED = ("prometheus", "prometheus-node-exporter", "btrfs", "faketime")
 #: The body of a request.
 Body = dict[str, Any]
 TROUBLES: Body = tomllib.loads((TOP / "tests/watch/troubles.toml").read_text())
@@ -27,32 +35,39 @@ BONDS = 1100
 #: The seconds between two readings and two looks at the rules: for these tests, and those of Debian's package.
 QUICK = "{scrape_interval: 2s, scrape_timeout: 2s, evaluation_interval: 1s}"
 DEBIANS = "{scrape_interval: 15s, evaluation_interval: 15s}"
-PROMETHEUS = """global: INTERVALS
-rule_files: [/etc/prometheus/counter-alerts.yml]
-scrape_configs:
-- {job_name: node, static_configs: [{targets: ["localhost:9100", "localhost:9101"]}]}
-"""
-#: A second folder of the archive, on a disk of its own, and a witness that has what is there.
-ARCHIVES = """
-install -d -g counter -m 2750 /srv/elsewhere/counter
-cd samples/restore; install -m 755 pull witness /opt/counter/restore/
-install -m 644 counter-witness.service counter-taken-back.service /etc/systemd/system/
-systemd-run -q --unit elsewhere -p Restart=always -p RestartSec=1 /opt/counter/restore/pull /srv/archive/counter /srv/elsewhere/counter --every 1
-systemctl restart counter-archive.service counter.service; systemctl start counter-witness.service
-"""
-#: Prometheus reads the metrics, and those of a second exporter, which stands for another host of the bank.
-READERS = """
-cd /var/lib/prometheus; mkdir -p /etc/default node-exporter metrics2; touch /etc/default/prometheus
-echo 'ARGS="--collector.disable-defaults --collector.textfile"' > /etc/default/prometheus-node-exporter
-ln -s /run/counter-metrics/counter.prom node-exporter/counter.prom; chown -R prometheus: .
-systemctl start prometheus-node-exporter.service prometheus.service; second_exporter
-"""
-#: Prints what one more run of the metrics opens, by Python's own events.
-OPENED = """import os, runpy, sys
-sys.argv.pop(0); sys.path.insert(0, os.path.dirname(sys.argv[0]))
-events = ('open', 'sqlite3.connect')
-sys.addaudithook(lambda event, words: event in events and print('OPENED', words[0]))
-runpy.run_path(sys.argv[0], run_name='__main__')"""
+
+
+class Machine(fence.Machine):
+    """A fresh Debian with the disks of samples/snapshots, small ones for the archive, its second folder and the logs, and with samples/ and clients/."""
+
+    def __init__(self, base: Path, folder: Path, program: Path) -> None:
+        lacking = [name for name in NEEDED if not (base / "usr/bin" / name).exists()]
+        if lacking:
+            pytest.skip(f"the root {base} lacks {', '.join(lacking)}")
+        self.outside: int | None = None
+        super().__init__(str(base), str(folder / "machine"))
+        self.shell("systemctl disable -q --now nginx prometheus prometheus-node-exporter")
+        self.shell("echo 127.0.0.1 localhost counter.bank.example > /etc/hosts")
+        self.shell("mkdir -p /mnt/away /etc/counter; rm -rf /etc/prometheus")
+        self.add_store_disks(folder)
+        for path in SMALL:
+            self.shell(f"mkdir -p {path}; mount -t tmpfs -o size=64m,mode=755 {path[1:]} {path}")
+        shutil.copy(program, self.path("/root/ee_cli"))
+        for name in ("samples", "clients"):
+            ignored = shutil.ignore_patterns("out", "__pycache__", "node_modules")
+            shutil.copytree(TOP / name, self.path(f"/root/{name}"), ignore=ignored)
+
+    def end(self) -> None:
+        if self.outside is not None:
+            enter(self.outside)
+            os.close(self.outside)
+            self.outside = None
+        super().end()
+
+
+def enter(network: int) -> None:
+    libc = ctypes.CDLL(None, use_errno=True)
+    assert libc.setns(network, CLONE_NEWNET) == 0, "the network can't be entered"
 
 
 def blocks(page: str) -> list[str]:
@@ -79,12 +94,15 @@ class World:
         self.shell(re.sub("(?m)^(systemctl enable|.* import rates ).*\n", "", blocks("systemd")[0]))
         self.make_store()
         self.shell("systemctl enable --now counter.service counter-copy.timer")
-        self.machine.enter_network()
+        # This thread goes into the machine's network, until the machine ends.
+        self.machine.outside = os.open("/proc/self/ns/net", os.O_RDONLY)
+        with open(f"/proc/{self.machine.process}/ns/net") as network:
+            enter(network.fileno())
         self.wait_for_counter()
         self.shell(blocks("restore")[0])
         here = 'LoadCredential=\nEnvironment="WITNESS=cat /srv/elsewhere/counter/end.json"'
         self.drop_in("counter-witness.service", "here", here)
-        self.shell(ARCHIVES)
+        self.shell(TROUBLES["ARCHIVES"])
         self.set_up_nginx()
         key, more = "--key /etc/counter/watch.key", "--mount /srv/elsewhere"
         changes = [(key, f"{key} --ca /etc/counter/certificate.pem")]
@@ -95,8 +113,7 @@ class World:
 
     def make_store(self) -> None:
         """Rates and bonds, as the bank's first import brings them."""
-        rates = [{"from": "2010-05", "rate": "2.00"}, {"from": "2010-11", "rate": "3.50"}]
-        messages = [post("/rates", {"number": 1, "rates": rates}, b"")]
+        messages = [post("/rates", {"number": 1, "rates": RATES}, b"")]
         for nth in range(0, BONDS, 500):
             bonds = [bond(turn) for turn in range(nth, min(nth + 500, BONDS))]
             messages.append(post("/bonds", {"number": 2 + nth, "bonds": bonds}, b""))
@@ -132,7 +149,7 @@ class World:
     def set_up_prometheus(self, rules: str) -> None:
         """Waits until Prometheus has metrics of both hosts. It looks for its targets only 5 seconds after its start."""
         self.write_rules(rules, QUICK)
-        self.shell(READERS)
+        self.shell(TROUBLES["READERS"])
 
         def has_both() -> bool:
             with contextlib.suppress(OSError):
@@ -143,9 +160,8 @@ class World:
 
     def write_rules(self, rules: str, intervals: str) -> None:
         self.machine.write("/etc/prometheus/counter-alerts.yml", rules)
-        self.machine.write(
-            "/etc/prometheus/prometheus.yml", PROMETHEUS.replace("INTERVALS", intervals)
-        )
+        text = TROUBLES["PROMETHEUS"].replace("INTERVALS", intervals)
+        self.machine.write("/etc/prometheus/prometheus.yml", text)
 
     def ask(
         self, method: str, path: str, value: object = None, user: str | None = "anna"
@@ -204,10 +220,6 @@ class World:
             answer = self.ask_counter(post("/redeem", self.next_redemption()))
             assert answer is not None and answer[0] == 200, answer
 
-    def connected(self) -> ContextManager[socket]:
-        """A connection to the counter past nginx, as root."""
-        return connected(self.socket, 60)
-
     def ask_counter(self, message: bytes) -> Answer | None:
         return ask(self.socket, message)
 
@@ -258,11 +270,9 @@ class World:
         return found
 
     def opened_files(self) -> list[str]:
-        words = (
-            f"--to /tmp/more.prom --state /tmp/more.json --store {STORE} --disk /var/lib/counter"
-        )
-        words += " --snapshots /srv/counter/snapshots --copies /srv/copies"
+        words = f"--to /tmp/more.prom --state /tmp/more.json --store {STORE} --copies /srv/copies"
+        words += " --disk /var/lib/counter --snapshots /srv/counter/snapshots"
         words += " --archive /srv/archive/counter"
-        script = ("/usr/bin/python3", "-c", OPENED, "/opt/counter/watch/metrics")
+        script = ("/usr/bin/python3", "-c", TROUBLES["OPENED"], "/opt/counter/watch/metrics")
         found = re.findall("(?m)^OPENED (.*)", self.machine.on(*script, *words.split()).stdout)
         return [urllib.parse.unquote(one.removeprefix("file:").partition("?")[0]) for one in found]

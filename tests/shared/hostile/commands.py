@@ -4,7 +4,7 @@ import socket as sockets
 import subprocess
 from typing import Any
 
-from tests.fence.wire import everything
+from tests.fence.site import everything
 from tests.shared import counter_calls
 from tests.shared.counter_calls import free_port, piped
 
