@@ -73,7 +73,7 @@ def answered_kind(status: int, text: str) -> int:
 
 
 class Told:
-    """A client beside the machine, whose journal begins with a number."""
+    """A client that is held to the machine, whose journal begins with a number."""
 
     def __init__(self, machine: Machine, most: int, first: int) -> None:
         self.counter, self.beside = Counter(), Beside(machine, most, Record(first))

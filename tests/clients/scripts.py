@@ -1,4 +1,4 @@
-"""Scripts in JavaScript that tests run within a page: the functions of a file beside this one."""
+"""Scripts in JavaScript that tests run within a page: the functions of a file in this folder."""
 
 import re
 from pathlib import Path

@@ -286,7 +286,7 @@ def test_errors_without_a_proxy_name_no_entry(folder: Path) -> None:
 
 
 def in_shell(desk: Desk, *words: str) -> tuple[int, str, str]:
-    """The command as it is installed, beside the samples."""
+    """The command as it is installed, in a folder with the samples."""
     return ran(sys.executable, TOP / "packaging/client/counter-client", *words, cwd=desk.place)
 
 
