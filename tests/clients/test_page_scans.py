@@ -1,4 +1,4 @@
-"""Scans: none is lost and none presses a button, wherever the keyboard is; each that fails is told and heard; and how many keys a bond takes beside the scanner's own."""
+"""Scans: none is lost and none presses a button, wherever the keyboard is; each that fails is told and heard; and how many keys a bond takes, next to the scanner's own."""
 
 from __future__ import annotations
 
@@ -188,7 +188,7 @@ def scan_into(page: Page, place: str, serials: list[str]) -> None:
 
 @pytest.mark.parametrize("count", [1, 60])
 def test_keys_and_seconds(bank: Bank, page: Page, count: int) -> None:
-    """From one customer's number to the next one's: six keys beside the number's digits and the scanner's own, which come at full speed into anything. The seconds are printed."""
+    """From one customer's number to the next one's: six keys, next to the number's digits and the scanner's own, which come at full speed into anything. The seconds are printed."""
     page.run(NO_PRINTER)
     of = {owner: [f"L{owner}{place:02}EE" for place in range(count)] for owner in ("61", "62")}
     for owner, serials in of.items():

@@ -80,7 +80,7 @@ def test_walk_in(bank: Bank, page: Page) -> None:
 
 @pytest.mark.slow
 def test_sixty_walk_ins(bank: Bank, page: Page) -> None:
-    """Sixty walk-ins of a bond, by keys as fast as the page takes them: 24 each beside the digits of the customer's number, and how long each takes."""
+    """Sixty walk-ins of a bond, by keys as fast as the page takes them: 24 each, next to the digits of the customer's number, and how long each takes."""
     page.run(NO_PRINTER)
     page.go("walkin")
     page.run("document.getElementById('walkin-serial').focus()")
