@@ -97,8 +97,9 @@ class PythonClient(Told):
         self.package = package
         self.folder = Path(tempfile.mkdtemp(dir=MEMORY if os.path.isdir(MEMORY) else None))
         self.journal = str(self.folder / "journal")
-        start: Json = {"desk": 3, "next": first, "open": None, "last": None, "bookmark": None}
-        start |= {"abandoned": [], "keyed": 0}
+        # In the client's own order, so that it needs no writing back.
+        start: Json = {"abandoned": [], "keyed": 0, "desk": 3, "next": first, "open": None}
+        start |= {"last": None, "bookmark": None}
         Path(self.journal).write_text(json.dumps(start, separators=(",", ":")) + "\n")
         self.trials = importlib.import_module(f"{package.__name__}.lookups").Trials
         self.true_pause = self.trials.pause
