@@ -5,6 +5,7 @@ import json
 import shutil
 import sqlite3
 import subprocess
+import time
 from pathlib import Path
 from typing import Iterator, Sequence
 
@@ -158,6 +159,8 @@ def test_a_full_disk(counter: Counter, full_disk: tuple[Site, Path]) -> None:
     while not unlogged() and number < 40:
         number += 1
         pay(number)
+        # nginx answers before it says so.
+        time.sleep(0.2)
     assert unlogged(), site.errors()
     fill.unlink()
     pay(number + 1)
