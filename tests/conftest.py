@@ -137,7 +137,7 @@ def missing(item: pytest.Item) -> list[str]:
 def pytest_collection_modifyitems(items: list[pytest.Item]) -> None:
     """xdist hands tests out in long rows. So those of the page, which are slow and share nothing, stand
     between the files of the others, and no process is left with most of them."""
-    slow = [item for item in items if "bank" in getattr(item, "fixturenames", ())]
+    slow = [item for item in items if item.path.name.startswith("test_page_")]
     others = [item for item in items if item not in slow]
     files = [list(group) for _, group in itertools.groupby(others, lambda item: item.path)]
     share = -(-len(slow) // max(1, len(files)))
