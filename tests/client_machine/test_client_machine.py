@@ -168,7 +168,11 @@ POINTS = {
         [*AGAIN, FAULT_OF_1],
         (WRITE, Record(2)),
     ),
-    "and none that was sent twice": (OPEN, [*AGAIN, FAULT_OF_1], (WAIT, OPEN._replace(sent=2))),
+    "no fault ends a request that was sent twice": (
+        OPEN,
+        [*AGAIN, FAULT_OF_1],
+        (WAIT, OPEN._replace(sent=2)),
+    ),
     "until it is sent, it has no answer": (OPEN, [*AGAIN], (SEND, OPEN._replace(sent=2))),
 }
 

@@ -1,4 +1,4 @@
-"""Scans: none is lost and none presses a button, wherever the keyboard is; each that fails is told and heard; and how many keys a bond takes, next to the scanner's own."""
+"""Scans: none is lost and none presses a button, wherever the keyboard is. Each failed scan is named and heard. A bond takes few keys besides the scanner's own."""
 
 from __future__ import annotations
 
