@@ -228,8 +228,8 @@ def test_logs_by_hand(place: Place, killed: Killed) -> None:
     threes = [Transaction([page for one in ones[:3] for page in one.pages], count)] * 3
     wide = made_log(size, threes)
     counts = [ones[0], *(one.counted() for one in ones[1:])]
-    counted = made_log(size, counts)
-    salt = b"\x01\x02\x03\x03abcd"
+    counted, one_count = made_log(size, counts), made_log(size, counts[:2])
+    salt = logs.SALT[:4] + b"abcd"
     earlier, earlier_counts = made_log(size, ones[:4], salt), made_log(size, counts, salt)
     unended = Transaction(unsummed.pages, 0)
     more = [Transaction(one.pages, count + 1) for one in ones]
@@ -242,6 +242,7 @@ def test_logs_by_hand(place: Place, killed: Killed) -> None:
 
     shut = turned(with_bytes(counted, frame(3) + 8, b"\0"), frame(5) + 500)
     behind = made_log(size, ones[:1]) + earlier_counts[frame(1) :]
+    torn = bytes(8) + logs.SALT[:1] + bytes(15 + size)
 
     cases = [
         ("whole", five, False),
@@ -256,8 +257,10 @@ def test_logs_by_hand(place: Place, killed: Killed) -> None:
         ("a gate turned", turned(five, frame(1) + 8), False),
         ("five sectors of zeros", with_bytes(five, frame(1) - 20, bytes(2560)), False),
         ("frames of an earlier log behind", five + earlier[32:], False),
+        ("70,000 frames without an end behind", five + torn * 70_000, False),
         ("the header turned", turned(five, 13), True),
         ("the header's first byte turned", turned(five, 0), False),
+        ("the header's second byte turned", turned(five, 1), True),
         ("the header's first byte 0", with_bytes(five, 0, b"\0"), False),
         ("the header's first two bytes 0", with_bytes(five, 0, bytes(2)), True),
         ("the header's first and third byte turned", turned(turned(five, 0), 2), True),
@@ -275,6 +278,7 @@ def test_logs_by_hand(place: Place, killed: Killed) -> None:
         ("the same page, uncommitted", made_log(size, [ones[0], unended]), False),
         ("counts: whole", counted, False),
         ("counts: the first gate shut", with_bytes(counted, frame(0) + 8, b"\0"), True),
+        ("one count behind a shut gate", with_bytes(one_count, 40, b"\0"), True),
         ("counts: the first frame of zeros", with_bytes(counted, frame(0), bytes(24 + size)), True),
         ("counts: the last but one's gate shut", with_bytes(counted, frame(5) + 8, b"\0"), True),
         ("counts: the last's gate shut", with_bytes(counted, frame(7) + 8, b"\0"), False),
@@ -286,6 +290,7 @@ def test_logs_by_hand(place: Place, killed: Killed) -> None:
         ("an older header, and pages that the file has", unwritten + counted[56:], False),
         ("an older header, and more pages uncounted", unwritten + made_log(size, more)[56:], False),
         ("an older header, and its first frame isn't zeros", older + grown[32:], False),
+        ("an older header, and a frame's checksum", older + bytes(18) + grown[50:], False),
     ]
     for name, log, wanted in cases:
         assert is_refused(file, Log(log)) == wanted, f"the rule: {name}"

@@ -13,6 +13,7 @@ from contextlib import AbstractContextManager, closing, contextmanager, nullcont
 from dataclasses import dataclass
 from pathlib import Path
 
+from tests.faults import logs
 from tests.shared.checksums import with_checksums
 from tests.shared.counter_calls import free_port
 
@@ -23,6 +24,7 @@ BONDS = b"serial,denom,issued,owner,coowner\nL1EE,50,2010-11,7,\n"
 FILES = {"rates": ("rates.csv", RATES), "inventory": ("bonds.csv", BONDS)}
 #: The byte of a database file that SQLite locks for a reader, and how many it locks.
 LOCKED_FROM, LOCKED = 1 << 30, 512
+OTHER_LOG = logs.with_header(logs.made_log(1024, []), 4, logs.VERSION + 1) + bytes(24)
 MESSAGE = b"GET /value/50/2010-11/2012-02 HTTP/1.1\r\n\r\n"
 
 
@@ -302,6 +304,7 @@ STORES = [
     store("a changed byte of the first page", DAMAGED, change_byte(200)),
     store("half of its pages", DAMAGED, lambda it: os.truncate(it.store(), 5 * 1024)),
     store("a damaged log", DAMAGED, beside("day.db-wal", b"\x37\x7f\x06\x82" + bytes(60))),
+    store("a log of another version of SQLite", DAMAGED, beside("day.db-wal", OTHER_LOG)),
     store("none next to a log with changes", LOST, orphaned_log),
     store("empty next to a log with changes", LOST, both(orphaned_log, has("day.db", b""))),
     store("one that another process has open", IN_USE, during=locked),
@@ -450,16 +453,19 @@ MORE = "import rates more.csv --db day.db --number 3"
 TWO = (MORE, "export 7 --db day.db")
 ROOM = "no space left on the disk; make room, and run the line again"
 NO_READ = "a read or a write of it failed; look at the disk, and run the line again"
+AT, LOST_STORE, UNWRITTEN = "day.db: ", "store: StoreFailed", "store: NotWrittenBack"
+MEMORY = "memory was refused; run the line again"
 REFUSED = f"the system refused it; {SYSTEM}"
 KEPT = "the work is done, and is kept in the file and its log together; look at the disk"
 #: By kind: the lines, the fault, what the second line says, and which calls fail.
 FAILING = {
-    "full as a store is opened": (TWO, "StoreFailed", ROOM, "write any 1 0 e 28"),
-    "no write as a store is opened": (TWO, "StoreFailed", NO_READ, "write any 1 0 e 5"),
-    "no read as a store is opened": ((*TWO, *APPLY), "StoreFailed", NO_READ, "read db 1 0 e 5"),
-    "no file is opened": ((*TWO, *APPLY), "StoreFailed", REFUSED, "open any 1 0 e 5"),
-    "a failure during a command": ((MORE,), "StoreFailed", FAILED, "write log 8 0 e 5"),
-    "a log that can't be written back": ((MORE,), "NotWrittenBack", KEPT, "truncate log 1 1 e 5"),
+    "full as a store is opened": (TWO, LOST_STORE, AT + ROOM, "write any 1 0 e 28"),
+    "no write as a store is opened": (TWO, LOST_STORE, AT + NO_READ, "write any 1 0 e 5"),
+    "no read as a store is opened": ((*TWO, *APPLY), LOST_STORE, AT + NO_READ, "read db 1 0 e 5"),
+    "no file is opened": ((*TWO, *APPLY), LOST_STORE, AT + REFUSED, "open any 1 0 e 5"),
+    "no memory as a file is opened": ((*TWO, *APPLY), "no memory", MEMORY, "open any 1 0 e 12"),
+    "a failure during a command": ((MORE,), LOST_STORE, AT + FAILED, "write log 8 0 e 5"),
+    "a log that can't be written back": ((MORE,), UNWRITTEN, AT + KEPT, "truncate log 1 1 e 5"),
 }
 
 
@@ -474,4 +480,4 @@ def failing(kind: str, shim: str) -> Use:
         it.environment |= {"LD_PRELOAD": shim, "HOSTILE_FAULT": calls}
         yield Streams(given=MESSAGE)
 
-    return Use(kind, lines, f"store: {fault}", f"day.db: {second}", during=loaded)
+    return Use(kind, lines, fault, second, during=loaded)
