@@ -1,7 +1,4 @@
-"""What all tests share: the built program, a folder in memory, dice with a seed, and what a
-marker needs."""
-
-from __future__ import annotations
+"""What all tests share: the program, a folder in memory, seeded dice, and what markers need."""
 
 import functools
 import itertools
@@ -12,12 +9,13 @@ import subprocess
 import sys
 import tempfile
 import time
+import tomllib
 from concurrent.futures import ThreadPoolExecutor
 from contextlib import contextmanager
 from importlib.abc import MetaPathFinder
 from importlib.machinery import PathFinder
 from pathlib import Path
-from typing import Callable, Iterator, TypeVar
+from typing import Any, Callable, Iterator, TypeVar
 
 import pytest
 
@@ -26,65 +24,9 @@ from tests.shared.hostile.program import Program
 TOP = Path(__file__).resolve().parents[1]
 #: In memory if possible: a store waits for the disk at each sync.
 MEMORY = Path("/dev/shm") if os.path.isdir("/dev/shm") else Path(tempfile.gettempdir())
-#: The commands that a marker needs, with Debian's packages.
-COMMANDS = {
-    "browser": {
-        "chromedriver": "chromium-driver",
-        "firefox-esr": "firefox-esr",
-        "certutil": "libnss3-tools",
-    },
-    "nginx": {
-        "nginx": "nginx-light",
-        "openssl": "openssl",
-        "/usr/share/easy-rsa/easyrsa": "easy-rsa",
-    },
-    "machine": {"debootstrap": "debootstrap", "unshare": "util-linux"},
-}
-#: The commands that a test names itself: pytest.mark.needs("strace", "module:selenium").
-PACKAGES = {
-    "cc": "gcc and libc6-dev",
-    "mkfs.btrfs": "btrfs-progs",
-    "mkfs.xfs": "xfsprogs",
-    "pdftotext": "poppler-utils",
-    "Xvfb": "xvfb",
-    "cobc": "gnucobol3",
-    "soffice": "libreoffice-calc-nogui",
-    "clang++": "clang",
-    "aarch64-linux-gnu-gcc": "gcc-aarch64-linux-gnu and libc6-dev-arm64-cross",
-    "qemu-aarch64": "qemu-user",
-    "node": "nodejs",
-    "dh": "debhelper",
-    "glusterd": "glusterfs-server",
-    "inetd": "openbsd-inetd",
-    "ip": "iproute2",
-    "pdftoppm": "poppler-utils",
-    "ssh-keygen": "openssh-client",
-    "systemd-analyze": "systemd",
-    "systemd-sysusers": "systemd",
-    "wasm-opt": "binaryen",
-}
-#: What makes a file that a test needs: pytest.mark.needs("file:clients/value/out/libee_value.a").
-MAKES = {
-    "clients/value/out/libee_value.a": "clients/value/build",
-    "clients/value/out/ee_value.wasm": "clients/value/build wasm",
-    "clients/calculator/out/calculator.js": "clients/calculator/build",
-    "crates/ee_cli_value_alone/out/ee_cli_value_alone": "./ee_cli value",
-}
-#: Python's modules, with Debian's packages.
-MODULES = {
-    "PIL": "python3-pil",
-    "build": "python3-build",
-    "cryptography": "python3-cryptography",
-    "hatchling": "python3-hatchling",
-    "hypothesis": "python3-hypothesis",
-    "jsonschema": "python3-jsonschema",
-    "markdown": "python3-markdown",
-    "openpyxl": "python3-openpyxl",
-    "selenium": "python3-selenium",
-    "venv": "python3-venv",
-    "weasyprint": "python3-weasyprint",
-}
-
+#: What tests need, with Debian's packages.
+NEEDS: dict[str, Any] = tomllib.loads((TOP / "tests/packages.toml").read_text())
+COMMANDS, PACKAGES, MAKES, MODULES = (NEEDS[it] for it in ("marker", "command", "file", "module"))
 #: Commands that can be there and not work, for lack of leave to trace or of headers.
 TRIED = {"strace": "strace -o /dev/null true", "cc": "cc -x c -c -o /dev/null /dev/null"}
 

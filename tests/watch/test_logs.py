@@ -48,24 +48,8 @@ ENTRIES: list[Row] = [
     ("/inventory/123456789/2012-02", "404", "", ""),
     ("/123456789/L7777EE", "404", "", ""),
 ]
-BY_HAND = {
-    'requests_total{route="/redeem",status="200",by="counter"}': 5,
-    'requests_total{route="/redeem",status="409",by="counter"}': 2,
-    'requests_total{route="/redeem",status="502",by="nginx"}': 1,
-    'requests_total{route="/redeem",status="503",by="counter"}': 1,
-    'requests_total{route="/bonds",status="400",by="counter"}': 1,
-    'requests_total{route="/inventory",status="404",by="counter"}': 1,
-    'requests_total{route="other",status="404",by="counter"}': 1,
-    'refusals_total{code="52",name="AlreadyPaid"}': 1,
-    'refusals_total{code="10",name="NumberReused"}': 1,
-    'refusals_total{code="50",name="UnknownSerial"}': 0,
-    'faults_total{code="64",name="BadJson"}': 1,
-    'unserved_total{code="2",name="StoreFailed"}': 1,
-    'retries_total{route="/redeem"}': 3,
-    "tickets_total": 3,
-    "paid_dollars_total": 126.17,
-    "log_other_lines_total": 2,
-}
+METRICS = (line.rsplit(" ", 1) for line in open(TOP / "tests/watch/by_hand.prom"))
+BY_HAND = {name: float(value) for name, value in METRICS}
 PRIVATE = ("123456789", "987654321", "L7777", "K8888", "M9999", "7777", "8888", "9999")
 
 
@@ -167,8 +151,6 @@ def test_deep_nesting_of_an_archive(tmp_path: Path, broken: Path) -> None:
 
 
 class Writer:
-    """Writes entries, and rotates the log in one of three ways."""
-
     def __init__(self, one: Watched, chance: random.Random) -> None:
         self.log, self.chance, self.written = one.log, chance, 0
 
@@ -180,7 +162,6 @@ class Writer:
                 file.write(line_of(("/redeem", "200", body, ""), 1328523300 + self.written))
 
     def rotated(self) -> Iterator[Path]:
-        """The rotated files, the newest first."""
         for nth in range(1, 6):
             for end in ("", ".gz"):
                 path = Path(f"{self.log}.{nth}{end}")
