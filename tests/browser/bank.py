@@ -1,15 +1,11 @@
 """A bank for the tests of its clients: the counter under a supervisor, a gate before it, and nginx over samples/nginx, which serves the page of clients/teller."""
 
-from __future__ import annotations
-
 import csv
 import datetime
 import http.client
 import json
 import shutil
-import socket
 import sqlite3
-import subprocess
 import threading
 import time
 from pathlib import Path
@@ -18,7 +14,7 @@ from typing import Any, Iterable, Mapping
 from tests.browser.gate import Gate
 from tests.conftest import TOP
 from tests.fence.site import Site
-from tests.shared.counter_calls import free_port
+from tests.shared.counter_calls import done, end, free_port, serve
 
 PAGE = TOP / "clients" / "teller"
 #: A limit of a user's requests that a test doesn't meet.
@@ -45,7 +41,6 @@ NONE_OF = (
 
 
 def released_in(top: Path) -> str:
-    """The day of the release of a checkout, as its page has it."""
     return (top / "clients/teller/released.js").read_text().split('"')[1]
 
 
@@ -75,41 +70,22 @@ class Server:
 
     def __init__(self, program: Path, store: Path) -> None:
         self.program, self.store = program, store
-        self.port = free_port()
-        self.wanted = True
-        self.ends = self.kills = 0
-        self.pause = 0.5
+        self.port, self.wanted, self.pause, self.kills = free_port(), True, 0.5, 0
         self.lock = threading.Lock()
-        self.process = self.begin()
+        self.process = serve(program, store, self.port)
         threading.Thread(target=self.supervise, daemon=True).start()
-
-    def begin(self) -> subprocess.Popen[bytes]:
-        words = [str(self.program), "serve", "--db", str(self.store), "--port", str(self.port)]
-        with open(f"{self.store}.lines", "ab") as lines:
-            process = subprocess.Popen(words, stdout=lines, stderr=lines)
-        for _ in range(12000):
-            try:
-                socket.create_connection(("127.0.0.1", self.port)).close()
-                return process
-            except ConnectionRefusedError:
-                if process.poll() is not None:
-                    return process
-                time.sleep(0.01)
-        raise AssertionError("the server doesn't listen")
 
     def supervise(self) -> None:
         while self.wanted:
             self.process.wait()
-            self.ends += 1
             time.sleep(self.pause)
             with self.lock:
                 if self.wanted:
-                    self.process = self.begin()
+                    self.process = serve(self.program, self.store, self.port)
 
     def kill(self) -> None:
         self.kills += 1
-        self.process.kill()
-        self.process.wait()
+        end(self.process)
 
     def end(self) -> None:
         """At rest: the store is opened and closed once more, which writes its log back. Once is enough."""
@@ -117,10 +93,8 @@ class Server:
             if not self.wanted:
                 return
             self.wanted = False
-        self.process.kill()
-        self.process.wait()
-        words = [str(self.program), "export", "1", "--db", str(self.store)]
-        subprocess.run(words, stdout=subprocess.DEVNULL, check=True)
+        end(self.process)
+        done(self.program, "export", "1", "--db", self.store)
 
 
 class Front(Site):
@@ -262,7 +236,6 @@ class Bank:
     # ---- what desk 900 does
 
     def does(self, path: str, **fields: Any) -> dict[str, Any]:
-        """A request under the next number."""
         self.number += 1
         return self.expect(200, path, {"desk": 900, "number": self.number, **fields})
 

@@ -38,7 +38,6 @@ BONDS = [
 
 
 def run(*words: object, **more: Any) -> subprocess.CompletedProcess[str]:
-    """How a command ended, with both of its outputs in one text if `stderr` isn't given."""
     more = {"stdout": PIPE, "stderr": subprocess.STDOUT, "text": True, **more}
     return subprocess.run([str(word) for word in words], **more)
 
@@ -72,7 +71,6 @@ def replaced(text: str, changes: Iterable[tuple[str, str]]) -> str:
 
 
 def sql(store: str | Path, text: str) -> str:
-    """What the command `sqlite3` prints."""
     words = ["sqlite3", store, text]
     return subprocess.run(words, capture_output=True, text=True, check=True).stdout
 
@@ -148,26 +146,32 @@ def ask(place: int | str, message: bytes, patience: float = 60) -> Answer | None
 
 
 def answered(place: int | str, message: bytes, patience: float = 60) -> Answer:
-    """The answer to one message, which has to come."""
     answer = ask(place, message, patience)
     assert answer is not None, f"no answer came to {message!r}"
     return answer
 
 
-def serve(
+def begun(
     program: str | Path,
     store: str | Path,
     port: int,
     *words: str,
     before: Sequence[str | Path] = (),
     **more: Any,
-) -> subprocess.Popen[str]:
-    """A server that takes connections, as it says on standard error. `before` are words before
-    the program's path, `words` further ones of `serve`, `more` is what Popen knows."""
+) -> tuple[subprocess.Popen[str], str]:
+    """A server, and what it says first. `before` are words before the program's path, `words`
+    further ones of `serve`, `more` is what Popen knows."""
     line = [*before, program, "serve", "--db", store, "--port", str(port), *words]
     more = {"stdout": subprocess.DEVNULL, **more}
     server = subprocess.Popen(line, stderr=PIPE, text=True, **more)
-    said = piped(server.stderr).readline()
+    return server, piped(server.stderr).readline()
+
+
+def serve(
+    program: str | Path, store: str | Path, port: int, *words: str, **more: Any
+) -> subprocess.Popen[str]:
+    """A server that takes connections, as it says on standard error."""
+    server, said = begun(program, store, port, *words, **more)
     assert said == f"listening on port {port}\n", f"the server doesn't listen: {said}"
     return server
 

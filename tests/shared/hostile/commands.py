@@ -1,12 +1,9 @@
-"""Commands over a store, and whether what one told is right: a connection by `apply` or `serve`,
-an import, an export, a sheet."""
+"""Commands over a store, and whether what one told is right."""
 import socket as sockets
-import subprocess
 from typing import Any
 
 from tests.fence.site import everything
-from tests.shared import counter_calls
-from tests.shared.counter_calls import free_port, piped
+from tests.shared.counter_calls import PIPE, begun, connected, free_port
 
 from . import desk, judging, spelling
 from .judging import Wrong
@@ -61,27 +58,23 @@ class Served(Connection):
     name = "serve"
 
     def run(self, program: Program, store: str, **hostile: Any) -> Ran:
-        port = free_port()
-        words = [program.path, "serve", "--db", store, "--port", str(port), "--connections", "1"]
-        counts = store + ".counts"
-        environment, pipe, told = program.environment(store, **hostile), subprocess.PIPE, b""
-        with subprocess.Popen(words, stdout=pipe, stderr=pipe, env=environment) as process:
-            said = piped(process.stderr).readline()
-            if said == b"listening on port %d\n" % port:
-                with counter_calls.connected(port, SECONDS) as client:
+        port, told = free_port(), b""
+        more: dict[str, Any] = {"env": program.environment(store, **hostile), "stdout": PIPE}
+        server, said = begun(program.path, store, port, "--connections", "1", **more)
+        with server:
+            if said == f"listening on port {port}\n":
+                with connected(port, SECONDS) as client:
                     client.sendall(self.stream)
                     client.shutdown(sockets.SHUT_WR)
-                    told, said = everything(client), b""
-            out, faults = process.communicate(timeout=SECONDS)
-        has_failed = b"the store failed" in out
-        if told and (b'"StoreFailed"' in told, out[:14]) != (has_failed, b"connection 1: "):
+                    told, said = everything(client), ""
+            out, faults = server.communicate(timeout=SECONDS)
+        has_failed = "the store failed" in out
+        if told and (b'"StoreFailed"' in told, out[:14]) != (has_failed, "connection 1: "):
             raise Wrong(f"`serve` told {out!r}")
-        return Ran(process.returncode, told, (said + faults).decode(), read_counts(counts))
+        return Ran(server.returncode, told, said + faults, read_counts(f"{store}.counts"))
 
 
 class Import:
-    """A file of rates or bonds, entered under a number of a desk."""
-
     name = "import"
 
     def __init__(self, kind: str, path: str, file: bytes, number: int, asked_of: int = 0) -> None:
@@ -128,8 +121,6 @@ class Import:
 
 
 class Shown:
-    """An export, or the sheet of a month."""
-
     def __init__(self, customer: int, month: str | None = None) -> None:
         self.customer, self.month = customer, month
         self.name = "sheet" if month else "export"
