@@ -1,6 +1,7 @@
 """What the clients' tests share: a desk at the package's own fake counter, the true counter, servers that aren't one, and controls."""
 
 import contextlib
+import io
 import logging
 import os
 import socket
@@ -11,10 +12,12 @@ import threading
 import time
 from pathlib import Path
 from typing import Any, Callable, ContextManager, Iterator
+from unittest import mock
 
 import pytest
 
 import ee_counter_client as client
+from ee_counter_client.command import main
 from ee_counter_client.testing import FakeCounter, Gate
 from tests.conftest import TOP
 from tests.shared.counter_calls import end, free_port, serve
@@ -75,7 +78,6 @@ class Desk:
         return client.Counter(self.journal, self.gate.address, **words)
 
     def known(self, patience: float = 300, **words: Any) -> client.Counter:
-        """One that has had a good exchange."""
         counter = self.counter(**words)
         counter.ticket(1)
         counter.patience = patience
@@ -94,14 +96,13 @@ class TrueCounter:
     """The program over a new store; `kill` kills it, and it is started again."""
 
     def __init__(self, program: Path, place: Path) -> None:
-        self.program, self.store, self.port, self.kills = program, place / "day.db", free_port(), 0
+        self.program, self.store, self.port = program, place / "day.db", free_port()
         self.lock = threading.Lock()
         self.process = serve(program, self.store, self.port)
         self.address = f"http://127.0.0.1:{self.port}"
 
     def kill(self) -> None:
         with self.stopped():
-            self.kills += 1
             time.sleep(0.05)
 
     @contextlib.contextmanager
@@ -160,14 +161,25 @@ def encrypted(place: Path, to: int) -> Serving:
 
 
 def ran(*words: object, **more: Any) -> tuple[int, str, str]:
-    """How a command ended, and both of its outputs."""
     more = {"stdout": subprocess.PIPE, "stderr": subprocess.PIPE, "env": OWN, **more}
     done = subprocess.run([str(word) for word in words], text=True, timeout=600, **more)
     return done.returncode, done.stdout, done.stderr
 
 
-def command(*words: object, **more: Any) -> tuple[int, str, str]:
+def by_process(*words: object, **more: Any) -> tuple[int, str, str]:
     return ran(sys.executable, "-W", "error", "-B", TOP / "clients/counter.py", *words, **more)
+
+
+def command(*words: object) -> tuple[int, str, str]:
+    """The same, in this process."""
+    out, told = io.StringIO(), io.StringIO()
+    with mock.patch.dict(os.environ, OWN), mock.patch.object(sys, "argv", ["counter-client"]):
+        with contextlib.redirect_stdout(out), contextlib.redirect_stderr(told):
+            try:
+                status = main([str(word) for word in words])
+            except SystemExit as ended:
+                status = int(ended.code or 0)
+    return status, out.getvalue(), told.getvalue()
 
 
 def bonds_csv(*rows: str) -> str:

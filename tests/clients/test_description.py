@@ -3,7 +3,6 @@ pays bonds, through nginx and at the counter's own port, and each answer is one 
 
 import copy
 import json
-import re
 import subprocess
 from pathlib import Path
 from typing import Any, Iterator, Mapping, NamedTuple
@@ -13,7 +12,8 @@ import pytest
 
 from tests.conftest import TOP
 from tests.fence.conftest import Counter, MakeSite, counter, site
-from tests.fence.site import CLIENT, Answer, Site
+from tests.fence.site import Site
+from tests.fence.test_groups import NAMED
 
 __all__ = ["counter", "site"]
 DESCRIPTION = json.loads((TOP / "docs/openapi.json").read_text())
@@ -54,8 +54,6 @@ def earlier(value: Any) -> Any:
 
 
 class Client:
-    """A client that is made of a description."""
-
     def __init__(self, folder: Path, url: str, described: Any, *trust: object) -> None:
         self.file = folder / f"description{len(list(folder.iterdir()))}.json"
         self.file.write_text(json.dumps({**earlier(described), "openapi": "3.0.3"}))
@@ -93,7 +91,6 @@ def response_of(operation: Any, status: int) -> Any:
 
 
 def check(operation: Any, reply: Reply) -> None:
-    """The status is described, and the body is one of its schema."""
     content = response_of(operation, reply.status)["content"]
     media = reply.headers["Content-Type"]
     schema = {"allOf": [content[media]["schema"]], "components": DESCRIPTION["components"]}
@@ -146,55 +143,17 @@ def test_generated_client_needs_the_header(site: MakeSite, folder: Path) -> None
         pay(client, through(site(), "bert", folder))
 
 
-#: What nginx refuses by itself: who asks, the method and path, the body, and headers beside or in place of the client's.
-REFUSED: dict[str, tuple[str | None, str, str, object, Mapping[str, str]]] = {
-    "403 client": ("anna", "POST", "/redeem", {}, {"X-Counter-Client": ""}),
-    "403 type": ("anna", "POST", "/redeem", {}, {"Content-Type": "text/plain"}),
-    "403 origin": ("anna", "POST", "/redeem", {}, {"Origin": "https://other.example"}),
-    "403 group": ("anna", "POST", "/day/open", {}, {}),
-    "411 chunks": ("anna", "POST", "/redeem", None, {"Transfer-Encoding": "chunked"}),
-    "413 size": ("cleo", "POST", "/bonds", "x" * 131073, {}),
-    "413 size of a payment": ("anna", "POST", "/redeem", "x" * 10000, {}),
-    "421 host": ("anna", "POST", "/redeem", {}, {"Host": "other.example"}),
-    "400 certificate": (None, "POST", "/redeem", {}, {}),
-    "400 request": ("anna", "POST", "/redeem", {}, {"Content-Length": "-1"}),
-    "502 counter": ("anna", "GET", "/ticket/{ticket}", None, {}),
-}
+#: What nginx answers by itself, as tests/fence/test_groups.py sees it.
+OF_NGINX = {(status, "forbidden", name) for *_, status, name in NAMED}
+OF_NGINX |= {(429, "forbidden", name) for name in ("repeated", "rate")}
+OF_NGINX |= {(502, "unavailable", "counter")}
 
 
-def check_refusal(answer: Answer, operation: Any) -> Reply:
-    headers = dict(answer.headers)
-    assert re.fullmatch("[0-9a-f]{32}", headers["X-Request-Id"])
-    assert "X-Request-Id" in response_of(operation, answer.status)["headers"]
-    reply = Reply(answer.status, answer.json(), headers)
-    check(operation, reply)
-    return reply
-
-
-@pytest.fixture
-def closed(site: MakeSite) -> Iterator[Site]:
-    """A site in front of nothing."""
-    yield site(counter="http://127.0.0.1:1")
-
-
-@pytest.mark.nginx
-@pytest.mark.parametrize("what", REFUSED)
-def test_refusals_of_nginx_are_described(closed: Site, what: str) -> None:
-    user, method, path, value, more = REFUSED[what]
-    headers = {name: text for name, text in {**CLIENT, **more}.items() if text}
-    answer = closed.ask(user, method, path.replace("{ticket}", "1"), value, headers)
-    reply = check_refusal(answer, operation_of(f"{method} {path}"))
-    status, name = what.split()[:2]
-    assert (str(reply.status), [*reply.body.values()][0]) == (status, name)
-
-
-@pytest.mark.nginx
-def test_a_repeated_sending_is_described(closed: Site) -> None:
-    headers = {**CLIENT, "X-Counter-Sending": "once"}
-    closed.ask("anna", "POST", "/redeem", {}, headers)
-    answer = closed.ask("anna", "POST", "/redeem", {}, headers)
-    reply = check_refusal(answer, operation_of("redeem"))
-    assert (reply.status, reply.body) == (429, {"forbidden": "repeated"})
+@pytest.mark.parametrize("status, key, name", sorted(OF_NGINX))
+def test_refusals_of_nginx_are_described(status: int, key: str, name: str) -> None:
+    operation = operation_of("redeem")
+    check(operation, Reply(status, {key: name}, {"Content-Type": "application/json"}))
+    assert "X-Request-Id" in response_of(operation, status)["headers"]
 
 
 def test_an_undescribed_status_is_found() -> None:
@@ -207,7 +166,6 @@ def test_an_undescribed_status_is_found() -> None:
 
 
 def schemas(value: Any, place: str = "") -> Iterator[tuple[str, Any]]:
-    """All schemas that say a type, by their place."""
     if isinstance(value, dict):
         if isinstance(value.get("type"), (str, list)):
             yield place, value

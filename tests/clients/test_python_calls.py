@@ -15,14 +15,13 @@ import ee_counter_client.counter as counter_module
 import ee_counter_client.journal as journal_module
 import ee_counter_client.lookups as lookups_module
 import ee_counter_client.way as way
-from ee_counter_client.testing import ENDING, FAULTS, OF_ONE_SENDING
+from ee_counter_client.testing import ENDING, FAULTS, OF_ONE_SENDING, gate
 from tests.clients.desk import DAY, Desk, controls, encrypted, holds_not, listening, within
 
 Part = ContextManager[object] | None
 
 
 def paid_number(ticket: client.Ticket) -> tuple[int, int]:
-    """The ticket's number, and how often its request was sent."""
     assert ticket.request is not None
     return ticket.number, ticket.request.sent
 
@@ -55,6 +54,8 @@ PAGES: dict[str, type[client.CounterError]] = dict.fromkeys(
     ("other page", "redirect", "proxy page"), client.ForeignAnswer
 )
 PAGES |= {"no certificate": client.CertificateRefused, "no gateway": client.NotReady}
+#: What a web server says that answers everything.
+SAID = {"a body": b"<html>OK</html>", "no body": b"", "JSON": b'{"status":"ok"}'}
 KNOWN = {"_try_the_way": lambda *_: None, "_is_known": property(lambda _: True, lambda *_: None)}
 GRANTED = mock.patch.multiple(client.Counter, create=True, **KNOWN)
 
@@ -78,6 +79,26 @@ def test_foreign_page(desk: Desk, fault: str, part: Part) -> None:
         assert counter.redeem(DAY, 7, ["L1EE"]).number == 1, "with the set-up corrected it pays"
 
 
+@pytest.mark.parametrize("body", SAID.values(), ids=SAID)
+def test_web_server(desk: Desk, body: bytes) -> None:
+    said = {"other page": gate.response(b"200 OK", gate.JSON, body)}
+    with mock.patch.dict(gate.STANDING, said):
+        test_foreign_page(desk, "other page", None)
+
+
+@pytest.mark.parametrize("more", [-1, -500, 1, 0])
+def test_counts_that_do_not_fit(desk: Desk, more: int) -> None:
+    """A reply that counts other bonds than were sent is no reply. Control: with the right counts it is one."""
+    bonds = [client.Bond(f"A{n}EE", 50, "2010-11", 7) for n in range(1, 501)]
+    counted = {"new": len(bonds) + more, "same": 0}
+    with mock.patch.object(desk.fake, "replied", lambda *_: counted), desk.known(1) as counter:
+        if more == 0:
+            assert counter.add_bonds(bonds, even_so=True).new == 500
+            return
+        with pytest.raises(client.NoReply):
+            counter.add_bonds(bonds, even_so=True)
+
+
 @pytest.mark.needs("openssl")
 def test_unknown_host_and_certificate(desk: Desk) -> None:
     with client.Counter(desk.journal, "http://no-such-host.invalid", desk=3) as counter, within(20):
@@ -95,7 +116,6 @@ def test_unknown_host_and_certificate(desk: Desk) -> None:
 
 
 def test_pages_after_a_good_exchange(desk: Desk) -> None:
-    """Then they are met on the way, and the request is sent again."""
     with desk.counter() as counter:
         desk.gate.faults = [fault for fault in PAGES if fault not in ENDING]
         assert paid_number(counter.redeem(DAY, 7, ["L1EE"])) == (1, 5)

@@ -1,5 +1,6 @@
 """The Python client's command and its fake counter: help, statuses, a day through nginx with a certificate, and the program's bytes."""
 
+import contextlib
 import http.client
 import json
 import re
@@ -17,7 +18,8 @@ import ee_counter_client.errors as errors
 from ee_counter_client.command import ACTS, LOOK_UPS, second_of
 from ee_counter_client.testing import FakeCounter, Gate, fake as fake_module
 from tests.clients.calculator_data import INVENTORY, SHIPPED, Store
-from tests.clients.desk import DAY, Desk, TrueCounter, bonds_csv, command, controls, holds_not, ran
+from tests.clients.desk import DAY, Desk, TrueCounter, bonds_csv, by_process, command, controls
+from tests.clients.desk import holds_not, ran
 from tests.conftest import TOP
 from tests.fence.conftest import Counter, MakeSite, counter, site
 from tests.fence.site import Site
@@ -50,7 +52,7 @@ def test_help_without_a_part() -> None:
 
 def test_statuses(desk: Desk) -> None:
     at = ("--at", desk.gate.address)
-    assert command(*at, "value", "50", "2010-11", "2012-02")[0] == 0
+    assert by_process(*at, "value", "50", "2010-11", "2012-02")[0] == 0
     assert command(*at, "sheet", "7", "2012-02")[0] == 0
     assert command(*at, "ticket", "1") == (1, "", "there is no such ticket\n")
     status, _, told = command(*at, "redeem", DAY, "7", "L1EE")
@@ -101,13 +103,14 @@ def test_wrong_files(desk: Desk, content: bytes, said: str) -> None:
 
 
 def test_refused_rows(desk: Desk) -> None:
-    """A row that the counter refuses stops a registration; with that row mended it goes on from there."""
+    """A row that the counter refuses is named, and sent once; with that row mended it goes on from there."""
     words = ("--journal", desk.journal, "--desk", "3", "--at", desk.gate.address, "register")
     file, rows = desk.place / "bonds.csv", [f"L{n}EE,50,2010-11,7," for n in range(1001, 2801)]
-    file.write_text(bonds_csv(*rows[:1200], "L1EE,50,2010-10,7,", *rows[1201:]))
+    file.write_text(bonds_csv(*rows[:10], "", *rows[10:1200], "L1EE,50,2010-10,7,", *rows[1201:]))
     status, out, told = command(*words, file)
     assert (status, out) == (1, '{"code":31,"refused":"SerialConflict","serial":"L1EE"}\n')
-    assert "rows 1002 to 1501 of the file" in told
+    place = "serial L1EE, line 1203 of the file; with it rows 1002 to 1501 of the file"
+    assert f"SerialConflict (code 31), {place}" in told and len(desk.gate.bodies) == 3, told
     file.write_text(bonds_csv(*rows))
     assert command(*words, file)[:2] == (0, '{"new":800,"same":0,"before":1000}\n')
     assert command(*words, file)[:2] == (0, '{"new":0,"same":0,"before":1800}\n')
@@ -286,12 +289,11 @@ def test_errors_without_a_proxy_name_no_entry(folder: Path) -> None:
 
 
 def in_shell(desk: Desk, *words: str) -> tuple[int, str, str]:
-    """The command as it is installed, in a folder with the samples."""
-    return ran(sys.executable, TOP / "packaging/client/counter-client", *words, cwd=desk.place)
+    with contextlib.chdir(desk.place):
+        return command(*words)
 
 
 def examples(desk: Desk, *words: str) -> list[list[str]]:
-    """The words of the examples in a help."""
     text = in_shell(desk, *words, "--help")[1].partition("example:\n")[2].partition("\n\n")[0]
     found = [shlex.split(line) for line in text.splitlines()]
     assert found and all(line[0] == "counter-client" for line in found), text
@@ -300,7 +302,6 @@ def examples(desk: Desk, *words: str) -> list[list[str]]:
 
 @pytest.fixture
 def shell(folder: Path) -> Iterator[Desk]:
-    """A desk at an empty counter, in whose folder the samples are."""
     (folder / "samples").symlink_to(TOP / "samples")
     with FakeCounter() as fake, Gate(fake) as gate:
         yield Desk(folder, fake, gate, is_empty=True)
@@ -314,6 +315,8 @@ ORDER += ["batch", "interest-ticket", "interest-day", "settlement", "interest-pa
 def test_examples_end_with_0(shell: Desk) -> None:
     """Each example of each help, one after the other, from an empty counter on."""
     assert sorted(ORDER) == sorted(name for name, *_ in COMMANDS)
+    installed = TOP / "packaging/client/counter-client"
+    assert ran(sys.executable, "-W", "error", installed, "--help") == in_shell(shell, "--help")
     lines = [("the command", line) for line in examples(shell)]
     lines += [(name, line) for name in ORDER for line in examples(shell, name)]
     for name, line in lines:

@@ -29,7 +29,6 @@ def after(days: int) -> str:
 
 
 def doubts_of(desk: Desk, call: Callable[[], object]) -> tuple[str, ...]:
-    """The doubts about a call, of which nothing was sent and no number used."""
     with desk.untouched(), pytest.raises(client.Implausible) as raised:
         call()
     assert not raised.value.may_be_done
@@ -125,7 +124,6 @@ def test_days_from_the_last(desk: Desk, part: Part) -> None:
 
 @contextlib.contextmanager
 def desk_at(desk: Desk, fake: FakeCounter) -> Iterator[None]:
-    """The desk's gate leads to another counter."""
     desk.journal.unlink(missing_ok=True)
     true, desk.fake, desk.gate.to = desk.fake, fake, fake.port
     yield
@@ -216,26 +214,3 @@ def test_resumed_registration(desk: Desk) -> None:
         file.write_text(bonds_csv(*rows("L", range(1001, 1501)), "A1EE,50,2010-11,7,"))
         (doubt,) = doubts_of(desk, lambda: client.register(counter, file))
         assert doubt.startswith("row 502") and "L1001EE" not in desk.fake.bonds
-
-
-HEADER = "row 1: the header isn't serial,denom,issued,owner,coowner"
-TWICE = ("L1EE,50,2010-11,7,", "", "K1EE,50,2010-11,7,", "L-1-EE,50,2010-11,7,")
-BAD_FILES = {
-    "serial,denom,issued,owner\n": HEADER,
-    bonds_csv("L1EE,50,2010-11,7"): "row 2: it has 4 fields, and not 5",
-    bonds_csv("L1EE,50,2010-11,7,", "X,50,2010-11,7,"): "row 3: 'X' is no serial number, as C12EE",
-    bonds_csv("L1EE,51,2010-11,7,"): "row 2: '51' is no denomination",
-    bonds_csv(*TWICE): "row 4: L1EE stands in row 2 already",
-    "serial,denom,issued,owner,co_owner\nA1EE,50,2010-11,7,8\n": HEADER,
-}
-
-
-@pytest.mark.parametrize("text, wanted", BAD_FILES.items())
-def test_bad_file(desk: Desk, text: str, wanted: str) -> None:
-    """The client names the row of each fault of a file, and nothing is sent."""
-    file = desk.place / "bad.csv"
-    file.write_text(text)
-    with desk.counter() as counter, desk.untouched():
-        with pytest.raises(client.BadFile) as raised:
-            client.register(counter, file)
-        assert str(raised.value) == wanted

@@ -16,7 +16,8 @@ import pytest
 import ee_counter_client as client
 import ee_counter_client.interest as interest_module
 from ee_counter_client.testing import FakeCounter, Gate
-from tests.clients.desk import Desk, TrueCounter, bonds_csv, command, controls, holds_not, ran
+from tests.clients.desk import Desk, TrueCounter, bonds_csv, by_process, command, controls
+from tests.clients.desk import holds_not, ran
 from tests.conftest import TOP
 from tests.shared import exact
 
@@ -157,7 +158,6 @@ def test_open_day(books: Books) -> None:
 
 
 def test_command(books: Books) -> None:
-    """The command prints the same; its sources are an inventory, an archive, or both."""
     at = ("--at", books.true.address)
     wanted: dict[tuple[object, ...], Callable[[str, int, int], bool]] = {
         ("ticket", "4", books.whole): lambda day, ticket, payee: ticket == 4,
@@ -220,7 +220,6 @@ def test_settlement(books: Books) -> None:
 
 @pytest.mark.browser
 def test_settlement_prints(books: Books) -> None:
-    """One sheet of paper, with its heads."""
     settles(books, "2013-01-02", books.whole)
     paper = books.place / "page.pdf"
     words = ["--headless", "--no-sandbox", "--disable-gpu", f"--print-to-pdf={paper}"]
@@ -235,7 +234,6 @@ class FakeBooks:
         self.fake, self.numbers = fake, itertools.count(1)
 
     def day(self, day: str, serials: Iterable[str]) -> None:
-        """Customer 7 is paid each of these bonds by a ticket of its own."""
         for serial in serials:
             bond = {"serial": serial, "denom": 50, "issued": "2010-11", "owner": 7}
             self.fake.bonds[serial] = bond
@@ -256,7 +254,6 @@ def fake_books() -> Iterator[FakeBooks]:
 
 
 def trusting(question: interest_module.Question, ticket: object, line: object, bond: Any) -> Any:
-    """Takes the file's word."""
     return question.lookups.value(bond.denom, bond.issued, "2012-02"), ""
 
 
@@ -307,7 +304,7 @@ def test_full_disk(fake_books: FakeBooks, folder: Path, bond: str) -> None:
     file.write_text(bonds_csv(bond))
     words = ("--at", fake_books.fake.address, "interest-day", "2012-02-06", file)
     with open("/dev/full", "w", encoding="utf-8") as full:
-        status, _, told = command(*words, stdout=full)
+        status, _, told = by_process(*words, stdout=full)
     assert status == 3 and "No space left" in told
     assert command(*words)[0] == (0 if bond else 1), "control: with room"
 

@@ -1,13 +1,11 @@
-"""The Python client over the program, with real kills: of a pool, of the documented program at its calls, of a registration, and of client and counter at random."""
+"""The Python client over the program, with real kills: of a pool, and of the documented program at its calls."""
 
 import collections
 import contextlib
 import datetime
 import errno
-import json
 import random
 import re
-import sqlite3
 import subprocess
 import sys
 import time
@@ -18,13 +16,10 @@ import pytest
 
 import ee_counter_client as client
 from ee_counter_client.archive import Archive
-from ee_counter_client.testing import AFTER, BEFORE, Gate
+from ee_counter_client.testing import Gate
 from tests.clients.desk import DAY, OWN, TrueCounter, ran
 from tests.clients.interruptions import Failing, Interrupt
-from tests.clients.worker import act_at
 from tests.conftest import TOP
-from tests.shared.hostile import commands, desk, store, talk
-from tests.shared.hostile import counter as rules
 
 STOPPED = (errno.EIO, errno.ENOSPC)
 RATES = TOP / "crates/published_values/data/rates.csv"
@@ -47,19 +42,9 @@ def begin(address: str, place: Path, bonds: int = 0) -> None:
 
 
 def after_messages(gate: Gate, wanted: int, running: subprocess.Popen[Any]) -> None:
-    """Waits for so many messages at most."""
     wanted, end = len(gate.bodies) + wanted, time.monotonic() + 20
     while len(gate.bodies) < wanted and time.monotonic() < end and running.poll() is None:
         time.sleep(0.002)
-
-
-def rows_of(true: TrueCounter, query: str) -> list[tuple[Any, ...]]:
-    """What the store has, while the program doesn't serve. It is opened once more, which writes its log back."""
-    with true.stopped():
-        words = (true.program, "export", "1", "--db", true.store)
-        subprocess.run(words, stdout=subprocess.DEVNULL, check=True)
-        with contextlib.closing(sqlite3.connect(f"file:{true.store}?mode=ro", uri=True)) as books:
-            return books.execute(query).fetchall()
 
 
 def test_restored_from_the_archive(true: TrueCounter, folder: Path, dice: random.Random) -> None:
@@ -141,7 +126,6 @@ class Documented:
         (self.place / "program.py").write_text(program)
 
     def run(self, calls: str = "", log: str = "/dev/null", harm: str = "") -> tuple[int, str, str]:
-        """Runs it, perhaps under strace, which harms one of the calls."""
         words: list[object] = [sys.executable, "-B"]
         if calls:
             trace = ["strace", "-f", "-qq", "-o", log, f"--trace={calls}"]
@@ -230,49 +214,3 @@ def test_killed_pool(true: TrueCounter, gate: Gate, folder: Path, dice: random.R
     with client.Counter(folder / "other.journal", true.address) as counter:
         batch = counter.close_day(DAY)
     assert (batch.tickets, batch.bonds) == (count, count)
-
-
-@pytest.mark.parametrize("kills", [12, pytest.param(1000, marks=pytest.mark.slow)])
-def test_random_kills(
-    true: TrueCounter, gate: Gate, folder: Path, dice: random.Random, kills: int
-) -> None:
-    """Client and counter are killed at random, and messages harmed: each act is done once."""
-    begin(true.address, folder)
-    line = [sys.executable, "-m", "tests.clients.worker", str(folder), gate.address]
-    faults = [fault for fault in AFTER + BEFORE if fault not in ("silent", "dripping")]
-    worker = subprocess.Popen(line, env=OWN)
-    client_kills = 0
-    while client_kills + true.kills < kills:
-        after_messages(gate, dice.randint(1, 6), worker)
-        time.sleep(dice.uniform(0, 0.03))
-        if dice.random() < 0.3:
-            gate.faults = [dice.choice(faults)]
-        assert worker.poll() is None, "the client ended by itself"
-        if dice.random() < 0.5:
-            client_kills += 1
-            worker.kill()
-            worker.wait()
-            worker = subprocess.Popen(line, env=OWN)
-        else:
-            true.kill()
-    gate.faults = []
-    (folder / "stop").touch()
-    assert worker.wait(timeout=300) == 0
-    assert min(client_kills, true.kills) >= kills / 5
-    given: dict[int, dict[str, Any]] = {}
-    for place, reply in map(json.loads, (folder / "replies").read_text().splitlines()):
-        assert given.setdefault(place, reply) == reply
-    assert sorted(given) == list(range(len(given))) and len(given) > kills
-    books = desk.Books()
-    books.deliver((1, 1), ("rates", commands.rates_rows(RATES.read_bytes())))
-    for place in range(len(given)):
-        path, fields = act_at(place)
-        body = desk.compact({"desk": 3, "number": place + 1, **fields})
-        rules.connection(books, talk.message(f"POST {path} {body}"))
-    wanted = desk.rows_of(books)
-    kept = [row[2:] for row in wanted["answers"] if row[0] == 3]
-    assert [json.loads(reply) for _, reply in kept] == [given[place] for place in sorted(given)]
-    answers = "SELECT act, reply FROM answers WHERE desk = 3 ORDER BY number"
-    assert rows_of(true, answers) == kept
-    for table in ("bonds", "tickets", "paid"):
-        assert rows_of(true, store.ORDERS[table]) == wanted[table]

@@ -11,7 +11,7 @@ import pytest
 
 from tests.conftest import MEMORY, TOP
 from tests.fence.fresh import Fresh, bootstrap
-from tests.fence.site import Site
+from tests.fence.site import RecordedSite, Site
 from tests.shared.counter_calls import done, end, free_port, matched, run, serve
 
 #: Groups of the people of docs/INSTALL.md.
@@ -66,6 +66,15 @@ def site(request: pytest.FixtureRequest, folder: Path) -> Iterator[MakeSite]:
     yield make
     for one in made:
         one.end()
+
+
+@pytest.fixture(scope="module")
+def recorded(
+    request: pytest.FixtureRequest, tmp_path_factory: pytest.TempPathFactory
+) -> Iterator[RecordedSite]:
+    """A site for the groups of the module before a counter that records."""
+    with RecordedSite(tmp_path_factory.mktemp("recorded"), request.module.GROUPS) as made:
+        yield made
 
 
 class Release:
@@ -173,7 +182,6 @@ MakeMachine = Callable[[], Machine]
 
 @pytest.fixture(scope="session")
 def machines(root: Path) -> Iterator[MakeMachine]:
-    """Makes fresh machines, which end with the session."""
     made: list[Machine] = []
     with tempfile.TemporaryDirectory(prefix="fence.", dir=MEMORY) as folder:
 

@@ -4,7 +4,7 @@ import socket
 import ssl
 from concurrent.futures import ThreadPoolExecutor
 from pathlib import Path
-from typing import Iterator, Mapping
+from typing import Mapping
 
 import pytest
 
@@ -28,12 +28,6 @@ EIGHT = {
     "Cross-Origin-Opener-Policy": "same-origin",
     "X-Request-Id": None,
 }
-
-
-@pytest.fixture(scope="module")
-def recorded(tmp_path_factory: pytest.TempPathFactory) -> Iterator[RecordedSite]:
-    with RecordedSite(tmp_path_factory.mktemp("groups"), GROUPS) as made:
-        yield made
 
 
 def asked(site: Site, user: str, route: str) -> tuple[int, str]:
@@ -132,7 +126,7 @@ def is_named(answer: Answer, status: int, name: str, key: str = "forbidden") -> 
     """Whether this is nginx's own answer in JSON, with the eight headers, each once."""
     is_json = answer.headers.get_content_type() == "application/json"
     found = (answer.status, answer.json()[key], wrong_headers(answer))
-    return is_json and found == (status, name, [])
+    return is_json and found == (status, name, []) and set(answer.json()) <= {key, "message"}
 
 
 def wrong_headers(answer: Answer) -> list[str]:

@@ -21,12 +21,6 @@ MOST = 131_072
 BONDS = b"POST /bonds HTTP/1.1"
 
 
-@pytest.fixture(scope="module")
-def recorded(tmp_path_factory: pytest.TempPathFactory) -> Iterator[RecordedSite]:
-    with RecordedSite(tmp_path_factory.mktemp("log"), GROUPS) as made:
-        yield made
-
-
 def entry_of(site: Site, text: bytes, seconds: float = 5) -> dict[str, Any] | None:
     """The entry of a response, within these seconds. Bodies may have bytes that aren't UTF-8."""
     name = answer_in(text).headers["X-Request-Id"].encode()
@@ -51,7 +45,6 @@ def is_logged(site: RecordedSite, body: bytes, pieces: list[bytes], pause: float
 
 
 def ways(whole: bytes, head: int) -> Iterator[list[bytes]]:
-    """The pieces in which a message may be sent. `head` is the length of its head."""
     middle = (head + len(whole)) // 2
     yield [whole]
     for at in {head, head - 1, middle}:

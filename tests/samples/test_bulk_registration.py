@@ -1,7 +1,6 @@
 """Registration in bulk by the client's command, as docs/BULK.md has it: each bond is entered once, and nothing else is taken for done."""
 
 import csv
-import http.server
 import json
 import subprocess
 import sys
@@ -12,7 +11,6 @@ from pathlib import Path
 from typing import Callable, Iterator
 
 import pytest
-from ee_counter_client.testing import Gate
 
 from tests.conftest import TOP
 from tests.shared.counter_calls import RATES, apply, free_port, post, rows, run, serve, served
@@ -20,7 +18,6 @@ from tests.shared.counter_calls import RATES, apply, free_port, post, rows, run,
 
 FIRST, LAST = 20260206001, 2**63 - 1
 HEADER = "serial,denom,issued,owner,coowner"
-REFUSED = "the proxy got no certificate of the staff"
 KILLS = 8
 ISSUED = "printf('%04d-%02d', 2005 + (issued + 4) / 12, (issued + 4) % 12 + 1)"
 ALL = f"SELECT char(64 + letter) || number || 'EE', denom, {ISSUED}, owner, coowner FROM bonds"
@@ -38,7 +35,6 @@ def make_file(path: Path, lines: list[str]) -> Path:
 
 @pytest.fixture
 def store(program: Path, folder: Path) -> Path:
-    """A store with rates alone."""
     path, rates = folder / "day.db", post("/rates", {"number": 1, "rates": RATES}, b"")
     assert apply(program, path, [rates])[0][0] == 200
     return path
@@ -74,7 +70,6 @@ def started(journal: Path, port: int, file: Path) -> Iterator[subprocess.Popen[s
 
 
 def register(journal: Path, port: int, file: Path, *more: str) -> tuple[int, str]:
-    """The status, and all that was printed."""
     ran = run(*words_for(journal, port, file, *more), timeout=1800)
     return ran.returncode, ran.stdout
 
@@ -190,110 +185,3 @@ def test_last_numbers(program: Path, store: Path, folder: Path) -> None:
     assert fault_of(store, four, LAST - 3) is None
     with served(program, store) as port:
         assert counts(register(make_journal(folder / "first", 1), port, file)) == (500, 2000, 0)
-
-
-def test_no_certificate(program: Path, store: Path, journal: Path, folder: Path) -> None:
-    """Without a valid certificate, from the start or midway, it ends after one sending; with the right one it continues."""
-    file = make_file(folder / "bonds.csv", [line(n) for n in range(1, 20_001)])
-    with served(program, store) as port, Gate(port) as gate:
-        gate.is_wide, gate.faults = True, ["no certificate"] * 1000
-        status, said = register(journal, gate.port, file)
-        assert status == 3 and REFUSED in said and len(gate.met) == 1, said
-        gate.is_wide, gate.faults, before = False, [], len(gate.bodies)
-        with started(journal, gate.port, file) as client:
-            while len(gate.bodies) < before + 3 and client.poll() is None:
-                time.sleep(0.001)
-            gate.faults, gate.met = ["no certificate"] * 1000, []
-            assert client.stdout is not None
-            said = client.stdout.read()
-            assert client.wait(timeout=60) == 3 and REFUSED in said and len(gate.met) == 1, said
-        gate.faults = []
-        new, same, before = counts(register(journal, gate.port, file))
-        assert before >= 500 and same == 0 and new + before == 20_000
-    assert fault_of(store, file) is None
-
-
-def test_refused_row(program: Path, store: Path, journal: Path, folder: Path) -> None:
-    """It is named with its line and the counter's words, and sent once. With the row corrected the rest is entered."""
-    lines = [line(n) for n in range(1, 1801)]
-    wrong = [*lines[:10], "", *lines[10:1200], lines[1200].replace("2010-", "2011-"), *lines[1201:]]
-    serial = lines[1200].split(",")[0]
-    with served(program, store) as port, Gate(port) as gate:
-        status, said = register(journal, gate.port, make_file(folder / "rows.csv", wrong))
-        assert status == 1 and f'{{"code":30,"refused":"NoRate","serial":"{serial}"}}' in said, said
-        place = f"serial {serial}, line 1203 of the file; with it rows 1002 to 1501"
-        assert f"NoRate (code 30), {place}" in said and len(gate.bodies) == 3, said
-        again = register(journal, gate.port, make_file(folder / "rows.csv", lines))
-        assert counts(again) == (800, 0, 1000)
-        other = make_file(folder / "other.csv", [*lines[:2], lines[2].replace(",10000,", ",50,")])
-        status, said = register(make_journal(folder / "other", FIRST + 100), gate.port, other)
-        assert status == 1 and '"refused":"SerialConflict"' in said and "line 4 of" in said, said
-
-
-ROW = f"{HEADER}\nA1EE,50,2010-05,7,\n"
-UNREADABLE = [
-    ("serial,denom\n", f"row 1: the header isn't {HEADER}"),
-    (ROW.replace("7,", "7"), "row 2: it has 4 fields, and not 5"),
-    (f"{ROW}A2EE,60,2010-05,7,\n", "row 3: '60' is no denomination"),
-    (ROW.replace("-05", "-13"), "row 2: '2010-13' is no month"),
-    (f"{ROW}A-1-EE,50,2010-05,7,\n", "row 3: A1EE stands in row 2 already"),
-]
-
-
-@pytest.mark.parametrize("text, said", UNREADABLE)
-def test_unreadable_row(journal: Path, tmp_path: Path, text: str, said: str) -> None:
-    """It is named before anything is sent."""
-    (tmp_path / "bad.csv").write_text(text)
-    with Gate(free_port()) as gate:
-        status, found = register(journal, gate.port, tmp_path / "bad.csv")
-        assert status == 2 and found.strip().splitlines()[-1].startswith(said) and gate.heads == []
-
-
-@contextmanager
-def web_server(answer: Callable[[str, bytes], str]) -> Iterator[int]:
-    """Something that isn't the counter: `answer` gives the body of the 200 to a method and a body."""
-
-    class Handler(http.server.BaseHTTPRequestHandler):
-        def do_GET(self) -> None:
-            sent = self.rfile.read(int(self.headers.get("Content-Length", 0)))
-            body = answer(self.command, sent).encode()
-            self.send_response(200)
-            self.send_header("Content-Length", str(len(body)))
-            self.end_headers()
-            self.wfile.write(body)
-
-        do_POST = do_GET
-
-        def log_message(self, *_: object) -> None:
-            pass
-
-    with http.server.ThreadingHTTPServer(("127.0.0.1", 0), Handler) as server:
-        threading.Thread(target=server.serve_forever, daemon=True).start()
-        yield server.server_address[1]
-        server.shutdown()
-
-
-@pytest.mark.parametrize("body", ["<html>OK</html>", "", '{"status":"ok"}'])
-def test_web_server(journal: Path, tmp_path: Path, body: str) -> None:
-    file = make_file(tmp_path / "bonds.csv", [line(n) for n in range(1, 1001)])
-    with web_server(lambda *_: body) as port:
-        status, said = register(journal, port, file)
-    assert status == 3 and "that isn't the counter's" in said and "new" not in said, said
-
-
-@pytest.mark.parametrize("more", [-1, -500, 1, 0])
-def test_counts_that_do_not_fit(journal: Path, tmp_path: Path, more: int) -> None:
-    """A reply that counts other bonds than were sent is no reply. Control: with the right counts it is done."""
-    file = make_file(tmp_path / "bonds.csv", [line(n) for n in range(1, 1001)])
-
-    def answer(method: str, body: bytes) -> str:
-        if method == "GET":
-            return '{"bonds":0,"day":"2005-05-01","tickets":0,"total":"0.00"}'
-        return f'{{"new":{len(json.loads(body)["bonds"]) + more},"same":0}}'
-
-    with web_server(answer) as port:
-        ended = register(journal, port, file, "--patience", "2")
-    if more:
-        assert ended[0] == 3 and "no reply within 2 seconds" in ended[1], ended
-    else:
-        assert counts(ended) == (1000, 0, 0)
