@@ -32,7 +32,6 @@ def started(*words: object, **more: Any) -> subprocess.Popen[str]:
 
 
 def redemption(turn: int, number: int | None = None) -> bytes:
-    """Redeems bond `turn` at one of three desks."""
     desk, serials = 1 + turn % 3, [bond(turn)["serial"]]
     value = {"desk": desk, "number": number or turn + 1, "day": day_text(0), "payee": 7}
     return post("/redeem", value | {"serials": serials}, b"")
@@ -50,7 +49,6 @@ def entry_of(message: bytes, reply: str | None, at: float, status: str = "200") 
 
 
 def copied(store: Path, folder: Path) -> Path:
-    """A copy of a store's file and log, in a new folder."""
     folder.mkdir(parents=True)
     for path in (store, Path(f"{store}-wal")):
         if path.exists():

@@ -1,5 +1,7 @@
 """docs/RESTORE.md and the page of samples/restore as an operator follows them, on a machine of its own."""
 
+import os
+import random
 import re
 import threading
 import time
@@ -24,7 +26,6 @@ pytestmark = [
 
 @pytest.fixture
 def logged(bank: Bank) -> Bank:
-    """The bank, with a log of requests as nginx writes it."""
     asked, lock, log = bank.ask, threading.Lock(), Path(bank.machine.path(LOG))
 
     def ask(message: bytes) -> Answer | None:
@@ -39,13 +40,10 @@ def logged(bank: Bank) -> Bank:
     return bank
 
 
-def test_lost_disk(logged: Bank) -> None:
-    """The disk is lost under load. The page's commands restore every reply, and the counter serves."""
-    bank, m = logged, logged.machine
-    bank.load.start()
-    time.sleep(4)
+def lose_and_restore(bank: Bank) -> float:
+    """The seconds from the loss to serving."""
+    m, begun_at = bank.machine, time.time()
     m.shell("systemctl kill --signal=KILL counter.service counter-archive.service")
-    begun_at = time.time()
     m.shell("systemctl stop counter.service counter-archive.service; umount /var/lib/counter")
     m.shell("cd /srv/counter; btrfs -q subvolume delete store; btrfs -q subvolume create store")
     m.shell(f"mount -o subvol=store {m.devices[0]} /var/lib/counter")
@@ -59,8 +57,18 @@ def test_lost_disk(logged: Bank) -> None:
     said = m.shell(f"{path}; echo yes | {restore}")
     m.shell(start[1])
     bank.wait_until_served()
-    seconds = time.time() - begun_at
     assert "its file is missing" in looked and "Replies that differ:               0" in said
-    bank.load.stop()
-    bank.gives_all_replies_again()
-    print(f"from the lost disk to serving {seconds:.1f} seconds, {len(bank.load.replies)} replies")
+    return time.time() - begun_at
+
+
+def test_lost_disk(logged: Bank, dice: random.Random) -> None:
+    """The disk is lost MOMENTS times under load. The page's commands restore every reply, and the counter serves."""
+    load, seconds = logged.load, list[float]()
+    load.start()
+    for _ in range(int(os.environ.get("MOMENTS", "5"))):
+        time.sleep(dice.uniform(0.5, 3))
+        seconds.append(lose_and_restore(logged))
+    load.stop()
+    assert len(load.replies) > 100, "it was lost under load"
+    logged.gives_all_replies_again()
+    print(f"from the loss to serving {max(seconds):.1f} seconds, {len(load.replies)} replies")

@@ -1,21 +1,16 @@
-"""Each row of docs/RESTORE.md: the disaster that counter-restore names, and the store that it gives again. And the counter's disk is lost at moments by chance, under load: every reply that a client had is there.
-
-MOMENTS names how many, 5 if it isn't set, and BONDS how many bonds there are to be paid, 4000."""
+"""Each row of docs/RESTORE.md: the disaster that counter-restore names, and the store that it gives again."""
 
 import contextlib
 import gzip
 import itertools
 import os
-import random
 import shutil
 import signal
 import stat
-import statistics
 import subprocess
-import threading
 import time
 from pathlib import Path
-from typing import Callable, Iterator
+from typing import Callable
 from unittest import mock
 
 import archives
@@ -23,15 +18,14 @@ import logs
 import pytest
 import restoring
 
-from tests.conftest import TOP, until
+from tests.conftest import TOP
 from tests.restore.counter_day import RESTORE, Day, Served, Tables, copied, entry_of, redemption
 from tests.restore.counter_day import run, started
 from tests.restore.test_second_machine import changed, write_archive
-from tests.samples.books import key_of
 from tests.samples.conftest import Mount, mount, place
-from tests.shared.counter_calls import Answer, Load, apply, ask, beginning, bond, done, end
-from tests.shared.counter_calls import fault_of_books, free_port, make_version_one, post, redeem
-from tests.shared.counter_calls import rows, serve
+from tests.shared.counter_calls import apply, bond, done, end
+from tests.shared.counter_calls import make_version_one, post, redeem
+from tests.shared.counter_calls import rows
 
 __all__ = ["mount", "place"]
 pytestmark = pytest.mark.slow
@@ -472,152 +466,3 @@ def test_rows_of_the_page() -> None:
     for name in ROWS.values():
         test, _, case = name.partition("[")
         assert f"def {test}(" in tests and (not case or f"({case}, " in tests), name
-
-
-BONDS, CLIENTS = int(os.environ.get("BONDS", "4000")), 3
-WAYS = (
-    "the archive and the log",
-    "a nightly copy, the archive and the log",
-    "the log of another moment beside the file",
-    "the second machine's",
-)
-
-
-class Machine:
-    """`serve` with an archiver over a disk of btrfs, a log of requests, and a second machine that pulls both."""
-
-    def __init__(self, program: Path, folder: Path) -> None:
-        self.program, self.folder, self.lock = program, folder, threading.Lock()
-        self.count, self.at, self.disk = 0, 0.0, folder / "books"
-        self.archive, self.second = folder / "archives" / "counter", folder / "second"
-        self.log, self.followed = folder / "requests.log", folder / "followed" / "requests.log"
-        for path in (self.disk, self.archive, self.second, self.followed.parent):
-            path.mkdir(parents=True)
-        self.log.touch()
-        with open(folder / "books.disk", "w") as file:
-            file.truncate(2 << 30)
-        done("mkfs.btrfs", "-q", folder / "books.disk")
-        done("mount", "-o", "loop", folder / "books.disk", self.disk)
-        (self.disk / "snapshots").mkdir()
-        self.new_disk()
-        apply(program, self.store, beginning(BONDS))
-        self.nightly = copied(self.store, folder / "nightly")
-        self.processes: list[subprocess.Popen[str]] = []
-        self.start()
-        words = [RESTORE / "pull", self.archive, self.second, "--every", "1"]
-        words += ["--requests", self.log, self.followed]
-        self.pull = started(*words, stderr=subprocess.DEVNULL)
-
-    def new_disk(self) -> None:
-        self.count += 1
-        folder = self.disk / f"store-{self.count}"
-        done("btrfs", "-q", "subvolume", "create", folder)
-        self.store = folder / "day.db"
-
-    def start(self) -> None:
-        self.port = free_port()
-        words = [self.store, self.archive, "--snapshots", self.disk / "snapshots", "--every", "1"]
-        archiver = started(RESTORE / "archive", *words, stderr=subprocess.DEVNULL)
-        self.processes = [serve(self.program, self.store, self.port), archiver]
-        until((self.archive / "requests.jsonl").exists)
-
-    def ask(self, message: bytes) -> Answer | None:
-        """One answer, and its line in the log before the client has it."""
-        answer = ask(self.port, message)
-        if answer is not None and answer[0] in (200, 409):
-            with self.lock, open(self.log, "a") as log:
-                self.at += 0.001
-                sent = message.replace(b"Connection: close\r\n", b"")
-                log.write(entry_of(sent, answer[1], self.at, str(answer[0])))
-        return answer
-
-    def lose(self) -> None:
-        for process in self.processes:
-            process.kill()
-        for process in self.processes:
-            process.wait()
-
-    def end(self) -> None:
-        self.lose()
-        end(self.pull)
-        run("chattr", "-R", "-a", self.second)
-        done("umount", "-l", self.disk)
-
-
-@pytest.fixture
-def machine(program: Path, tmp_path: Path) -> Iterator[Machine]:
-    found = Machine(program, tmp_path)
-    yield found
-    found.end()
-
-
-@pytest.mark.root
-def test_moments(machine: Machine, dice: random.Random) -> None:
-    load = Load(machine.ask, BONDS, CLIENTS)
-    load.start()
-    seconds: list[float] = []
-    for nth in range(int(os.environ.get("MOMENTS", "5"))):
-        way = nth % len(WAYS)
-        time.sleep(dice.uniform(0.5, 2.0))
-        earlier = keep_log(machine) if way == 2 else None
-        time.sleep(dice.uniform(0.2, 0.6))
-        machine.lose()
-        begun = time.time()
-        acknowledged = dict(load.replies)
-        restore(machine, way, earlier)
-        machine.start()
-        seconds.append(time.time() - begun)
-        held = kept(machine.store)
-        wanted = {key_of(load.requests[name]): reply for name, reply in acknowledged.items()}
-        assert wanted.items() <= held.items(), WAYS[way]
-    load.stop()
-    assert len(load.replies) > 100, "control: it was lost under load"
-    keys = {key_of(load.requests[name]) for name in load.replies}
-    assert not keys & kept(machine.nightly).keys(), "control: the nightly copy lacks all of them"
-    for name in load.in_order():
-        assert machine.ask(load.requests[name]) == (200, load.replies[name])
-    machine.lose()
-    assert fault_of_books(copied(machine.store, machine.folder / "last"), load.replies) is None
-    took = f"{statistics.median(seconds):.1f} seconds, at most {max(seconds):.1f}"
-    print(f"{len(seconds)} moments, {len(load.replies)} replies; from the loss to serving {took}")
-
-
-def keep_log(machine: Machine) -> Path:
-    """The store's log as it is now, from a snapshot."""
-    machine.count += 1
-    snapshot = machine.disk / "snapshots" / f"earlier-{machine.count}"
-    done("btrfs", "-q", "subvolume", "snapshot", "-r", machine.store.parent, snapshot)
-    kept_log = machine.folder / f"earlier-{machine.count}"
-    shutil.copy(snapshot / "day.db-wal", kept_log)
-    done("btrfs", "-q", "subvolume", "delete", snapshot)
-    return kept_log
-
-
-def restore(machine: Machine, way: int, earlier: Path | None) -> None:
-    """Loses the store and its archive, or its log, and restores it by counter-restore."""
-    sources = [machine.log]
-    if earlier:
-        run(machine.program, "export", "1", "--db", machine.store)
-        shutil.copy(earlier, f"{machine.store}-wal")
-        sources.append(machine.archive)
-    else:
-        done("btrfs", "-q", "subvolume", "delete", machine.store.parent)
-        machine.new_disk()
-        sources += [machine.nightly.parent, machine.archive] if way == 1 else [machine.archive]
-    if way == 3:
-        # The last line is on its way.
-        size = machine.log.stat().st_size
-        until(lambda: machine.followed.stat().st_size == size)
-        sources = [machine.second, machine.followed]
-        shutil.rmtree(machine.archive)
-    named: list[object] = [word for path in sources for word in ("--from", path)]
-    named += ["--archive", machine.archive, "--program", machine.program, "--yes"]
-    done(RESTORE / "counter-restore", machine.store, *named)
-    done(RESTORE / "guard", machine.store, machine.archive)
-
-
-def kept(store: Path) -> dict[tuple[int, int], str]:
-    folder = Path("/dev/shm") / f"kept-{os.getpid()}"
-    found = rows(copied(store, folder), "SELECT desk, number, reply FROM answers")
-    shutil.rmtree(folder)
-    return {(desk, number): reply for desk, number, reply in found}

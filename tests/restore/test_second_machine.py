@@ -34,7 +34,6 @@ def request_of(line: bytes) -> archives.Request:
 
 
 def write_archive(folder: Path, lines: list[bytes]) -> None:
-    """An archive with these lines, and the end.json that belongs to them."""
     (folder / "requests.jsonl").write_bytes(b"\n".join(lines) + b"\n")
     end = json.loads((folder / "end.json").read_bytes())
     end |= {"row": request_of(lines[-1]).row, "checksum": archives.checksum(lines[-1])}
@@ -132,7 +131,6 @@ def follower(day: Day) -> Iterator[Path]:
 
 
 def break_connection(day: Day) -> None:
-    """Ends the shell that sends the log, and its tail."""
     done("pkill", "-KILL", "-f", f"tail.*{day.log}")
 
 
