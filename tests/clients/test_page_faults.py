@@ -154,20 +154,33 @@ RESENT = {
 }
 
 
+MAY_BE = "no reply yet. Nothing may be paid out yet. The payment may have been made already."
+#: No pause ends but by its button.
+HELD = "const real = window.setTimeout; window.setTimeout = (act, wait, ...more) => (wait >= 500 && wait % 500 === 0 && wait !== 1500 ? 0 : real(act, wait, ...more));"
+
+
+def sends_now(page: Page) -> None:
+    page.until(lambda: page.is_shown("#send-now"), "the page waits")
+    page.press("#send-now")
+
+
 def test_faults_on_resend(bank: Bank, page: Page) -> None:
-    """Payments whose answers are lost after the commit; each resend meets a fault; then the true reply comes. So it does if nginx misses a certificate on the first sending."""
-    bank.registers_many(60, len(RESENT) + 1)
-    rounds = [*(("lost answer", fault) for fault in RESENT), ("no certificate", "no certificate")]
-    for ticket, (first, fault) in enumerate(rounds, 1):
+    """A payment whose answer is lost after the commit; each resend meets a fault; then the true reply comes. So it does if nginx misses a certificate on the first sending."""
+    bank.registers_many(60, 2)
+    page.run(HELD)
+    rounds = {"lost answer": list(RESENT), "no certificate": ["no certificate"]}
+    for ticket, (first, faults) in enumerate(rounds.items(), 1):
         sent = len(bank.gate.bodies)
-        bank.gate.faults = [first, fault, fault]
+        bank.gate.faults = [first, *faults]
         page.sends(60, f"S{ticket}EE")
-        page.waits_for(RESENT[fault], "#progress")
-        page.waits_for("sent again in 2 seconds", "#progress")
-        may = "no reply yet. Nothing may be paid out yet. The payment may have been made already."
-        assert may in page.text("#progress") and "Nothing was done" not in page.text()
-        still = page.journal()["open"]
-        assert still["fields"]["serials"] == [f"S{ticket}EE"] and still["shown"] == "2516"
+        for place, fault in enumerate(faults, 2):
+            sends_now(page)
+            page.until(lambda: len(bank.gate.bodies) == sent + place, "it is sent again")
+            page.waits_for(RESENT[fault], "#progress")
+            assert MAY_BE in page.text("#progress") and "Nothing was done" not in page.text()
+            still = page.journal()["open"]
+            assert still["fields"]["serials"] == [f"S{ticket}EE"] and still["shown"] == "2516"
+        sends_now(page)
         page.is_paid(ticket, VALUES["L"])
         page.waits_for(f"Ticket {ticket} is paid.")
         assert f"{EARLIER} This was paid once." in page.text()
@@ -209,7 +222,6 @@ REPEATED = {**KEPT, "limit_req zone=sendings;": ""}
 def reset_while_paying(
     bank: Bank, nginx: Front, page_at: NewPage, desk: int, serial: str, then: list[str]
 ) -> Page:
-    """The connection breaks after the commit of a payment, and other answers come next."""
     relay = Relay(nginx.port)
     bank.port, bank.gate.cut = relay.port, relay.cut
     page = page_at(desk, day=DAY)
@@ -278,7 +290,6 @@ def test_revoked_while_paying(bank: Bank, page: Page, new_page: NewPage) -> None
 
 # ---- look-ups
 def held(event: threading.Event, text: bytes) -> bytes:
-    """An answer that waits for an event, which has to come."""
     assert event.wait(60)
     return text
 

@@ -19,41 +19,6 @@ from tests.browser.page import VALUES, Page, dollars
 pytestmark = [pytest.mark.browser, pytest.mark.nginx]
 SCRIPTS = scripts("page_scripts.js")
 L, K, M = VALUES["L"], VALUES["K"], VALUES["M"]
-SCANNED = ("L{}EE", "l{}ee", "L {} EE", "L-{}-EE", "L{:010}EE")
-
-
-# ---- in hand
-def test_sixty_scanned(bank: Bank, new_page: NewPage) -> None:
-    """Sixty bonds by the scanner, and the rest by the keyboard alone in under 60 keystrokes."""
-    bank.begin([])
-    bank.registers_many(60, 80, "L")
-    page = new_page(day=DAY)
-    page.go("pay")
-    page.run("document.querySelector('#pay h1').focus()")
-    count = 0
-
-    def press(*keys: str) -> None:
-        nonlocal count
-        for key in keys:
-            count += 1
-            page.tab() if key == Keys.TAB else page.keys(key)
-
-    press(Keys.TAB, "6", "0", Keys.ENTER)
-    page.waits_for("Customer 60 ", "#folded")
-    page.takes_keyboard("#in-hand")
-    page.scan(*[SCANNED[place % len(SCANNED)].format(place) for place in range(1, 61)])
-    page.shows_sum(60, 60 * L)
-    assert page.all("#missed li") == []
-    page.sleep(0.4)
-    press(Keys.ENTER)
-    page.asks()
-    line = ["$50", "issued 11/2010", dollars(L)]
-    assert page.bonds_asked() == [[f"L{place}EE", *line] for place in range(1, 61)]
-    press(Keys.TAB)
-    page.rested("#confirm-yes")
-    press(Keys.ENTER)
-    page.is_paid(1, 60 * L)
-    assert count < 60
 
 
 def test_in_hand(bank: Bank, page: Page) -> None:
@@ -189,7 +154,6 @@ def chooses(page: Page, owner: int) -> None:
 
 
 def stops(page: Page, owner: int) -> list[float]:
-    """The longest stops while a sheet is shown, while it is filtered, and while a bond of it is chosen."""
     page.go("pay")
     found = [longest_stop(page, lambda: act(page, owner)) for act in (shows, filters, chooses)]
     assert "S999EE" in page.text("#hand-last")
@@ -214,13 +178,8 @@ def test_sheet_of_a_thousand(bank: Bank, page: Page) -> None:
     scroll(page, 0.7)
     assert headings(page) == 6
     page.run("document.querySelector('input[data-serial=S998EE]').focus()")
-    keys = {
-        Keys.ARROW_DOWN: 999,
-        Keys.ARROW_UP: 998,
-        Keys.PAGE_UP: 978,
-        Keys.HOME: 1,
-        Keys.END: 1000,
-    }
+    keys = {Keys.ARROW_DOWN: 999, Keys.ARROW_UP: 998, Keys.PAGE_UP: 978, Keys.HOME: 1}
+    keys |= {Keys.END: 1000}
     for key, place in keys.items():
         page.keys(key)
         assert page.run("return document.activeElement.dataset.serial") == f"S{place}EE"

@@ -26,13 +26,13 @@ def test_storage_fails(bank: Bank, page: Page) -> None:
     page.refuses(f"{QUOTA} Nothing was sent, and nothing was changed.")
     assert bank.gate.bodies == [] and page.text("#sum") == dollars(L)
     assert all(button.is_enabled() for button in page.all("fieldset.acts button"))
-    page.run(SCRIPTS["failing"], 1, 5, "QuotaExceededError")
+    page.run(SCRIPTS["failing"], 1, 4, "QuotaExceededError")
     page.pay()
     page.waits_for("the request is open. It wasn't sent.", "#progress")
     assert QUOTA in page.text("#progress") and bank.gate.bodies == []
     page.is_paid(1, L)
     assert len(bank.gate.bodies) == 1 and EARLIER not in page.text("#notices")
-    page.run(SCRIPTS["failing"], 2, 5, "UnknownError")
+    page.run(SCRIPTS["failing"], 2, 4, "UnknownError")
     page.sends(7, "K7EE")
     page.waits_for("the reply has come.", "#progress")
     assert UNWRITTEN in page.text("#progress")
@@ -41,7 +41,7 @@ def test_storage_fails(bank: Bank, page: Page) -> None:
     assert len(bank.gate.bodies) == 2 and page.journal()["last"] == 2, "and sent no more"
     page.chooses(9, "L9EE")
     bank.gate.faults = ["lost answer"]
-    page.run(SCRIPTS["failing"], 2, 5, "QuotaExceededError")
+    page.run(SCRIPTS["failing"], 2, 4, "QuotaExceededError")
     page.pay()
     may = "Nothing may be paid out yet. The payment may have been made already."
     page.waits_for(f"the request is open. {may}", "#progress")
@@ -128,7 +128,6 @@ OLD = '<script src="old.js"'
 
 
 def runs_before(bank: Bank, script: str) -> None:
-    """The page has a script that runs before its own."""
     if not (bank.teller / "before.js").exists():
         bank.change_page("index.html", (OLD, f'<script src="before.js"></script>\n{OLD}'))
     (bank.teller / "before.js").write_text(script)
@@ -162,15 +161,13 @@ def test_storage_unkept(bank: Bank, new_page: NewPage) -> None:
 
 # ---- files
 def loads(bank: Bank) -> int:
-    """How often the browser asked for the page itself."""
     log = (bank.nginx.folder / "log/access.log").read_text()
     return log.count('"GET /teller/ HTTP')
 
 
 def stays(bank: Bank, page: Page) -> None:
-    """One sentence, and no reload."""
     before = loads(bank)
-    page.sleep(8)
+    page.sleep(5)
     assert loads(bank) == before
     assert len([text for text in page.text("main").splitlines() if text.strip()]) == 1
 

@@ -1,9 +1,7 @@
 """A customer who walks in with bonds that aren't registered: typed from the paper, registered and paid in one go, once, whatever happens between."""
 
 import json
-import time
 from pathlib import Path
-from statistics import median
 
 import pytest
 from ee_counter_client.testing.gate import JSON, response
@@ -14,7 +12,7 @@ from tests.clients.test_page_days import DAY_BUTTONS
 
 pytest.importorskip("selenium")
 from tests.browser.browser import Keys
-from tests.browser.page import DOUBT, EARLIER, NO_PRINTER, VALUES, Page
+from tests.browser.page import DOUBT, EARLIER, VALUES, Page
 
 pytestmark = [pytest.mark.browser, pytest.mark.nginx]
 #: What a teller types of each bond, and what it is in February 2012, by hand: 25 dollars of denomination are worth 12.58 if the bond is of November 2010 (25.16 for 50 dollars, docs/FIRST_DAY.md), 12.69 if of
@@ -38,7 +36,6 @@ def type_two(page: Page, owner: int) -> None:
 
 
 def walk_in(page: Page, owner: int, coowner: int | str = "", payee: int | str = "") -> str:
-    """The customers, up to the question; its texts."""
     for name, text in (("owner", owner), ("coowner", coowner), ("payee", payee)):
         page.type(f"#walkin-{name}", str(text))
     page.press("#walkin-button")
@@ -76,37 +73,6 @@ def test_walk_in(bank: Bank, page: Page) -> None:
     books = bank.books()
     assert books.tickets() == [(7, 5, SUM)]
     assert books.one("SELECT count(*) FROM answers WHERE desk = 5") == 2
-
-
-@pytest.mark.slow
-def test_sixty_walk_ins(bank: Bank, page: Page) -> None:
-    """Sixty walk-ins of a bond, by keys as fast as the page takes them: 24 each, next to the digits of the customer's number, and how long each takes."""
-    page.run(NO_PRINTER)
-    page.go("walkin")
-    page.run("document.getElementById('walkin-serial').focus()")
-    seconds = []
-    for number in range(1, 61):
-        begun = time.monotonic()
-        page.keys(f"L{100 + number}EE", Keys.ENTER, "50", Keys.ENTER, "112010", Keys.ENTER)
-        page.until(lambda: len(page.all("#walkin-bonds li")) == 1, "the bond is in the list")
-        page.keys(Keys.ENTER)
-        page.takes_keyboard("#walkin-owner")
-        page.keys(str(100 + number), Keys.ENTER)
-        page.asks()
-        page.tab()
-        page.rested("#confirm-yes")
-        page.keys(Keys.ENTER)
-        page.is_paid(number, VALUES["L"])
-        page.sleep(0.6)
-        page.takes_keyboard("#ticket .print")
-        page.keys(Keys.ENTER)
-        page.takes_keyboard("#next-customer")
-        page.keys(Keys.ENTER)
-        page.takes_keyboard("#walkin-serial")
-        seconds.append(time.monotonic() - begun)
-    print(f"{page.name}: {median(seconds):.1f} seconds by the median, {max(seconds):.1f} at most")
-    assert page.run("return window.prints") == 60
-    assert bank.books().one("SELECT count(*) FROM tickets") == 60
 
 
 # ---- what goes wrong between
@@ -349,21 +315,3 @@ def test_doubts_of_walk_in(bank: Bank, page: Page, pictures: Path | None) -> Non
     page.is_paid(1, VALUES["L"])
     query = "SELECT denom FROM bonds WHERE owner = 21"
     assert bank.books().rows(query) == [(50,)]
-
-
-def test_pictures_of_walk_in(page: Page, pictures: Path | None) -> None:
-    """The form and its question, for people."""
-    if pictures is None:
-        pytest.skip("PICTURES names no folder")
-    page.go("walkin")
-    page.pictured(pictures, "walkin_empty")
-    for texts in FIVE:
-        page.add_walk_in(*texts)
-    page.type("#walkin-owner", "7")
-    page.type("#walkin-coowner", "8")
-    page.run("document.activeElement.blur(); scrollTo(0, 0)")
-    page.pictured(pictures, "walkin")
-    page.press("#walkin-button")
-    page.asks()
-    page.rested("#confirm-yes")
-    page.pictured(pictures, "walkin_question")
