@@ -1,7 +1,4 @@
-"""found.toml names a test for every wrong program, removed guard and control; each of these
-tests exists."""
-
-from __future__ import annotations
+"""found.toml names a test for every wrong program, removed guard and control."""
 
 import subprocess
 import sys
@@ -24,11 +21,8 @@ def lacking(rows: list[dict[str, str]]) -> list[str]:
     files = sorted({row["test"].partition("::")[0] for row in rows})
     known = collected(*files)
     skipped = {file for file in files if not any(name.startswith(f"{file}::") for name in known)}
-    return [
-        row["test"]
-        for row in rows
-        if row["test"] not in known and not is_written(row["test"], skipped)
-    ]
+    lost = [row["test"] for row in rows if row["test"] not in known]
+    return [test for test in lost if not is_written(test, skipped)]
 
 
 def is_written(test: str, skipped: set[str]) -> bool:

@@ -1,7 +1,5 @@
 """A page in a browser, as a person sees it and a keyboard works it."""
 
-from __future__ import annotations
-
 import tempfile
 import time
 from pathlib import Path
@@ -69,13 +67,11 @@ class Browser:
         raise AssertionError("the machine's network doesn't rest")
 
     def new_tab(self) -> str:
-        """Opens a tab, which is the browser's from here on. Returns the name of the one before."""
         before = str(self.driver.current_window_handle)
         self.driver.switch_to.new_window("tab")
         return before
 
     def close_tab(self, name: str) -> None:
-        """Closes another tab, and stays in this one."""
         own = self.driver.current_window_handle
         self.driver.switch_to.window(name)
         self.driver.close()
@@ -83,10 +79,7 @@ class Browser:
 
     def resize(self, width: int, height: int) -> None:
         self.engine.resize(width, height)
-        self.until(
-            lambda: self.run("return innerWidth") == width,
-            f"the window is {width} wide, and not {self.run('return innerWidth')}",
-        )
+        self.until(lambda: self.run("return innerWidth") == width, f"the window is {width} wide")
 
     def picture(self, path: Path) -> None:
         path.parent.mkdir(parents=True, exist_ok=True)
@@ -108,11 +101,10 @@ class Browser:
         self.engine.downloads(folder)
         (folder / name).unlink(missing_ok=True)
         self.press(press)
-        self.until(
-            lambda: (folder / name).exists() and (folder / name).read_text().endswith("\n"),
-            f"{name} is saved",
-        )
-        return (folder / name).read_text()
+        file = folder / name
+        is_whole = lambda: file.exists() and file.read_text().endswith("\n")
+        self.until(is_whole, f"{name} is saved")
+        return file.read_text()
 
     # ---- what is there
 
@@ -127,14 +119,12 @@ class Browser:
         return str(self.find(selector).text)
 
     def value(self, selector: str) -> str:
-        """What is typed into a field."""
         return str(self.find(selector).get_attribute("value"))
 
     def is_shown(self, selector: str) -> bool:
         return bool(self.find(selector).is_displayed())
 
     def focused(self) -> str:
-        """The id of what has the keyboard."""
         return str(self.run("return document.activeElement?.id"))
 
     def has_keyboard(self, selector: str) -> bool:
@@ -148,19 +138,16 @@ class Browser:
         return self.driver.execute_async_script(AWAITING % script, *arguments)
 
     def until(self, condition: Callable[[], Any], what: str, patience: float | None = None) -> None:
-        wait = WebDriverWait(
-            self.driver, patience or self.patience, 0.05, [StaleElementReferenceException]
-        )
+        seconds, passing = patience or self.patience, [StaleElementReferenceException]
+        wait = WebDriverWait(self.driver, seconds, 0.05, passing)
         try:
             wait.until(lambda _: condition())
         except TimeoutException:
             raise AssertionError(f"{what}\n{self.text()}") from None
 
     def waits_for(self, words: str, selector: str = "body") -> None:
-        self.until(
-            lambda: any(words in element.text for element in self.all(selector)),
-            f"the page doesn't show: {words}",
-        )
+        is_shown = lambda: any(words in element.text for element in self.all(selector))
+        self.until(is_shown, f"the page doesn't show: {words}")
 
     def takes_keyboard(self, selector: str) -> None:
         self.until(lambda: self.has_keyboard(selector), f"{selector} takes the keyboard")
@@ -186,9 +173,8 @@ class Browser:
         """Chromium's fields are typed as MM/DD/YYYY, and as a month's name and a year."""
         year, month, *day = text.split("-")
         self.run("arguments[0].focus()", field)
-        self.keys(
-            *([month, *day] if kind == "date" else [MONTHS[int(month) - 1], Keys.RIGHT]), year
-        )
+        parts = [month, *day] if kind == "date" else [MONTHS[int(month) - 1], Keys.RIGHT]
+        self.keys(*parts, year)
         self.until(lambda: field.get_attribute("value") == text, f"the field has {text}")
 
     def press(self, selector: str) -> None:
@@ -207,10 +193,8 @@ class Browser:
 
     def rested(self, selector: str) -> None:
         """A button of a question does nothing at first."""
-        self.until(
-            lambda: self.find(selector).get_attribute("aria-disabled") is None,
-            f"{selector} has rested",
-        )
+        has_rested = lambda: self.find(selector).get_attribute("aria-disabled") is None
+        self.until(has_rested, f"{selector} has rested")
 
     def double_click(self, selector: str) -> None:
         button = self.find(selector)
@@ -218,12 +202,10 @@ class Browser:
         ActionChains(self.driver).double_click(button).perform()
 
     def keys(self, *keys: str) -> None:
-        """Keys for whatever has the keyboard."""
         for key in keys:
             ActionChains(self.driver).send_keys(key).perform()
 
     def tab(self, back: bool = False) -> None:
-        """To the page's next control, or back to the one before."""
         chain = ActionChains(self.driver)
         if back:
             chain = chain.key_down(Keys.SHIFT).send_keys(Keys.TAB).key_up(Keys.SHIFT)

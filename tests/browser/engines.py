@@ -1,7 +1,5 @@
 """Debian's Chromium, and its Firefox. Each starts on a profile, and does by its own means what the WebDriver protocol has no word for."""
 
-from __future__ import annotations
-
 import base64
 import json
 import os
@@ -29,7 +27,6 @@ def said(node: Node) -> tuple[str | None, str]:
 
 
 def below(nodes: dict[str, Node], node: Node) -> Iterator[Node]:
-    """The nodes below one, in order, without those that a screen reader isn't given."""
     for name in node.get("childIds", ()):
         if name in nodes:
             if not nodes[name]["ignored"]:
@@ -110,7 +107,6 @@ class Chromium:
         self.command("Emulation.setDeviceMetricsOverride", **size)
 
     def downloads(self, folder: Path) -> None:
-        """Where files are saved, without a question."""
         self.command("Browser.setDownloadBehavior", behavior="allow", downloadPath=str(folder))
 
     def dark(self, is_dark: bool) -> None:
@@ -126,20 +122,15 @@ class Chromium:
     def complaints(self) -> list[str]:
         """What the console was told, what the browser says of its own pages and of failed requests apart."""
         messages = [entry["message"] for entry in self.driver.get_log("browser")]
-        return [
-            message
-            for message in messages
-            if not message.startswith("chrome://") and "Failed to load resource" not in message
-        ]
+        own = [message for message in messages if not message.startswith("chrome://")]
+        return [message for message in own if "Failed to load resource" not in message]
 
     def come_round(self, back: bool) -> None:
         """Without a screen Chromium has no controls of its own: Tab goes from the last of the page to the first."""
 
     def tree(self) -> dict[str, Node]:
-        """The accessibility tree, by the names of its nodes."""
-        return {
-            node["nodeId"]: node for node in self.command("Accessibility.getFullAXTree")["nodes"]
-        }
+        nodes = self.command("Accessibility.getFullAXTree")["nodes"]
+        return {node["nodeId"]: node for node in nodes}
 
     def dialog(self) -> Dialog | None:
         """What a screen reader is given of the open dialog, or None if the browser doesn't tell."""
@@ -147,12 +138,10 @@ class Chromium:
         given = [node for node in nodes.values() if not node["ignored"]]
         dialog = next(node for node in given if said(node)[0] == "dialog")
         kinds = ("heading", "list", "listitem", "button")
-        within = [
-            (kind, name) for kind, name in map(said, below(nodes, dialog)) if kind in kinds and kind
-        ]
-        modal = any(
-            one["name"] == "modal" and one["value"]["value"] for one in dialog["properties"]
-        )
+        parts = map(said, below(nodes, dialog))
+        within = [(kind, name) for kind, name in parts if kind in kinds and kind]
+        properties = dialog["properties"]
+        modal = any(one["name"] == "modal" and one["value"]["value"] for one in properties)
         buttons = [said(node)[1] for node in given if said(node)[0] == "button"]
         description = " ".join(dialog.get("description", {}).get("value", "").split())
         return said(dialog)[1], description, modal, within, buttons
@@ -166,11 +155,8 @@ class Chromium:
         service = self.driver.service.process
         words = ["ps", "-eo", "pid,args"]
         lines = subprocess.run(words, capture_output=True, text=True, check=True).stdout
-        mine = [
-            line.split()[0]
-            for line in lines.splitlines()
-            if f"--user-data-dir={self.profile}" in line
-        ]
+        own = f"--user-data-dir={self.profile}"
+        mine = [line.split()[0] for line in lines.splitlines() if own in line]
         subprocess.run(["kill", "-KILL", *mine], check=True)
         service.kill()
         service.wait()

@@ -1,7 +1,5 @@
 """The package's own gate, between nginx and `serve`, and a relay between a browser and nginx."""
 
-from __future__ import annotations
-
 import contextlib
 import queue
 import socket
@@ -28,7 +26,6 @@ class Gate(gate.Gate):
         self.changed = None
 
     def posts(self) -> list[str]:
-        """The paths that were posted."""
         return [head.split(b" ", 2)[1].decode() for head in self.heads if head[:5] == b"POST "]
 
     def fault_of(self, message: bytes) -> str | None:

@@ -1,7 +1,5 @@
 """Firefox for selenium, without geckodriver, which Debian lacks: selenium's commands are handed to Firefox's own Marionette, which has the same ones under other names."""
 
-from __future__ import annotations
-
 import json
 import socket
 import subprocess
@@ -112,7 +110,6 @@ class Firefox:
         return result.get("value")
 
     def run_inside(self, script: str, *arguments: object) -> Any:
-        """A script in the browser itself, beside its pages."""
         self.ask("Marionette:SetContext", {"value": "chrome"})
         try:
             return self.ask("WebDriver:ExecuteScript", {"script": script, "args": list(arguments)})
@@ -120,7 +117,6 @@ class Firefox:
             self.ask("Marionette:SetContext", {"value": "content"})
 
     def execute(self, command: str, parameters: Json) -> Json:
-        """What selenium is answered."""
         words = {name: value for name, value in parameters.items() if name != "sessionId"}
         if command == "quit":
             self.close()

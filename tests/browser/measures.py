@@ -1,7 +1,5 @@
 """What is measured of the tellers' page as it is laid out: what is in sight, whole, covered or broken."""
 
-from __future__ import annotations
-
 import time
 from typing import Any, Mapping
 
@@ -29,7 +27,6 @@ def measured(page: Browser, script: str, *given: object) -> Any:
 
 
 def box(page: Browser, selector: str) -> list[float]:
-    """The element's top, bottom, left and right, and the window's height and width."""
     script = "const { top, bottom, left, right } = box(arguments[0]); return [top, bottom, left, right, innerHeight, innerWidth];"
     found: list[float] = measured(page, script, selector)
     return found
@@ -46,7 +43,6 @@ def scroll(page: Browser, part: float) -> None:
 
 
 def headings(page: Browser) -> int:
-    """How many headings of the sheet are in sight."""
     script = "return [...document.querySelectorAll('#sheet thead th')].filter(is_on_top).length;"
     return int(measured(page, script))
 
@@ -59,7 +55,6 @@ WHOLE = """
 
 
 def whole_bonds(page: Browser) -> int:
-    """How many whole bonds of the sheet are in sight."""
     return int(measured(page, WHOLE))
 
 
@@ -71,7 +66,6 @@ FIRST = """
 
 
 def first_cells(page: Browser) -> set[str]:
-    """The first three cells of the first bond, from its top left."""
     return set(page.run(FIRST))
 
 
@@ -143,7 +137,6 @@ def meeting_cells(page: Browser) -> list[str]:
 
 
 def lines_of_a_bond(page: Browser) -> int:
-    """The lines of the first bond in a question."""
     script = "return lines(...document.querySelectorAll('#confirm .bonds li:first-child span'));"
     return int(measured(page, script))
 

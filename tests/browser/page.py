@@ -1,7 +1,5 @@
 """The page for tellers, as a teller works it."""
 
-from __future__ import annotations
-
 import time
 from typing import Any, Callable
 
@@ -67,20 +65,20 @@ STEPS = """
 """
 
 
+BONDS_ASKED = "return [...document.querySelectorAll('#confirm .bonds li')].map((line) => [...line.children].map((part) => part.textContent))"
+
+
 def dollars(cents: int) -> str:
     return f"${cents // 100:,}.{cents % 100:02}"
 
 
 class Page(Browser):
-    """The page for tellers in a browser."""
-
     #: The bonds of the last question, as `bonds_asked` has them.
     asked: list[list[str]]
 
     # ---- what it keeps
 
     def journal(self) -> dict[str, Any]:
-        """The page's journal, which is empty before a desk is chosen."""
         found: dict[str, Any] = self.run_module(OPEN + READ_JOURNAL, "ladwenpik-teller")
         return found
 
@@ -95,18 +93,13 @@ class Page(Browser):
 
     def settled(self) -> None:
         """Nothing is open, and no step is shown."""
-        self.until(
-            lambda: self.journal().get("open") is None
-            and self.find("#progress").get_attribute("class") == "",
-            "the request is settled",
-        )
+        self.until(lambda: self.journal().get("open") is None, "the request is settled")
+        is_shown = lambda: self.find("#progress").get_attribute("class") == ""
+        self.until(is_shown, "no step of the request is shown")
 
     def hears(self, words: str) -> None:
-        """The live region says it."""
-        self.until(
-            lambda: words in str(self.find("#live").get_attribute("textContent")),
-            f"a screen reader hears: {words}",
-        )
+        is_so = lambda: words in str(self.find("#live").get_attribute("textContent"))
+        self.until(is_so, f"a screen reader hears: {words}")
 
     def refuses(self, *words: str) -> str:
         """What the notices say, once they say these words and no request is open."""
@@ -116,7 +109,6 @@ class Page(Browser):
         return self.text("#notices")
 
     def watch_steps(self) -> None:
-        """From here on, for `has_said`."""
         self.run(STEPS)
 
     def has_said(self, words: str) -> None:
@@ -153,7 +145,6 @@ class Page(Browser):
     # ---- the day
 
     def ask_to_open(self, day: str) -> str:
-        """Up to the page's question; its texts."""
         self.go("day")
         self.type("#open-date", day)
         self.press("#open-day button")
@@ -166,10 +157,8 @@ class Page(Browser):
         is_asked_again = self.text("#confirm-yes") == "Continue"
         self.press("#confirm-yes")
         if is_asked_again:
-            self.until(
-                lambda: self.text("#confirm-yes").startswith("Open the day in"),
-                "the page asks again",
-            )
+            again = lambda: self.text("#confirm-yes").startswith("Open the day in")
+            self.until(again, "the page asks again")
             self.press("#confirm-yes")
 
     def join_day(self, day: str) -> None:
@@ -183,15 +172,13 @@ class Page(Browser):
             self.choose_desk(desk)
         self.join_day(day)
         joined = "This desk joined"
-        self.until(
-            lambda: self.is_shown("#confirm") or joined in self.text("#notices"), "the day is found"
-        )
+        is_found = lambda: self.is_shown("#confirm") or joined in self.text("#notices")
+        self.until(is_found, "the day is found")
         if self.is_shown("#confirm"):
             self.press("#confirm-yes")
         self.waits_for(joined)
 
     def ask_to_close(self, patience: float = 60) -> str:
-        """Up to the page's question, before which it counts the day."""
         self.go("day")
         self.press("#close-day button")
         self.asks("#close-day button", patience)
@@ -219,17 +206,15 @@ class Page(Browser):
 
     def show_sheet(self, customer: int, month: str | None = None) -> None:
         self.go("pay")
-        self.run(
-            "document.querySelectorAll('#sheet > *').forEach((one) => one.classList.add('earlier'))"
-        )
+        mark = "(one) => one.classList.add('earlier')"
+        self.run(f"document.querySelectorAll('#sheet > *').forEach({mark})")
         self.show_sheet_begun(customer, month)
-        self.answered(
-            lambda: self.all("#sheet .earlier") == []
-            and f"ustomer {customer} " in self.text("#folded") + self.text("#sheet"),
-            "the sheet",
-            "#ask-sheet button",
-            60,
-        )
+
+        def is_new() -> bool:
+            texts = self.text("#folded") + self.text("#sheet")
+            return not self.all("#sheet .earlier") and f"ustomer {customer} " in texts
+
+        self.answered(is_new, "the sheet", "#ask-sheet button", 60)
 
     def caption(self) -> str:
         """Whose sheet is shown, and of which month."""
@@ -257,14 +242,12 @@ class Page(Browser):
         self.until(lambda: self.value("#serial") == "", f"{serial} is added")
 
     def ask_to_pay(self, payee: int | None = None) -> str:
-        """Up to the page's question; its texts."""
         if payee is not None:
             self.type("#payee", str(payee))
         self.press("#pay-button")
         return self.asked_without_doubt()
 
     def pay(self, payee: int | None = None) -> str:
-        """Pays, and returns the texts of the question."""
         question = self.ask_to_pay(payee)
         self.asked = self.bonds_asked()
         self.press("#confirm-yes")
@@ -277,7 +260,6 @@ class Page(Browser):
         self.settled()
 
     def chooses(self, owner: int, *serials: str) -> None:
-        """Bonds of a sheet."""
         self.show_sheet(owner)
         self.choose(*serials)
 
@@ -287,7 +269,6 @@ class Page(Browser):
         return self.pay(payee)
 
     def pays(self, ticket: int, owner: int, *serials: str, payee: int | None = None) -> None:
-        """The whole payment of bonds of a sheet."""
         self.sends(owner, *serials, payee=payee)
         self.is_paid(ticket, *(VALUES[serial[0]] for serial in serials))
 
@@ -326,7 +307,6 @@ class Page(Browser):
         self.press("#add-walkin button:not([type])")
 
     def add_walk_in(self, serial: str, denom: str, issued: str = "11/2010") -> None:
-        """A bond, up to its place in the list."""
         self.type_walk_in(serial, denom, issued)
         self.until(lambda: self.value("#walkin-serial") == "", f"{serial} is in the list")
 
@@ -354,9 +334,7 @@ class Page(Browser):
 
     def bonds_asked(self) -> list[list[str]]:
         """The bonds of the question: of each the texts of its line."""
-        lines: list[list[str]] = self.run(
-            "return [...document.querySelectorAll('#confirm .bonds li')].map((line) => [...line.children].map((part) => part.textContent))"
-        )
+        lines: list[list[str]] = self.run(BONDS_ASKED)
         return lines
 
     def asked_without_doubt(self) -> str:
@@ -364,12 +342,9 @@ class Page(Browser):
         self.asks()
         while any(words in (title := self.text("#confirm-title")) for words in DOUBTS):
             self.press("#confirm-yes")
-            self.until(
-                lambda: self.is_shown("#confirm") and self.text("#confirm-title") != title,
-                "the page asks again",
-            )
+            again = lambda: self.is_shown("#confirm") and self.text("#confirm-title") != title
+            self.until(again, "the page asks again")
         return self.question()
 
     def sleep(self, seconds: float) -> None:
-        """If nothing may happen."""
         time.sleep(seconds)

@@ -1,7 +1,5 @@
 """Rules of accessibility, each asked of what is shown, and for each a change of the page that breaks it. No package of Debian's has a checker for pages."""
 
-from __future__ import annotations
-
 from typing import Any
 
 from tests.browser.browser import Browser
@@ -82,7 +80,6 @@ BREAKS = {
 
 
 def broken(page: Browser) -> dict[str, Any]:
-    """What breaks a rule, by rule."""
     rules = ", ".join(f"{name!r}: {rule}" for name, rule in RULES.items())
     found: dict[str, Any] = page.run(HELPERS + "return {" + rules + "};")
     return {name: one for name, one in found.items() if one}

@@ -38,7 +38,6 @@ REUSED = Response(409, '{"code":10,"refused":"NumberReused"}')
 
 
 def redemption(act: int) -> tuple[str, Json]:
-    """The redemption with this name: it alone has this bond."""
     return "/redeem", {"day": DAY, "payee": PAYEE, "serials": [f"L{act}EE"]}
 
 
@@ -65,7 +64,6 @@ class Counter:
         self.kept.setdefault(number, ("another", Response(200, "{}")))
 
     def decided(self, path: str, body: Json, refuses: bool) -> Response:
-        """Decides a request, or gives the answer that is kept."""
         text = json.dumps([path, {**body, "number": 0}], sort_keys=True)
         number = body["number"]
         if number not in self.kept:

@@ -96,7 +96,6 @@ class Beside:
         assert sent == wanted, f"it sends act {act} under {number}, and not {self.turn}"
 
     def shows(self, act: int, outcome: int) -> None:
-        """The client shows what became of an act."""
         shown = self.last_shown and (self.last_shown.act, self.last_shown.outcome)
         assert shown == (act, outcome), f"it shows {outcome} of act {act}, and the machine {shown}"
 

@@ -29,8 +29,6 @@ def page_in(folder: Path, wasm: Path, edit: Optional[Edit] = None) -> None:
 
 
 class Node:
-    """A process of Node with the page's rules and the machine, which are in a folder."""
-
     def __init__(self, folder: Path) -> None:
         words, pipe = ["node", str(folder / "page.mjs")], subprocess.PIPE
         self.process = subprocess.Popen(words, stdin=pipe, stdout=pipe, text=True)
@@ -49,7 +47,6 @@ class Node:
         return found
 
     def turn(self, most: int, journal: Record, events: Sequence[Event]) -> Turn:
-        """The machine's last turn, as WebAssembly."""
         texts = [[str(number) for number in event] for event in events]
         self.does("turn", most=str(most), journal=[str(number) for number in journal], events=texts)
         return turn_of([int(number) for number in self.said()["turn"]])
@@ -92,7 +89,6 @@ class PageClient(Told):
         """Ends it."""
 
     def start(self) -> None:
-        """A page that is loaded: it sends what is open."""
         self.beside.holds(record_of(self.record))
         self.node.does("start", record=self.record)
         assert self.node.said() == {"started": True}
@@ -139,7 +135,6 @@ class PageClient(Told):
                 return said
 
     def ends(self) -> None:
-        """A request is sent until it ends. That it wasn't done is shown once it was dropped."""
         said = self.called()
         if said is None:
             return
@@ -168,7 +163,6 @@ class PageClient(Told):
         return self.record["open"] is not None
 
     def submit(self, act: int, follower: int = 0) -> None:
-        """Submits a redemption, or a registration that a redemption follows."""
         path, fields = registration(act) if follower else redemption(act)
         then = dict(zip(("path", "fields"), redemption(follower)))
         more: Json = {"then": then} if follower else {}

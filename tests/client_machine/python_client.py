@@ -28,7 +28,6 @@ class Killed(BaseException):
 
 
 def edited(folder: Path, edit: Edit) -> None:
-    """Makes a wrong client: a text of a file, which is there once, is another."""
     file, old, new = edit
     text = (folder / file).read_text()
     assert text.count(old) == 1, f"{old!r} isn't once in {file}"
@@ -36,7 +35,6 @@ def edited(folder: Path, edit: Edit) -> None:
 
 
 def package(edit: Optional[Edit] = None) -> ModuleType:
-    """The client's package; with an `edit` a wrong copy of it."""
     if edit is None:
         sys.path.insert(0, str(SOURCES))
         return importlib.import_module("ee_counter_client")
@@ -49,7 +47,6 @@ def package(edit: Optional[Edit] = None) -> ModuleType:
 
 
 def record_of(record: Json) -> Record:
-    """What the rules know of a journal."""
     still = record["open"]
     if still is None:
         return Record(record["next"])
@@ -59,7 +56,6 @@ def record_of(record: Json) -> Record:
 
 
 def answered_kind(status: int, text: str) -> int:
-    """What a response is to the machine."""
     try:
         value = json.loads(text)
     except ValueError:
@@ -158,7 +154,6 @@ class PythonClient(Told):
         self.client._journal.keys.close()
 
     def called(self, call: Any) -> None:
-        """Makes a call of the client, and compares what it shows."""
         errors = self.package
         try:
             result = call()
@@ -195,7 +190,6 @@ class PythonClient(Told):
         return self.beside.turn.journal.act != 0 and not self.is_open
 
     def submit(self, act: int, follower: int = 0) -> None:
-        """Submits a redemption. What ended is written before."""
         if self.is_ended:
             self.go_on()
         if self.is_ended:

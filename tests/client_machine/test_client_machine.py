@@ -1,6 +1,4 @@
-"""Holds the Python client and the tellers' page to the proved machine: every write of a journal, every
-sending and everything that is shown, while messages are lost, late and repeated, numbers are used by
-others, writes fail, and clients are killed. Wrong clients are found within a minute."""
+"""The Python client and the tellers' page do what the proved machine does, whatever happens."""
 
 import itertools
 import os
@@ -112,7 +110,6 @@ def rules(started: Callable[[int], Client], steps: list[int]) -> type[RuleBasedS
 
 
 def run(started: Callable[[int], Client], examples: int, is_shrunk: bool = False) -> int:
-    """Runs the rules over a client. Returns how many steps it took."""
     steps = [0]
     phases = [Phase.generate, Phase.shrink] if is_shrunk else [Phase.generate]
     quick = settings(deadline=None, database=None, suppress_health_check=list(HealthCheck))
@@ -187,7 +184,6 @@ def test_points(
 
 
 def run_whole(started: Callable[[int], Client], least: int) -> None:
-    """Runs the rules over a client until it took that many steps, and prints how many."""
     steps = 0
     while steps < least:
         steps += run(started, 20, True)

@@ -43,7 +43,6 @@ def variants(**changes: Change | Changes) -> pytest.MarkDecorator:
 
 
 def script(old: str, new: str) -> Change:
-    """A change of the page's one script."""
     return "calculator.js", old, new
 
 
@@ -78,7 +77,6 @@ class Site:
 
 
 def variant(folder: Path, changes: Changes) -> Path:
-    """A copy of the page in which texts of files are others."""
     made = Path(tempfile.mkdtemp(dir=folder)) / "page"
     shutil.copytree(OUT, made)
     for file, old, new in changes:
@@ -149,7 +147,6 @@ class Calculator(Browser):
             yield
 
     def until(self, condition: Any, what: str, patience: float | None = None) -> Any:
-        """Waits until the condition holds, and returns what it gave."""
         found = []
 
         def holds() -> Any:
@@ -177,7 +174,6 @@ class Calculator(Browser):
         return [row[0] for row in self.rows()]
 
     def texts(self, selector: str) -> list[str]:
-        """The texts of elements, as they are written."""
         words = "return [...document.querySelectorAll(arguments[0])].map((one) => one.textContent);"
         found: list[str] = self.run(words, selector)
         return found
@@ -186,14 +182,12 @@ class Calculator(Browser):
         return [re.sub("[$,]", "", text) for text in self.texts("#table tfoot tr > *")]
 
     def sheet(self) -> str:
-        """The table's texts, set as the counter prints a sheet."""
         lines = [self.texts("#table thead th"), *self.rows(), self.total()]
         return "".join(line_of(cells) for cells in lines)
 
     # ---- what is done
 
     def choose_file(self, selector: str, content: bytes) -> str:
-        """Opens a file's bytes by a field of the page. Returns what the page tells."""
         path = Path(tempfile.mkdtemp(dir=self.folder)) / "file.csv"
         path.write_bytes(content)
         self.run("document.querySelector('#told-text').textContent = ''")
@@ -222,7 +216,6 @@ class Calculator(Browser):
         self.run("window.confirm = () => true; document.querySelector('#remove-all').click()")
 
     def shows_only(self, rates: bytes, inventory: bytes, month: str) -> None:
-        """Shows an inventory by these rates in a month, and nothing else."""
         self.remove_all()
         told = self.open_rates(rates), self.open_inventory(inventory)
         assert "read" in told[0] and "added" in told[1], told
@@ -240,7 +233,6 @@ class Calculator(Browser):
         self.run(words, serial)
 
     def saved(self, name: str, press: str) -> str:
-        """The text of a file that the page saves as that button is pressed."""
         path = self.downloads / name
         path.unlink(missing_ok=True)
         self.click(press)
@@ -273,12 +265,10 @@ class Calculator(Browser):
         return bool(self.run("return document.querySelector('#keep').checked"))
 
     def tick(self) -> None:
-        """Ticks the box, and waits until the page says that all is kept."""
         self.click("#keep")
         self.is_written()
 
     def is_said(self) -> bool:
-        """Whether the page says that it keeps the bonds."""
         return self.texts("#keep-state")[0].startswith("Kept")
 
     def is_written(self) -> None:

@@ -72,7 +72,6 @@ KNOWN = range(FIRST, FIRST + SHIPPED_MONTHS)
 
 
 def spelled(dice: random.Random, bond: Bond) -> str:
-    """A line of an inventory, spelled in one of the ways that are read."""
     serial, dollars, issued, owner, coowner = bond
     number = serial[1:-2].zfill(dice.randrange(len(serial) - 3, 11))
     one, two = (dice.choice(("", "-")) for _ in range(2))
@@ -128,7 +127,6 @@ RATE_FILES["1,048,577 bytes"] = (RATES + b"2010-05,3.50\n").ljust(SIZES[1], b"\n
 
 
 def damaged(dice: random.Random, content: bytes) -> bytes:
-    """A file with a few bytes changed, taken out or doubled."""
     made = bytearray(content)
     for _ in range(dice.randrange(1, 4)):
         at = dice.randrange(len(made))
@@ -149,13 +147,11 @@ class Store:
             self.enter("rates", rates)
 
     def run(self, *words: str, given: bytes = b"") -> str:
-        """The output, or the text of the fault."""
         line = [str(self.program), *words, "--db", str(self.store)]
         done = subprocess.run(line, input=given, capture_output=True)
         return (done.stdout or done.stderr).decode()
 
     def enter(self, kind: str, content: bytes) -> str:
-        """Imports a file's bytes. Returns the reply or the fault."""
         self.number += 1
         path = Path(self.folder.name) / "file.csv"
         path.write_bytes(content)

@@ -63,7 +63,6 @@ def cell_of(dice: random.Random, column: str, bond: Bond, formats: dict[str, str
 
 
 def random_sheet(dice: random.Random) -> tuple[list[list[Cell]], list[Bond]]:
-    """The rows of a sheet, and its bonds."""
     is_numbered = dice.random() < 0.75
     bonds = random_bonds(dice, is_numbered)
     columns = ["denom", "issued", *(["serial"] if is_numbered else [])]
@@ -117,11 +116,8 @@ def table(dice: random.Random) -> Made:
     text = ""
     for serial, dollars, issued in bonds:
         cells = [serial or "NA", "EE", f"${dollars:,}", month(issued), "12/2026"]
-        cells += [
-            month(issued + 360),
-            f"${dollars / 2:,.2f}",
-            f"${dice.randrange(9000) / 100:,.2f}",
-        ]
+        prices = (dollars / 2, dice.randrange(9000) / 100)
+        cells += [month(issued + 360), *(f"${one:,.2f}" for one in prices)]
         cells += ["1.40%", f"${dollars / 2 + 7:,.2f}", dice.choice(("", "P5"))]
         text += "\t".join(cells) + dice.choice(("\n", "\t\n"))
     if dice.random() < 0.8:

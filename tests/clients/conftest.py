@@ -21,7 +21,6 @@ DESK = 5
 
 @pytest.fixture
 def bank(program: Path, folder: Path) -> Iterator[Bank]:
-    """A bank without a rate, a bond and a day."""
     made = Bank(program, folder)
     yield made
     made.end()
@@ -67,7 +66,6 @@ def page(bank: Bank, new_page: NewPage) -> Page:
 
 @pytest.fixture
 def pictures() -> Path | None:
-    """The folder in which a test leaves pictures for people, if $PICTURES names one."""
     return Path(os.environ["PICTURES"]) if "PICTURES" in os.environ else None
 
 

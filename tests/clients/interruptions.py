@@ -1,7 +1,5 @@
 """Interruptions of a process that lives on: Ctrl-C at a moment of the package's own code, and a call on a file that fails."""
 
-from __future__ import annotations
-
 import collections
 import errno
 import os
@@ -25,7 +23,7 @@ class Interrupt:
         self.function, self.nth = function, nth
         self.counts: collections.Counter[str] = collections.Counter()
 
-    def __enter__(self) -> Interrupt:
+    def __enter__(self) -> "Interrupt":
         # Python ignores what is raised in __del__.
         self.hook, sys.unraisablehook = sys.unraisablehook, lambda _: None
         self.traced = sys.gettrace()
@@ -55,7 +53,6 @@ class Interrupt:
 
 
 def moments_of(call: Callable[[], object]) -> list[tuple[str, int]]:
-    """Each moment of a call: its function, and its number there."""
     with Interrupt() as whole:
         call()
     found = [(name, nth) for name, count in whole.counts.items() for nth in range(1, count + 1)]
@@ -68,9 +65,8 @@ class Failing:
 
     def __init__(self, at: int = 0, number: int = errno.EIO, is_after: bool = False) -> None:
         self.at, self.number, self.is_after, self.count = at, number, is_after, 0
-        self.patches = [
-            mock.patch.object(os, name, self.wrapped(getattr(os, name))) for name in FILE_CALLS
-        ]
+        calls = {name: self.wrapped(getattr(os, name)) for name in FILE_CALLS}
+        self.patches = [mock.patch.object(os, name, call) for name, call in calls.items()]
 
     def wrapped(self, true: Callable[..., Any]) -> Callable[..., Any]:
         def call(*words: object, **more: object) -> Any:
@@ -85,7 +81,7 @@ class Failing:
 
         return call
 
-    def __enter__(self) -> Failing:
+    def __enter__(self) -> "Failing":
         for patch in self.patches:
             patch.start()
         return self

@@ -5,7 +5,6 @@ from pathlib import Path
 
 
 def scripts(file: str) -> dict[str, str]:
-    """The bodies of its functions, by name."""
     text = (Path(__file__).parent / file).read_text()
     whole = r"^export (?:async )?function (\w+)\(.*?\) \{\n(.*?)^\}$"
     return dict(re.findall(whole, text, re.M | re.S))

@@ -29,8 +29,6 @@ SENT_AGAIN = ("repeated", "rate")
 
 
 class Example(NamedTuple):
-    """An example of an answer, and the fields of the request that it answers."""
-
     path: str
     fields: dict[str, Any]
     status: int
@@ -97,7 +95,6 @@ def examples_of(api: Api) -> Iterator[Example]:
 
 
 def wanted_of(example: Example) -> tuple[str, int | None, str | None]:
-    """The kind, code and name as which an answer is to be read."""
     value = example.value
     if example.status == 200:
         return "reply", None, None
@@ -135,7 +132,6 @@ def python_sends(desk: Desk, api: Api) -> None:
 
 
 def python_reads(desk: Desk, api: Api) -> None:
-    """Each example is read as what it is."""
     readers: dict[str, Callable[[str], object]] = {"inventory": sheets.sheet_in}
     readers |= {"ticket": answers.ticket_in, "batch": answers.batch_in, "value": answers.row_in}
     found = list(examples_of(api))
@@ -233,7 +229,6 @@ def renamed(api: Api, name: str, old: str, new: str) -> None:
 
 
 def with_key(api: Api, status: str, key: str) -> None:
-    """The first example of an answer to /redeem gets a key more."""
     responses = api["paths"]["/redeem"]["post"]["responses"]
     examples = responses[status]["content"]["application/json"]["examples"]
     next(iter(examples.values()))["value"][key] = 5

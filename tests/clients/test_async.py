@@ -53,7 +53,6 @@ async def ticking(most: float) -> AsyncIterator[None]:
 
 
 async def ended(call: Awaitable[object], kind: type[BaseException], within: float = 2) -> None:
-    """The call raises this kind, soon."""
     begun = time.monotonic()
     with pytest.raises(kind):
         await call
@@ -151,7 +150,6 @@ def test_a_counter_is_closed_within_a_time(desk: Desk, timeout: float) -> None:
 
 @in_a_loop
 async def test_a_cancelled_call_is_stopped(desk: Desk) -> None:
-    """wait_for ends at its time. The request is open, and the same call gets its one ticket."""
     async with ticking(0.5), counter_at(desk) as counter:
         await counter.ticket(1)
         desk.gate.faults = ["silent"]
@@ -189,7 +187,6 @@ async def test_a_waiting_call_is_cancelled(desk: Desk) -> None:
 
 
 def slow_resolver(*words: object, **named: object) -> object:
-    """A resolver that takes three seconds for each name."""
     if not named.get("flags"):
         time.sleep(3)
     raise socket.gaierror(socket.EAI_NONAME, "unknown")

@@ -27,7 +27,6 @@ EARLIER = {
 
 @variants(kept_all_the_same=script("store.delete(RECORD)", "store.get(RECORD)"))
 def test_kept(calc: Calculator, changes: Changes) -> None:
-    """Bonds and rates outlive a reload if the box is ticked, and leave the browser when it isn't."""
     with calc.serving(changes):
         assert calc.record() is None and calc.run("return localStorage.length") == 0
         for is_asked in (False, True):
@@ -128,7 +127,6 @@ def test_two_tabs(calc: Calculator, changes: Changes) -> None:
 
 
 def both_at_once(calc: Calculator, first: str, second: str) -> None:
-    """Each tab adds a bond and one removes one, while neither hears of the other."""
     wanted = ["C1EE", "C3EE", "C4EE", "C5EE"]
     for tab, serial in ((first, "C4EE"), (second, "C5EE")):
         calc.driver.switch_to.window(tab)
@@ -147,7 +145,6 @@ def both_at_once(calc: Calculator, first: str, second: str) -> None:
 
 
 def differing(calc: Calculator, first: str, second: str) -> None:
-    """Another tab keeps the same serial number with another denomination."""
     calc.driver.switch_to.window(first)
     found = calc.record() or {}
     more = f"{found['inventory']}C6EE,75,2010-05,7,\n"
@@ -205,7 +202,6 @@ STOP = "stop(TEXTS.keep_ended)"
 
 @variants(forgotten_version=script(f"base = {{ ...base, version: void 0 }};\n    {STOP}", STOP))
 def test_kept_again_in_two_tabs(calc: Calculator, changes: Changes) -> None:
-    """Two tabs keep; one ends the keeping, and the other ticks the box again."""
     url = calc.serve(changes)
     with calc.holds_not(changes):
         calc.adds("L1EE")

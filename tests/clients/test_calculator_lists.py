@@ -22,7 +22,6 @@ L4EE\t50\t05/2030
 
 @variants(rows_lost=script('bad.length === 0 ? "" : leftOver(', 'bad.length >= 0 ? "" : leftOver('))
 def test_rows_are_mended_in_place(calc: Calculator, changes: Changes) -> None:
-    """The good rows are added, the others are mended in place and added after them."""
     with calc.serving(changes):
         assert "2 bonds understood" in put(calc, LIST)
         assert "3 rows need mending. Row 3: The column denom has “60”" in calc.told()
@@ -62,7 +61,6 @@ def test_leftovers_are_read_as_before(calc: Calculator, text: str) -> None:
 
 
 def test_its_own_table_opens_without_a_fault(calc: Calculator) -> None:
-    """A table that the page saved is read as a list, and nothing is red."""
     calc.serve()
     put(calc, "L1EE 50 2010-05\nM3EE 1000 2010-11")
     add_pasted(calc)

@@ -253,7 +253,6 @@ def screen_reader(calc: Calculator, engine: Chromium) -> None:
 
 
 def few_colors(paths: Iterable[Path]) -> None:
-    """48 colors are enough for letters and lines."""
     from PIL import Image
 
     for path in paths:

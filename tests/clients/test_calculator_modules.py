@@ -46,7 +46,6 @@ def compared(module: Path, flags: list[str], published: Path, questions: Path) -
 
 @pytest.fixture(scope="module")
 def questions(tmp_path_factory: pytest.TempPathFactory) -> Path:
-    """Random questions with their rows by exact arithmetic."""
     dice = random.Random(os.environ.get("SEED", "questions"))
     asked = [exact.random_question(dice) for _ in range(20_000)]
     rows = [{"question": one, "row": exact.row(*one), "cents": exact.cents(*one)} for one in asked]
@@ -128,7 +127,6 @@ def test_package(tmp_path: Path) -> None:
 
 
 def answered(tasks: Iterable[object], bits: int = 32) -> list[Any]:
-    """What the page's own modules answer to each task (answers.mjs)."""
     path, flags = MODULES[bits]
     text = "".join(json.dumps(task) + "\n" for task in tasks)
     lines = node(*flags, PARTS / "answers.mjs", path, text=text).splitlines()

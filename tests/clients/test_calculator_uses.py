@@ -27,7 +27,6 @@ LISTED = "#told-list li"
 
 
 def type_bond(calc: Calculator, serial: str, denom: str, issued: str) -> None:
-    """Types a bond, from the field of the serial number on."""
     empty = "for (const name of ['serial', 'issued']) document.querySelector(`#${name}`).value = ''"
     calc.run(f"{empty}; document.querySelector('#serial').focus()")
     calc.keys(*serial)
@@ -73,7 +72,6 @@ PASTE = "document.querySelector('#paste-form').closest('details').open = true; d
 
 
 def put(calc: Calculator, text: str) -> str:
-    """Puts a text into the field as pasting does. Returns what the page tells."""
     calc.run(PASTE, text)
     return calc.told()
 
@@ -84,7 +82,6 @@ def add_pasted(calc: Calculator) -> str:
 
 
 def as_shown(bonds: str) -> list[list[str]]:
-    """What the page shows of bonds as they are written in PASTES."""
     found = [bond.split() for bond in bonds.split(", ")]
     days = [datetime.date.fromisoformat(f"{month}-01") for *_, month in found]
     return [[row[0], f"${int(row[1]):,}", f"{day:%B %Y}"] for row, day in zip(found, days)]
@@ -167,7 +164,6 @@ def test_remarks(calc: Calculator, changes: Changes) -> None:
 
 
 def remarked_as_typed(calc: Calculator, count: int) -> None:
-    """A typed bond has its remark as it is typed; its dialog has the remark too."""
     calc.choose_month("2026-11")
     for name, text in (("denom", "50"), ("issued", "Apr 2012"), ("serial", "c-12-ee")):
         calc.set_field(name, text)
@@ -246,7 +242,6 @@ def test_sorting(calc: Calculator, changes: Changes) -> None:
 
 
 def units() -> dict[tuple[str, str], int]:
-    """The published cents of a 25-dollar unit by issue month and month."""
     with open(PUBLISHED / "published-values.csv", newline="") as file:
         rows = list(csv.DictReader(file))
     return {(row["issued"], row["redeemed"]): int(row["unit_cents"]) for row in rows}
@@ -312,7 +307,6 @@ def test_interest_of_the_year(calc: Calculator, changes: Changes) -> None:
 
 
 def clock_of(time: str) -> Changes:
-    """A device whose clock says so."""
     real = f"const Real = Date; window.Date = class extends Real {{ constructor(...given) {{ super(...(given.length === 0 ? [{time!r}] : given)); }} }};"
     begin = "  var __create = Object.create;"
     return (script(begin, f"{real}\n{begin}"),)
@@ -400,7 +394,6 @@ def test_fences(calc: Calculator, changes: Changes) -> None:
 
 
 def test_speed(calc: Calculator, dice: random.Random) -> None:
-    """10,000 bonds are opened, and scrolled through by frames of less than 100 ms."""
     calc.serve()
     bonds = random_bonds(dice, 10_000, months=KNOWN)
     assert "10,000 bonds added" in calc.open_inventory(inventory_file(bonds))
@@ -412,7 +405,6 @@ FOCUSED = "const one = document.activeElement; const { outlineStyle, outlineWidt
 
 
 def all_reached(calc: Calculator) -> None:
-    """Tab reaches each control, and each has an outline."""
     wanted, reached = set(calc.run(SCRIPTS["controls"])), set()
     calc.run("document.querySelector('.skip').focus()")
     for _ in range(len(wanted) + 15):

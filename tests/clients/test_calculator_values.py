@@ -28,7 +28,6 @@ def same_sheets(calc: Calculator, listed: list[Sheet]) -> None:
     another_note=script('["", "NI", "NE", "P5", "MA"]', '["", "NI", "NE", "P6", "MA"]'),
 )
 def test_sheets(calc: Calculator, program: Path, changes: Changes) -> None:
-    """Random inventories beside the command `sheet`, by each module; some also as the page saves them."""
     dice = random.Random(7)
     listed = sheets(program, dice, 40)
     with calc.serving(changes):
@@ -73,7 +72,6 @@ def names(told: str, answer: str) -> bool:
 
 @variants(a_space_before_a_customer=script("/^[0-9]{1,9}$/", "/^ ?[0-9]{1,9}$/"))
 def test_refusals(calc: Calculator, program: Path, changes: Changes) -> None:
-    """Each file that is refused or read, as the page tells it."""
     with calc.serving(changes):
         for _, file, answer in answers(program, "rates", RATE_FILES) if not changes else ():
             calc.remove_all()

@@ -28,7 +28,6 @@ class Desk(threading.Thread):
         self.until, self.counted, self.busy = time.monotonic() + seconds, 0, 0
 
     def ask(self, method: str, path: str, value: object = None) -> int | None:
-        """Its status, again after each 429."""
         while time.monotonic() < self.until:
             status = self.nginx.ask(self.user, method, path, value).status
             if status != 429:

@@ -87,7 +87,6 @@ ONCE, TWICE = "Open the day", "Continue"
 
 
 def asks(page: Page, day: str, words: str, times: str) -> None:
-    """The page asks so about a day, once or twice; Back ends it."""
     assert words in page.ask_to_open(day), page.question()
     assert page.text("#confirm-yes") == times
     page.press("#confirm-no")

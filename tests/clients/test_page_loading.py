@@ -1,7 +1,5 @@
 """How fast the page is there at a latency of 300 ms, and what a load asks for: one script with the package, all modules at once without it, and little if the browser was there before."""
 
-from __future__ import annotations
-
 import os
 import re
 import shutil
@@ -28,7 +26,6 @@ LOADED = """
 
 
 def imported(folder: Path, name: str = "main.js") -> set[str]:
-    """A module, and all that it imports."""
     found, left = {name}, [name]
     while left:
         text = (folder / left.pop()).read_text()
@@ -51,7 +48,6 @@ def test_all_modules_are_preloaded() -> None:
 
 
 def packed(folder: Path) -> str:
-    """Does to a page what the package does; the name of its second path."""
     script = "import layout, pathlib, sys; page = pathlib.Path(sys.argv[1]); layout.join_page(page); layout.name_page(page)"
     words = [sys.executable, "-B", "-c", script, str(folder)]
     subprocess.run(words, cwd=TOP / "packaging", check=True)
@@ -105,7 +101,6 @@ class Trusting(Chromium):
         self.begin(profile, (1100, 820), service, trusting=False)
 
     def loads(self, page: Page, url: str) -> tuple[list[str], int]:
-        """Loads the page: the files that came for it, and their bytes."""
         page.open("about:blank")
         page.open(url)
         page.until(lambda: page.is_shown("#start form"), "the page is there")

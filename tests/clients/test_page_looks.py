@@ -1,7 +1,5 @@
 """How the page is seen and worked: rules of accessibility in each of its states, narrow windows, what is in sight and what is covered, words that are whole, and what a screen reader is given."""
 
-from __future__ import annotations
-
 import subprocess
 from pathlib import Path
 from typing import Sequence
@@ -39,7 +37,6 @@ NAMED = "button, a[href], input, dialog[open], [role=region], table, nav, progre
 
 
 def unnamed(page: Page) -> list[str]:
-    """What a screen reader is given without a name, by the browser's own computing."""
     elements = [element for element in page.run(REACHED, NAMED) if element.is_displayed()]
     return [one.get_attribute("outerHTML")[:120] for one in elements if one.accessible_name == ""]
 
@@ -55,8 +52,6 @@ WINDOWS = {
 
 
 class Looks:
-    """Looks at the page in one state after another."""
-
     def __init__(self, page: Page, pictures: Path | None) -> None:
         self.page, self.pictures = page, pictures
 
@@ -73,7 +68,6 @@ class Looks:
 
 
 def test_rules(bank: Bank, new_page: NewPage, pictures: Path | None) -> None:
-    """In the states before a payment."""
     bank.begin([7, 9])
     page = new_page(None)
     looks = Looks(page, pictures)
@@ -129,7 +123,6 @@ def test_rules(bank: Bank, new_page: NewPage, pictures: Path | None) -> None:
 def test_rules_of_payments(
     bank: Bank, page: Page, new_page: NewPage, pictures: Path | None
 ) -> None:
-    """In a payment's states and after it."""
     looks = Looks(page, pictures)
     page.chooses(7, "L7EE", "M7EE")
     page.press("#pay-button")
@@ -346,17 +339,15 @@ def test_widest_texts(bank: Bank, page: Page) -> None:
             page.press("#all-columns")
     page.resize(683, 384)
     equal = "auto repeat(4, 6rem)"
-    page.run(
-        f"document.querySelectorAll('.sheet tbody tr').forEach((row) => {{ row.style.gridTemplateColumns = '{equal}'; }})"
-    )
+    columns = f"(row) => {{ row.style.gridTemplateColumns = '{equal}'; }}"
+    page.run(f"document.querySelectorAll('.sheet tbody tr').forEach({columns})")
     assert meeting_cells(page) != [], "control: with narrower columns"
     page.resize(1440, 900)
     page.press("#choose-all")
     page.ask_to_pay()
     assert lines_of_a_bond(page) == 1
-    page.run(
-        "document.querySelector('#confirm .bonds li:first-child').style.gridTemplateColumns = '8.5rem 4.5rem 3rem auto'"
-    )
+    first, columns = "'#confirm .bonds li:first-child'", "'8.5rem 4.5rem 3rem auto'"
+    page.run(f"document.querySelector({first}).style.gridTemplateColumns = {columns}")
     assert lines_of_a_bond(page) > 1, "control: if the month has less room"
 
 
@@ -389,9 +380,8 @@ def test_room_for_bonds(bank: Bank, page: Page) -> None:
         bar = page.run("return document.querySelector('#pay-bonds').offsetHeight")
         assert bar < 70 or size[0] < 640, (size, bar)
     page.resize(1366, 768)
-    assert page.text("#facts").startswith(
-        f"Customer {OWNER} · February 2012 · 60 of 60 can be paid: $"
-    )
+    facts = f"Customer {OWNER} · February 2012 · 60 of 60 can be paid: $"
+    assert page.text("#facts").startswith(facts)
     headings = "return [...document.querySelectorAll('#sheet thead th')].filter((one) => one.checkVisibility()).length"
     assert page.run(headings) == 6
     page.press("#all-columns")
@@ -529,13 +519,14 @@ def test_notices_whole(bank: Bank, page: Page, pictures: Path | None) -> None:
 # ---- fields and dates
 
 
+KINDS = "return ['open-date', 'join-date', 'batch-day', 'month'].map((id) => document.getElementById(id)).map((e) => [e.type, e.getAttribute('type')])"
+
+
 def test_fields(bank: Bank, new_page: NewPage) -> None:
     """Native days and months; errors that stay until the field is right, and are tied to it."""
     bank.begin([7], day=None)
     page = new_page()
-    kinds = page.run(
-        "return ['open-date', 'join-date', 'batch-day', 'month'].map((id) => document.getElementById(id)).map((e) => [e.type, e.getAttribute('type')])"
-    )
+    kinds = page.run(KINDS)
     assert [kind for kind, _ in kinds[:3]] == ["date"] * 3 and kinds[3][1] == "month"
     label = str(page.find("label[for=month]").get_attribute("textContent"))
     assert kinds[3][0] == "month" or "YYYY-MM" in label, "without a native field"

@@ -22,7 +22,6 @@ MODULES = ["words", "answers", "sheet", "spelling", "doubts", "papers"]
 
 
 def in_node(script: str, *given: object) -> Any:
-    """What a script returns, which has all that the modules export as `page`, and `given`."""
     text = json.dumps([str(PAGE), MODULES, script, given])
     words = ["node", "--no-warnings", str(Path(__file__).parent / "page_modules.mjs"), text]
     ran = subprocess.run(words, capture_output=True, text=True, timeout=60)

@@ -46,13 +46,11 @@ def flat(text: str) -> str:
 
 
 def lines_of(text: str) -> list[list[str]]:
-    """The bonds of a printed sheet: of each its texts."""
     lines = text.splitlines()
     return [line.split()[1:] for line in lines if re.match(r" *\d+ +[A-Z]\d+EE ", line)]
 
 
 def has_heads(found: list[str], title: str) -> None:
-    """Each sheet has number, day and payee, and says which of all it is."""
     for place, text in enumerate(found, 1):
         assert title in text and f"Page {place} of {len(found)}" in text
 
@@ -166,13 +164,13 @@ def test_receipt(bank: Bank, page: Page, pictures: Path | None) -> None:
         (text,) = sheets(page, paper, pictures, f"receipt_{paper}")
         assert sorted(lines_of(text)) == wanted
         assert sums in [line.split() for line in text.splitlines()]
-        facts = (
+        facts = [
             SERIES,
             "Ticket 1",
             "Business day February 6, 2012",
             "Paid to customer 60",
             "Desk 5",
-        )
+        ]
         assert all(fact in flat(text) for fact in (*facts, f"Teller {USER}"))
         zone = r"Server's time [A-Z][a-z]+ \d{1,2}, 20\d\d, \d{1,2}:\d\d [AP]M [A-Z]{3}"
         assert re.search(zone, flat(text)) and "1970" not in text
@@ -283,7 +281,6 @@ def interest_of(page: Page, payee: int, first: str, last: str) -> str:
 
 
 def pays_two_days(bank: Bank, page: Page) -> None:
-    """Tickets of this desk and of another one, on two days."""
     page.pays(1, 7, "K7EE", "L7EE")
     bank.pays(9, "K9EE")
     page.pays(3, 11, "K11EE", payee=8)

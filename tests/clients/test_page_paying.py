@@ -29,13 +29,11 @@ COUNTS = (1, 3, 12, 60)
 
 
 def windows() -> list[tuple[int, int]]:
-    """Each size in pixels of the page once."""
     zoomed = {(round(x / zoom), round(y / zoom)) for x, y in WINDOWS for zoom in ZOOMS}
     return sorted({(x, y) for x, y in zoomed if x >= 300 and y >= 250} | set(LOW))
 
 
 def has_lists(bank: Bank) -> None:
-    """Owners of one bond and of many."""
     bank.begin([])
     for count in COUNTS:
         serials = [f"L{1000 * count + place}EE" for place in range(count)]

@@ -1,7 +1,5 @@
 """Scans: none is lost and none presses a button, wherever the keyboard is. Each failed scan is named and heard. A bond takes few keys besides the scanner's own."""
 
-from __future__ import annotations
-
 import threading
 import time
 
@@ -22,7 +20,6 @@ FOCUS = "document.querySelector(arguments[0]).focus()"
 
 
 def scan_in_question(page: Page, button: str, serial: str) -> None:
-    """With the keyboard on a button of the question that is open."""
     page.rested("#confirm-yes")
     page.run(FOCUS, button)
     page.scan(serial)
@@ -181,7 +178,6 @@ PLACES = ("#in-hand", "#payee", "#sheet input", "#all-columns", "")
 
 
 def scan_into(page: Page, place: str, serials: list[str]) -> None:
-    """All at once, as fast as the browser takes keys."""
     page.run(FOCUS if place else "document.activeElement.blur()", place)
     page.keys("".join(serial + Keys.ENTER for serial in serials))
 

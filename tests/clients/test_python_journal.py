@@ -82,7 +82,6 @@ def test_forked(desk: Desk) -> None:
 
 
 def test_closed(desk: Desk) -> None:
-    """Closing twice does nothing; after closing each call says so."""
     counter = desk.counter(archive=desk.archive)
     calls = {"redeem": (DAY, 7, ["L1EE"]), "open_day": (DAY,), "close_day": (DAY,), "finish": ()}
     calls |= {"add_bonds": ([client.Bond("L4EE", 50, "2010-11", 7)],), "abandon": ("no reason",)}
@@ -292,7 +291,6 @@ def test_pool(desk: Desk, part: Part) -> None:
 
 
 def test_one_key_at_once(desk: Desk) -> None:
-    """Four workers with one key: one request."""
     desk.gate.faults = ["lost answer"]
     with client.Pool(desk.place, desk.gate.address, desks=[10, 11], patience=20) as pool:
         with ThreadPoolExecutor(4) as workers:
@@ -346,7 +344,6 @@ class Interrupted:
             assert known == (other.open_request, other.last, other.bookmark)
 
     def again(self, serial: str, other: str | None = None) -> None:
-        """The call that was interrupted, made again, perhaps after another one."""
         self.as_on_disk()
         if other is not None:
             self.redeem(other)

@@ -23,13 +23,11 @@ BUILDING = pytest.mark.needs("module:build", "module:hatchling")
 
 
 def blocks(kind: str) -> list[str]:
-    """The blocks of a kind in the document, in order."""
     found = re.findall(r"^```(\w*)\n(.*?)^```$", DOCUMENT, re.M | re.S)
     return [block for name, block in found if name == kind]
 
 
 def built(folder: Path, source: Path = SOURCE) -> dict[str, bytes]:
-    """The bytes of the sdist and of the wheel, by name."""
     env = {**PLAIN, "SOURCE_DATE_EPOCH": "1700000000", "PIP_NO_INDEX": "1"}
     status, out, told = ran(source / "build", folder, env=env)
     assert status == 0, out + told

@@ -155,7 +155,6 @@ with client.Counter(sys.argv[1], sys.argv[2], desk=3) as desk:
 
 
 def run_job(desk: Desk, guard: str, seed: int) -> str:
-    """The last line of a run of the job, which has an order of its own for sets."""
     words = (sys.executable, "-c", JOB, desk.journal, desk.fake.address, guard)
     _, out, told = ran(*words, env={**OWN, "PYTHONHASHSEED": str(seed)})
     return (out + told).splitlines()[-1]
@@ -170,7 +169,6 @@ def test_a_keyed_job_over_a_set(desk: Desk) -> None:
 
 
 def test_spellings(desk: Desk) -> None:
-    """What is read in more than one way."""
     desk.fake.answered("POST", "/day/close", b'{"number":2,"day":"2012-02-06"}')
     with client.Counter(str(desk.journal), desk.gate.address + "/", desk="3") as counter:  # type: ignore[arg-type]
         rates = client.Rates(client.Month(2010, 5), decimal.Decimal("3.5"), decimal.Decimal("4"))
@@ -328,7 +326,6 @@ REQUEST = client.Request(3, 17, "/redeem", PAYMENT, 2, "invoice-1", {"row": 4})
 
 
 def one_of(kind: type[client.CounterError]) -> client.CounterError:
-    """An error of a class, as the package makes it."""
     if issubclass(kind, client.Refused):
         code = next((code for code, found in errors.REFUSALS.items() if found is kind), 99)
         named = {key: "L1EE" if form is str else 5 for key, form in kind.keys}
@@ -430,7 +427,6 @@ def response_of(status: int, text: str) -> bytes:
 
 @st.composite
 def responses(draw: st.DrawFn) -> bytes:
-    """A text of the counter, with some of its parts replaced."""
     text = draw(st.sampled_from(TEXTS))
     for _ in range(draw(st.integers(1, 3))):
         begin = draw(st.integers(0, len(text)))

@@ -26,7 +26,6 @@ pytestmark = pytest.mark.needs("node")
 
 
 def in_node(reader: str, rows: object = ROWS, clients: Path = TOP / "clients") -> list[object]:
-    """What a reader of typed.mjs makes of rows, over the modules of a folder of clients."""
     given = json.dumps([str(clients), reader, rows])
     words = ["node", "--no-warnings", str(Path(__file__).parent / "typed.mjs"), given]
     done = subprocess.run(words, capture_output=True, text=True, timeout=60)

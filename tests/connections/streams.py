@@ -1,7 +1,4 @@
-"""Random days at the counter as strategies of hypothesis, and harm to their fields, heads and
-bytes.
-
-What they draw knows nothing of what is right: framing.py, decoding.py and desk.py say that."""
+"""Random days as strategies of hypothesis, and harm to their fields, heads and bytes."""
 
 import json
 from typing import Any, Callable
@@ -48,7 +45,6 @@ asked = st.one_of(
 
 
 def harmed(draw: Draw, value: Any) -> Any:
-    """The value with a field of it, or of a row, changed, taken out or added."""
     if not isinstance(value, dict) or not value:
         return draw(pick(WRONG))
     key = draw(pick(sorted(value)))
@@ -73,7 +69,6 @@ def text_of(draw: Draw, value: Any) -> str:
 
 
 def message(draw: Draw, method: str, target: str, body: bytes) -> bytes:
-    """A message whose head is mostly right."""
     end: bytes = draw(seldom(st.just(b"\r\n"), st.just(b"\n")))
     length = [f"Content-Length: {len(body)}"] if body or draw(st.booleans()) else []
     wrong = st.builds("Content-Length: {}".format, pick(LENGTHS) | st.integers(0, 90).map(str))
@@ -89,7 +84,6 @@ def message(draw: Draw, method: str, target: str, body: bytes) -> bytes:
 
 
 def one_message(draw: Draw, books: Books) -> bytes:
-    """A message that is often right."""
     if draw(pick([True, False, False])):
         method = draw(seldom(st.just("GET"), pick(["POST", "HEAD", "get", "G T"]), 20))
         return message(draw, method, draw(asked), draw(seldom(st.just(b""), st.just(b"["))))

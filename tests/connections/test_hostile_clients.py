@@ -1,13 +1,9 @@
-"""Clients that do harm to `serve`, over a store in which a day is open, and customer 7 has three
-bonds; and connections, one after another, that leave its memory as it was.
-
-CONNECTIONS names how many."""
+"""Clients that do harm to `serve`, and CONNECTIONS connections that leave its memory as it was."""
 
 import contextlib
 import os
 import re
 import select
-import shutil
 import socket
 import subprocess
 import time
@@ -17,7 +13,7 @@ from typing import Any, Callable, Iterator
 import pytest
 
 from tests.shared.counter_calls import BONDS, RATES, answered, apply, end, free_port, get, matched
-from tests.shared.counter_calls import piped, post, redeem, rows, serve
+from tests.shared.counter_calls import piped, post, redeem, serve
 
 #: The seconds after which `serve` lets a client go.
 PATIENCE = 30
@@ -31,8 +27,6 @@ TICKET, REDEEM = get("/ticket/1", b""), redeem(0, 4, DAY, 7, "L1EE")
 
 
 class Server:
-    """`serve` over the store on a port of its own, for that many connections."""
-
     def __init__(self, program: Path, store: Path, connections: int) -> None:
         self.port, words = free_port(), ("--connections", str(connections))
         self.process = serve(program, store, self.port, *words, stdout=subprocess.PIPE)
@@ -44,7 +38,6 @@ class Server:
         return client
 
     def ask(self, stream: bytes) -> bytes:
-        """All that is answered to a stream after which nothing is sent."""
         text = b""
         with self.connect() as client:
             client.sendall(stream)
@@ -142,15 +135,6 @@ def test_long_body(server: MakeServer, size: int) -> None:
     text = server(1).ask(head + b"a" * size)
     assert text.startswith(b"HTTP/1.1 413 ")
     assert text.endswith(b'{"code":62,"fault":"BodyTooLong"}'), text[-200:]
-
-
-def test_one_file(program: Path, store: Path) -> None:
-    """A store at rest, copied as one file, has the ticket, and SQLite finds it whole."""
-    (paid,) = apply(program, store, [REDEEM])
-    copy = Path(shutil.copy(store, store.with_name("copied.db")))
-    assert apply(program, copy, [TICKET]) == [paid] and '"total":"25.88"' in paid[1]
-    assert rows(copy, "PRAGMA integrity_check") == [("ok",)]
-    assert rows(copy, "SELECT total FROM tickets") == [(2588,)]
 
 
 CONNECTIONS, MOST = int(os.environ.get("CONNECTIONS", "5000")), 1024

@@ -1,8 +1,4 @@
-"""Random streams get the bytes that the rules give, apart from the program.
-
-framing.py splits a stream, decoding.py says what a message asks for, desk.py what the desk
-answers, with the values of exact.py. A failure prints its smallest streams. STREAMS names how
-many are tried."""
+"""Random streams get the bytes that the rules give. STREAMS names how many are tried."""
 
 import os
 from typing import Any, Iterator

@@ -15,9 +15,10 @@ import tempfile
 import time
 from dataclasses import dataclass
 from pathlib import Path
+from typing import Any
 
 from tests.conftest import TOP, is_listening, until
-from tests.shared.counter_calls import piped, run
+from tests.shared.counter_calls import PIPE, piped, run
 
 LEFT_OUT_OF_COPIES = shutil.ignore_patterns(".git", "crates", "ee_cli", "__pycache__", ".*_cache")
 SECONDS, COLUMNS = 600, 100
@@ -49,7 +50,6 @@ class Block:
         return any(line.startswith(mark) for line in self.lines)
 
     def commands(self) -> list[tuple[int, str, list[str]]]:
-        """The commands, each with its line and the lines that it prints."""
         found: list[tuple[int, list[str], list[str]]] = []
         for number, line in enumerate(self.lines, self.line + 1):
             if line.startswith("$ "):
@@ -119,10 +119,8 @@ class Shell:
         words = ["bash", "--noprofile", "--norc"]
         if has_networks():
             words = ["unshare", "--net", "sh", "-c", 'ip link set lo up && exec "$@"', "sh", *words]
-        pipe, both = subprocess.PIPE, subprocess.STDOUT
-        self.process = subprocess.Popen(
-            words, cwd=folder, stdin=pipe, stdout=pipe, stderr=both, start_new_session=True
-        )
+        pipes: dict[str, Any] = {"stdin": PIPE, "stdout": PIPE, "stderr": subprocess.STDOUT}
+        self.process = subprocess.Popen(words, cwd=folder, start_new_session=True, **pipes)
         self.stdin, self.stdout = piped(self.process.stdin), piped(self.process.stdout)
 
     def run(self, command: str) -> str:
@@ -149,7 +147,6 @@ class Shell:
         return text.replace(f"\n{MARK}\n".encode(), b"\n").decode(errors="replace")
 
     def close(self) -> None:
-        """Ends it, with all that it has left running."""
         with contextlib.suppress(ProcessLookupError):
             os.killpg(self.process.pid, signal.SIGKILL)
         self.process.communicate()
@@ -182,7 +179,6 @@ def run_shell(shell: Shell, block: Block) -> int:
 
 
 def run_python(folder: Path, block: Block) -> None:
-    """A session of Python, by Python's own module for it."""
     (folder / "session.txt").write_text("\n".join(block.lines) + "\n")
     words = "-m doctest -o NORMALIZE_WHITESPACE -o ELLIPSIS session.txt".split()
     places = {"EE_VALUE_LIBRARY": str(LIBRARY), "PYTHONPATH": str(TOP / "clients/value")}

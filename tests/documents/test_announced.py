@@ -70,7 +70,6 @@ with open(TOP / "samples/audit/announced-rates.csv", encoding="utf-8") as announ
 
 
 def announced_for(month: str) -> str | None:
-    """The rate of the period in which a bond was issued."""
     return ANNOUNCED.get(max((start for start in ANNOUNCED if start <= month), default=""))
 
 

@@ -34,15 +34,12 @@ def resolved(value: Any) -> Any:
 
 
 def check(schema: Any, value: Any, what: str) -> None:
-    """The value is one of the schema, whose references are those of the description."""
     both = {"allOf": [schema], "components": COMPONENTS}
     faults = [fault.message for fault in jsonschema.Draft202012Validator(both).iter_errors(value)]
     assert not faults, f"{what} is none of its schema: {faults}"
 
 
 class Step:
-    """An example of an answer, with what is sent for it."""
-
     def __init__(self, name: str, status: str, media: str, headers: Any, example: Any, sent: Any):
         self.name, self.status, self.media, self.headers = name, str(status), media, headers
         self.example, self.sent = example, sent
@@ -55,7 +52,6 @@ class Step:
 
 
 def request_of(path: str, method: str, operation: Any, name: str) -> Any:
-    """What the example of this name of the body or of the parameters sends."""
     if "requestBody" in operation:
         content = operation["requestBody"]["content"]["application/json"]
         value = content["examples"][name]["value"]
@@ -133,7 +129,6 @@ def test_other_value_is_none_of_the_schema() -> None:
 
 
 def ask(port: int, stream: bytes) -> bytes:
-    """All that a server answers to a stream after which nothing is sent."""
     with connected(port, SECONDS) as client:
         client.sendall(stream)
         client.shutdown(socket.SHUT_WR)

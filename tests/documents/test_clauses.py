@@ -1,5 +1,4 @@
-"""`.ci/clauses` finds every clause, definition and constant that changed, and nothing else: the changes
-and what is said of them are in clauses.toml. Status 1 is a contract that may be weaker."""
+"""`.ci/clauses` finds every change of clauses.toml; status 1 is a contract that may be weaker."""
 
 import shutil
 import subprocess

@@ -1,5 +1,4 @@
-"""The commands of the documents print what is written, and links, headings and named files are
-there."""
+"""The commands of the documents print what is written; links, headings and files are there."""
 
 import re
 import subprocess

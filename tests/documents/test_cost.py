@@ -1,5 +1,4 @@
-"""`.ci/cost` gives every part of the gate and every crate its own processor time, and puts the tables
-between the marks of a page. A stub of rt starts processes, each of which takes a known time."""
+"""`.ci/cost` gives every part of the gate and every crate its own processor time."""
 
 import re
 import sys

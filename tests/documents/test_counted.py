@@ -1,6 +1,4 @@
-"""Numbers, versions and tables of the documents are those that can be counted.
-
-With WRITE=1 the table of alerts of docs/WATCHING.md is written anew first."""
+"""Numbers, versions and tables of the documents. WRITE=1 writes WATCHING's table of alerts anew."""
 
 import os
 import re
@@ -46,7 +44,6 @@ THERE: dict[str, Callable[[], str]] = {
 
 
 def functions(of: str) -> str:
-    """How many functions of C the page on premises names behind `of`."""
     listed = rf"(?s)^- (?:\d+) of the \d+ that `{of}` declares: (.*?)\.$"
     return str(len(only("docs/ASSUMPTIONS.md", listed).split()))
 

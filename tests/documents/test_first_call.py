@@ -89,7 +89,6 @@ class Case:
         (self.top / "held").unlink()
 
     def processes(self) -> list[str]:
-        """The processes that work in the case's folder."""
         found = []
         for place in Path("/proc").glob("[0-9]*/cwd"):
             with contextlib.suppress(OSError):
@@ -97,7 +96,6 @@ class Case:
         return found
 
     def calls(self) -> list[str]:
-        """How the toolchain was called since the last question."""
         path = self.top / "calls"
         found = path.read_text().splitlines() if path.exists() else []
         path.unlink(missing_ok=True)

@@ -1,5 +1,4 @@
-"""What the gate's .ci/run stops on, and what it counts and names, over a small repository with the gate of
-this one, a few tests, and a toolchain that is played."""
+"""What the gate's .ci/run stops on, counts and names, over a small repository and a played rt."""
 
 import shutil
 import subprocess

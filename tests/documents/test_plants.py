@@ -1,6 +1,4 @@
-"""`.ci/plant` says what refuses a wrong body: the contract, or only a kept answer (plants.toml).
-
-It proves a crate of five functions that it writes, a dozen times."""
+"""`.ci/plant` says what refuses a wrong body: the contract, or only a kept answer."""
 
 import shutil
 import tomllib

@@ -1,5 +1,4 @@
-"""Each point of `.ci/points.toml` has a test and a row that exist, and a wrong body that does if it
-names one; or a reason why no call shows it."""
+"""Each point of `.ci/points.toml` has a test and a row that exist, or a reason for none."""
 
 import re
 import tomllib

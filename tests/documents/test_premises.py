@@ -48,7 +48,6 @@ def premises(texts: dict[str, str]) -> tuple[set[str], set[str]]:
 
 
 def listed() -> set[str]:
-    """The names in the first two columns of the table."""
     section = (TOP / "docs/HEADLINE.md").read_text().split("\n## Its premises\n")[1]
     rows = [row.split(" | ")[:2] for row in section.split("\n## ")[0].split("\n") if row[:1] == "|"]
     return {name for row in rows for cell in row for name in re.findall(r"`([^`]+)`", cell)}

@@ -77,7 +77,6 @@ def test_span(span: dict[str, Any]) -> None:
 
 
 def unknown_places(known: set[str]) -> list[str]:
-    """Files that name many refusals, and are no place of the table."""
     found = []
     for name in files():
         if "/proofs/" not in name and "/must-fail/" not in name and name not in known | REST:

@@ -48,7 +48,6 @@ class Owner:
         return done("git", "-C", self.tree, "tag").split()
 
     def is_verified(self, name: str) -> bool:
-        """Whether the verifier takes the release, as a bank runs it."""
         place = self.folder / name
         words = ("--fingerprint", fingerprint(self.home), "--checkout", self.tree)
         return self.run(place / "ladwenpik-verify", place, *words)[0] == 0

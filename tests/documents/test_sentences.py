@@ -32,7 +32,6 @@ def paragraphs(text: str) -> list[str]:
 
 
 def lengths(text: str) -> list[int]:
-    """The words of every sentence. A piece of code is one word, and a link is its text."""
     counts = []
     for part in paragraphs(text):
         part = re.sub(r"!?\[([^\]]*)\]\([^)]*\)", r"\1", re.sub(r"`[^`]*`", "CODE", part))

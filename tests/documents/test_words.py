@@ -1,6 +1,4 @@
-"""Turns of phrase that a native wouldn't write grow no more, in prose and in comments: words.toml.
-
-With WRITE=1 the counts that fell are written into it."""
+"""Odd turns of phrase grow no more (words.toml). WRITE=1 writes the counts that fell into it."""
 
 import os
 import re

@@ -1,5 +1,4 @@
-"""The scenes over which calls fail: stores in every state that a file can be in, and the
-commands that meet them."""
+"""The scenes over which calls fail: stores in every state, and the commands that meet them."""
 
 import pytest
 

@@ -1,7 +1,4 @@
-"""Logs of stores: which of them docs/FORMATS.md calls damaged, by the rule written again; logs made by
-hand; and what a disk does to one."""
-
-from __future__ import annotations
+"""Which logs docs/FORMATS.md calls damaged, logs by hand, and what a disk does to one."""
 
 import functools
 import random
@@ -69,7 +66,6 @@ class Log:
         return self.content[self.at(frame) + 24 : self.at(frame + 1)]
 
     def passes(self, frame: int) -> bool:
-        """Whether SQLite takes a frame, behind the frame before it."""
         return self.is_ours(frame) and self.page_number(frame) != 0 and self.is_right(frame)
 
     def is_right(self, frame: int) -> bool:
@@ -86,11 +82,9 @@ class Log:
         return [frame for frame in range(len(self.taken)) if self.size(frame)]
 
     def end(self) -> int:
-        """Where the frames end that recovery takes."""
         return self.at(len(self.taken))
 
     def behind(self) -> range:
-        """The frames behind those that recovery takes."""
         return range(len(self.taken), (len(self.content) - 32) // (24 + self.page_size))
 
     def has_two_more(self) -> bool:
@@ -106,8 +100,6 @@ class Log:
         return [frame for frame in later if self.is_right(frame)]
 
     def has_late_count(self, in_file: int) -> bool:
-        """Whether a count of this log is there; or, if no frame is taken and the first isn't
-        written, one of any log behind more pages than the file has."""
         is_doubted = not self.taken and self.content[32:56] == bytes(24)
         return any(
             self.is_ours(count) or (is_doubted and self.size(count - 1) > in_file)
@@ -142,7 +134,7 @@ class Transaction:
     pages: list[tuple[int, bytes]]
     size: int
 
-    def counted(self) -> Transaction:
+    def counted(self) -> "Transaction":
         """The same behind a frame that counts what it lacks."""
         zeros = sum(page.count(0) + COUNT_PAGE - at for at, page in self.pages)
         blank = bytes(len(self.pages[0][1]) - 8)

@@ -2,8 +2,6 @@
 requests that were answered, or one more, each of which keeps its one reply. Images lose, keep or tear
 unsynced steps (tests/shared/hostile/disk.py); all lost or kept are tried always, IMAGES others by chance."""
 
-from __future__ import annotations
-
 import os
 import random
 from itertools import accumulate
@@ -40,7 +38,7 @@ class Run:
         self.chains = [list(accumulate(messages, after, initial=books)) for books in starts]
         self.steps: list[disk.Step] = []
 
-    def record(self, plant: str = "") -> Run:
+    def record(self, plant: str = "") -> "Run":
         path = self.program.place(f"recorded{os.getpid()}")
         lay(path, self.base)
         record = path + ".record"
@@ -66,7 +64,6 @@ class Run:
             yield at, device, answers_in(said)
 
     def images(self, dice: random.Random, most: int) -> Iterator[tuple[disk.Image, int]]:
-        """Images, and how many answers were said: those always tried, and others by chance."""
         more: list[tuple[disk.Image, int]] = []
         for _, device, answered in self.points():
             sure, others = device.images(dice)
@@ -116,7 +113,6 @@ def try_image(run: Run, image: disk.Image, answered: int, by_clashes: bool) -> N
 
 
 def try_images(run: Run, dice: random.Random, most: int) -> int:
-    """How many different images were right."""
     tried = set()
     for image, answered in run.images(dice, most):
         if (image, answered) not in tried:

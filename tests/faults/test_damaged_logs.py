@@ -31,7 +31,6 @@ def contents(store: Path) -> tuple[bytes, bytes]:
 
 
 def answers_in(store: Path, how: str = "?mode=ro&immutable=1") -> set[int]:
-    """The kept answers of a store at rest, whose log stays as it is."""
     with closing(sqlite3.connect(f"file:{store}{how}", uri=True)) as books:
         return {number for (number,) in books.execute("SELECT number FROM answers")}
 
@@ -74,8 +73,6 @@ def place(program: Path) -> Iterator[Place]:
 
 
 class Killed:
-    """A killed server's files, its log at an earlier moment, and what it kept once opened."""
-
     def __init__(self, place: Place, store: Path, redemptions: int, earlier: int) -> None:
         serials = [f"A{n}EE" for n in range(1, redemptions + 1)]
         bonds = [{"denom": 50, "issued": "2010-11", "owner": 7, "serial": one} for one in serials]

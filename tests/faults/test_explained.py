@@ -1,5 +1,4 @@
-"""What the program says after a wrong use, by the texts of explained.toml and uses.py: its first line alone,
-and with --explain a second one that says where, why, and what to do; status and output stay the same."""
+"""What the program says after a wrong use (explained.toml, uses.py), with --explain and without."""
 
 import os
 import pty
@@ -34,7 +33,6 @@ PLACES = {
 
 
 def word_in(line: str, name: str) -> object:
-    """The word of an argument in a line."""
     words = words_of(line)
     at = words.index("--desk") if name == "desk" else PLACES[str(words[0])].index(name)
     return words[at + 1]
@@ -89,8 +87,6 @@ def files() -> Iterator[Use]:
 
 
 def store_and(file: str, content: str) -> Make:
-    """A store with a rate and a bond, under numbers 1 and 2, and this file."""
-
     def make(it: Counter) -> None:
         it.store()
         it.put(file, content.encode())
@@ -154,9 +150,7 @@ def tried(use: Use, counter: Counter) -> None:
             said = alone.said.splitlines()
             assert said[0] == use.first and use.second in [text.strip() for text in said[1:]], line
         else:
-            first, second = (
-                "" if said is None else said + "\n" for said in (use.first, use.second)
-            )
+            first, second = (f"{said}\n" if said else "" for said in (use.first, use.second))
             assert alone.said == first, line
             assert explained.said == first + second, line
         assert alone.status == use.status, line

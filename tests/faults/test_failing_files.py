@@ -23,7 +23,6 @@ MANY, FEWER = ("read", "write", "stat", "tell"), ("read", "write", "hear", "tell
 
 
 def ways(kind: str, is_served: bool) -> Iterator[tuple[str, int]]:
-    """How a call fails, and how often: 1 is once, 0 from then on."""
     for number in FAILS[kind]:
         yield from ((f"e {number}", 1), (f"e {number}", 0))
     if not is_served:
@@ -34,7 +33,6 @@ def ways(kind: str, is_served: bool) -> Iterator[tuple[str, int]]:
 def one_run(
     program: Program, scene: Scene, path: str, fault: str, plant: str, ample: bytes
 ) -> bool:
-    """A run under a fault: whether it met one."""
     put(scene, path)
     ran = scene.command.run(program, path, fault=fault, plant=plant)
     if ran.met == 0:

@@ -1,5 +1,4 @@
-"""`serve` is killed at moments by chance while requests come, new ones among all of those before, and
-started again: every reply stands. ROUNDS names how many kills come while it works."""
+"""`serve` is killed ROUNDS times while requests come, and started again: every reply stands."""
 
 import itertools
 import os

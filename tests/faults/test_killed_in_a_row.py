@@ -1,6 +1,4 @@
-"""Seven commands in a row, each killed at every call on the files of a store and run again, over no file, a
-store of version 1, and the files of a killed server: what is printed, and at last every row, is that of
-a row without kills."""
+"""Seven commands, each killed at every call on the store's files, print what they do unkilled."""
 
 import contextlib
 import shutil
@@ -59,7 +57,6 @@ def begin(program: Path, folder: Path, beginning: str) -> None:
 
 
 def sent(process: subprocess.Popen[bytes], port: int, message: bytes) -> bytes:
-    """What `serve` answers to a message, once it says that it listens, as far as it comes."""
     answer = b""
     with contextlib.suppress(OSError):
         if piped(process.stderr).readline():
@@ -121,7 +118,6 @@ class Bench:
 
 
 def content(folder: Path) -> list[object]:
-    """What SQLite says of the file, and every row of the store."""
     store = folder / "day.db"
     tables = rows(store, "SELECT name FROM sqlite_schema WHERE type = 'table' ORDER BY name")
     whole = rows(store, "PRAGMA integrity_check")

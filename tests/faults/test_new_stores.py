@@ -1,5 +1,4 @@
-"""New stores are SQLite's, earlier ones keep their pages, and files that are no stores are refused. On a full
-disk a command is done, or refused and leaves what opens on a disk with room."""
+"""New stores are SQLite's, earlier ones keep their pages, other files are refused."""
 
 import shutil
 import subprocess
@@ -52,7 +51,6 @@ class Counter:
 
 
 def shown(store: Path) -> list[int]:
-    """The page size and the version, of a file that SQLite finds whole."""
     assert rows(store, "PRAGMA integrity_check") == [("ok",)]
     return [rows(store, text)[0][0] for text in ("PRAGMA page_size", "SELECT version FROM desk")]
 
@@ -147,7 +145,6 @@ def disk(folder: Path, kib: int) -> Iterator[Path]:
 
 
 def freed(store: Path) -> Path:
-    """A copy of what a command left, on a disk with room."""
     for end in ("", "-wal"):
         shutil.copy(f"{store}{end}", store.parent.with_name(f"freed.db{end}"))
     return store.parent.with_name("freed.db")
@@ -164,33 +161,4 @@ def test_new_store_on_a_full_disk(counter: Counter, folder: Path) -> None:
             if ran[0] == 3:
                 copy = freed(small / "new.db")
                 assert counter.export(copy) == (0, EXPORTED, "") and shown(copy) == [PAGE, 2]
-    assert outcomes == {0, 3}, "control: some disks are full, and some have room"
-
-
-@pytest.mark.root
-@pytest.mark.parametrize("migrates", [True, False])
-def test_command_on_a_full_disk(counter: Counter, folder: Path, migrates: bool) -> None:
-    """It is done, or refused and leaves the file as it was, which opens on a disk with room."""
-
-    def run(store: Path) -> Ran:
-        if migrates:
-            return counter.export(store, 999_999_999)
-        day = post("/day/open", {"number": 9, "day": "2099-05-04"}, b"")
-        status, _, fault = counter.run(f"apply --db {store}", day)
-        return status, "", fault
-
-    done = (0, EXPORTED if migrates else "", "")
-    base, outcomes = folder / "base.db", set()
-    if migrates:
-        make_version_one(base, 2000, 300)
-    else:
-        counter.export(base)
-    for room in (64, 128, 192, 248, 264, 320, 768):
-        with disk(folder, -(-base.stat().st_size // 4096) * 4 + room) as small:
-            store = Path(shutil.copy(base, small / "day.db"))
-            ran = run(store)
-            outcomes.add(ran[0])
-            if ran != done:
-                assert ran[::2] == (3, FAILED) and store.read_bytes() == base.read_bytes(), ran
-                assert run(freed(store)) == done
     assert outcomes == {0, 3}, "control: some disks are full, and some have room"

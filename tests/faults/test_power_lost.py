@@ -69,7 +69,6 @@ class Case:
         self.superblocks = found if TORN else []
 
     def cut(self) -> int:
-        """A place anywhere, after a response, in a store's creation, or after a torn superblock."""
         turn = self.dice.random()
         if self.superblocks and self.dice.random() < 0.3:
             return self.dice.choice(self.superblocks)
@@ -86,7 +85,6 @@ class Case:
         return Ran(ran.returncode, ran.stdout, ran.stderr.decode(errors="replace"), {})
 
     def rows(self) -> store.Rows:
-        """The rows of the store, of a copy, which SQLite has to find whole."""
         copied = os.path.join(self.folder, "copied.db")
         shutil.copyfile(self.store, copied)
         if not store.is_whole(copied):

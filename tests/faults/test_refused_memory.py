@@ -51,7 +51,6 @@ def meets(program: Program, scene: Scene, refuse: str, most: int | None, plant: 
 
 
 def asked_of(program: Program, scene: Scene) -> int:
-    """How many requests for memory a run makes that meets no refusal."""
     path = program.place(f"asked{os.getpid()}")
     put(scene, path)
     ran = scene.command.run(program, path)

@@ -43,7 +43,6 @@ def run(program: Program, case: Case, kib: int, plant: str = "") -> tuple[int, b
 
 
 def least(program: Program, case: Case, ample: tuple[int, bytes, str]) -> int:
-    """The least stack that does, by halving."""
     low, high = 0, AMPLE
     while high - low > STEP:
         middle = (low + high) // 2 // STEP * STEP
@@ -61,7 +60,6 @@ def bonds(letter: str, first: int, count: int) -> list[dict[str, object]]:
 
 @functools.cache
 def bodies() -> dict[str, bytes]:
-    """Bodies over a new store: deep, wide and as long as they may be."""
     found = {}
     for kind, front, end in (("arrays", "[", "]"), ("objects", '{"a":', "}")):
         for depth in (127, 128, 170_000):
@@ -113,7 +111,6 @@ def begun(hostile: Program) -> Made:
 
 @pytest.fixture(scope="module")
 def owned(hostile: Program, begun: Made) -> Made:
-    """One customer has 17,000 bonds more."""
     path, books = hostile.place("owned"), begun[1].copy()
     store.copy(begun[0], path)
     parts = [{"number": 100 + n, "bonds": bonds("B", n * 500 + 1, 500)} for n in range(34)]

@@ -1,5 +1,4 @@
-"""Wrong uses that need something in their folder: paths, stores, ports, streams and disks; and
-how a use is tried."""
+"""Wrong uses that need paths, stores, ports, streams or disks; and how a use is tried."""
 
 import fcntl
 import os
@@ -73,7 +72,6 @@ class Counter:
         return self.path(name)
 
     def store(self, name: str = "day.db") -> Path:
-        """Makes a store with a rate and a bond. The files that it was made of stay there."""
         for number, (kind, (file, content)) in enumerate(FILES.items(), 1):
             self.put(file, content)
             line = f"import {kind} {file} --db {name} --number {number}"
@@ -102,7 +100,6 @@ class Use:
 
 
 def words_of(line: str) -> list[str | bytes]:
-    """The words of a line, as a shell reads them. `\\xff` in it is a byte that isn't UTF-8."""
     words = shlex.split(line)
     return [word.encode("latin-1") if "\xff" in word else word for word in words]
 
@@ -203,7 +200,6 @@ def store(
 
 @contextmanager
 def locked(it: Counter) -> Iterator[Streams]:
-    """The store as another process holds it that has it open."""
     with open(it.store(), "r+b") as file:
         fcntl.lockf(file, fcntl.LOCK_EX, LOCKED, LOCKED_FROM)
         yield Streams()
@@ -238,7 +234,6 @@ def changed(statement: str) -> Make:
 
 
 def scripted(it: Counter, script: str) -> None:
-    """A database that SQLite makes of a script."""
     with closing(sqlite3.connect(it.put("day.db", b""))) as base:
         base.executescript(script)
 
@@ -372,7 +367,6 @@ def taken(it: Counter) -> Iterator[Streams]:
 
 @contextmanager
 def opened(it: Counter, descriptor: int, is_input: bool = False) -> Iterator[Streams]:
-    """A store, and a line whose output or input is the descriptor."""
     it.store()
     try:
         yield Streams(given=descriptor) if is_input else Streams(MESSAGE, descriptor)

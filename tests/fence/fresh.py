@@ -1,5 +1,4 @@
-"""A fresh Debian that runs under a systemd of its own: process 1 of namespaces (mounts, processes, network, cgroups), over a root of debootstrap that isn't written. All that it writes is in
-memory, and gone at its end."""
+"""A fresh Debian under a systemd of its own, over a root of debootstrap that isn't written."""
 
 import contextlib
 import os
@@ -113,11 +112,9 @@ class Fresh:
         return state in ("running", "degraded")
 
     def path(self, name: str) -> str:
-        """A file of the machine, as it is seen from outside."""
         return f"/proc/{self.process}/root{name}"
 
     def words(self, *words: str) -> list[str]:
-        """The words by which a command is run on the machine."""
         return ["nsenter", "-t", str(self.process), *ENTER.split(), *words]
 
     def on(self, *words: str, **more: Any) -> subprocess.CompletedProcess[str]:
@@ -126,7 +123,6 @@ class Fresh:
         return run(*self.words(*words), env=env, **more)
 
     def shell(self, text: str) -> str:
-        """What some lines of a shell print. They may not fail."""
         ran = self.on("bash", "-euo", "pipefail", "-c", f"cd /root\n{text}")
         assert ran.returncode == 0, f"status {ran.returncode} after\n{text}\n{ran.stdout}"
         return ran.stdout

@@ -56,7 +56,6 @@ class Staff:
 
 
 def make_server_certificate(folder: Path, *names: str) -> None:
-    """Writes certificate.pem and key.pem for these names."""
     alternatives = ",".join(f"IP:{name}" if name[0].isdigit() else f"DNS:{name}" for name in names)
     line = "req -x509 -newkey ec -pkeyopt ec_paramgen_curve:prime256v1 -nodes -days 2".split()
     line += ["-subj", f"/CN={names[0]}", "-addext", f"subjectAltName={alternatives}"]
@@ -99,7 +98,6 @@ class Site:
         (self.folder / "groups").write_text("".join(lines))
 
     def placed(self, text: str, counter: str) -> str:
-        """A file of the samples with this site's own paths."""
         own = f"_temp_path {self.folder}/temporary"
         kinds = ("client_body", "proxy", "fastcgi", "uwsgi", "scgi")
         temporary = " ".join(f"{kind}{own}/{kind};" for kind in kinds)
@@ -236,7 +234,6 @@ def statuses(text: bytes) -> list[int]:
 
 
 def answer_in(text: bytes) -> Answer:
-    """The last response in a text, past any `100 Continue`."""
     assert b"HTTP/1.1 " in text, text
     head, _, body = text[text.rindex(b"HTTP/1.1 ") :].partition(b"\r\n\r\n")
     line, _, headers = head.partition(b"\r\n")

@@ -61,7 +61,6 @@ class Desk:
         return {**os.environ, "HOME": str(self.home)} | ({"DISPLAY": display} if display else {})
 
     def run(self, block: str) -> None:
-        """Runs a block of the page, as root and as the teller."""
         text = block.replace("counter.bank.example", self.site.name)
         text = text.replace("/usr/local/share/ca-certificates/bank.crt", f"{self.home}/bank.crt")
         done(*self.within(), "bash", "-euc", text, cwd=self.home, env=self.environment())
@@ -98,7 +97,6 @@ class OwnFirefox(Firefox):
 
 
 def unread(folder: str, names: list[str]) -> list[str]:
-    """What of /etc only root reads, and a browser doesn't need."""
     return [name for name in names if not os.access(f"{folder}/{name}", os.R_OK)]
 
 

@@ -190,7 +190,6 @@ def test_control_by_a_looser_pattern_others_are_bert(tmp_path: Path) -> None:
 
 
 def resumed(scene: Scene, version: ssl.TLSVersion) -> int:
-    """The status for a client that resumes a session from before its certificate was revoked."""
     scene.staff.hire("carl")
     context = scene.context("carl")
     context.minimum_version = context.maximum_version = version

@@ -162,7 +162,6 @@ def test_cron_copies_the_store(machine: Machine) -> None:
 
 
 def started(machine: Machine) -> tuple[int, str]:
-    """The status of `systemctl start`, and the first answer through nginx after it."""
     ran = machine.on("systemctl", "start", "counter.service")
     return ran.returncode, machine.ask("anna", "/batch/2199-12-31")
 

@@ -138,8 +138,6 @@ def test_an_authority_of_the_bank_has_neither_a_key_nor_an_index_here(whole: Mac
 
 
 class Weakening(NamedTuple):
-    """What a shell does and undoes, and the names of the lines that are then wrong."""
-
     what: str
     do: str
     undo: str
@@ -159,7 +157,6 @@ def long(text: str) -> str:
 
 
 def replacing(old: str, new: str) -> str:
-    """Words of a shell that put a text in place of another one in $FILE."""
     code = f"import sys; t = sys.stdin.read(); assert {old!r} in t; print(end=t.replace({old!r}, {new!r}, 1))"
     return f"python3 -c {shlex.quote(code)} < $FILE > changed; cat changed > $FILE; RELOAD"
 

@@ -36,7 +36,6 @@ def asked(machine: Machine) -> str:
 
 
 def served_again(machine: Machine) -> set[str]:
-    """Asks until the counter answers three times. Returns all that was said."""
     said: list[str] = []
     deadline = time.monotonic() + 60
     while said[-3:] != [OWN] * 3 and time.monotonic() < deadline:

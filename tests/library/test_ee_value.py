@@ -1,6 +1,4 @@
-"""The command ee-value: what each bond of a list is worth, and which bonds it refuses.
-
-Expected values are the Treasury's published ones, worked rows of the rules, and whole-number arithmetic."""
+"""The command ee-value: what each bond of a list is worth, and which bonds it refuses."""
 
 import csv
 import importlib.util
@@ -57,7 +55,6 @@ def rates_of(folder: Path, text: str) -> tuple[object, ...]:
 
 @pytest.fixture
 def sheet(folder: Path) -> tuple[object, ...]:
-    """The words that ask for the sheet."""
     (folder / "bonds.csv").write_text(SHEET_BONDS)
     return folder / "bonds.csv", "02/2012", *rates_of(folder, SHEET_RATES)
 
@@ -91,7 +88,6 @@ def test_a_row_for_each_bond(folder: Path) -> None:
 
 
 def published(month: str, *rates: object) -> None:
-    """Compares the values that the Treasury published for a month with the rows of a list."""
     listed = [it for it in csv_rows(DATA / "published-values.csv") if it["redeemed"] == month]
     bonds, wanted = "", []
     for place, row in enumerate(listed):

@@ -28,7 +28,6 @@ GOOD = ["value", "50", "2010-05", "2011-08", "3.50"]
 
 
 def month(count: int) -> str:
-    """The month that is `count` months after May 2005."""
     return f"{2005 + (count + 4) // 12:04}-{(count + 4) % 12 + 1:02}"
 
 
@@ -96,7 +95,6 @@ def spelled() -> Iterator[Words]:
 
 
 def run(program: Path, words: Words, **outputs: str) -> tuple[int, bytes, bytes]:
-    """The status of a line, and what it wrote to both outputs, of which one may be a device."""
     more = {name: open(path, "wb") for name, path in outputs.items()}
     try:
         done = subprocess.run(

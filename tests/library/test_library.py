@@ -310,7 +310,6 @@ WORDS = ("denom", "issued", "month", "rate", "extension")
 
 
 def words_of(question: Question) -> list[str]:
-    """The words of the command `value` that ask it. An extension that is the rate is left out in half of the questions."""
     dollars, issued, month, rate, extension = question
     words = [str(dollars), *(f"{it // 100:04}-{it % 100:02}" for it in (issued, month))]
     words += [f"{it // 100}.{it % 100:02}" for it in (rate, extension)]

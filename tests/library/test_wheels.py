@@ -115,7 +115,6 @@ def test_record(packages: dict[str, Path], wheel: Path, tmp_path: Path) -> None:
 
 @pytest.fixture(scope="module")
 def python(tmp_path_factory: pytest.TempPathFactory, wheel: Path) -> Path:
-    """A new venv in which pip installed the wheel without an index."""
     place = tmp_path_factory.mktemp("installed")
     done(PYTHON, "-m", "venv", place / "venv")
     found = place / "venv/bin/python"

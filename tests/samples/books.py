@@ -55,7 +55,6 @@ def forget(store: Path) -> None:
 
 
 def changed(store: Path, copy: Path, *statements: str) -> Path:
-    """A copy of a store that is at rest, in which SQLite changed something."""
     shutil.copy(store, copy)
     with closing(sqlite3.connect(copy, isolation_level=None)) as base:
         base.executescript("; ".join(statements))
@@ -180,6 +179,5 @@ class Busy:
 
 
 def key_of(message: bytes) -> tuple[int, int]:
-    """The desk and the number of a request."""
     value = json.loads(message.split(b"\r\n\r\n", 1)[1])
     return value.get("desk", 0), value["number"]

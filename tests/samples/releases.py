@@ -55,7 +55,6 @@ def with_line(log: str, crate: str, line: str) -> str:
 
 
 def make_key(home: Path, name: str, *more: object) -> None:
-    """A throwaway key in a keyring of its own."""
     home.mkdir(mode=0o700, exist_ok=True)
     made = ("--quick-generate-key", f"{name}@bank.example", "ed25519", "sign", "1d")
     done("gpg", "--batch", "--quiet", *more, "--homedir", home, "--passphrase", "", *made)
@@ -147,7 +146,6 @@ class Tree:
         return "\n".join([*lines, f"packaging: program {sum_of(self.program)}\n"])
 
     def printed_by_rt(self) -> str:
-        """What `rt ci --anew` prints, if all is proved."""
         return "".join(self.gate_log().splitlines(keepends=True)[2:-3])
 
     def build(

@@ -71,7 +71,6 @@ def by_chance(dice: random.Random, count: int) -> tuple[list[bytes], desk.Books]
 
 
 def query(store: Path, name: str) -> list[list[str]]:
-    """The cells of each row, without the heading."""
     ran = run("sqlite3", "-readonly", store, input=(AUDIT / f"{name}.sql").read_text())
     assert ran.returncode == 0, ran
     return [line.split() for line in ran.stdout.splitlines()[2:]]
@@ -102,7 +101,6 @@ def has_the_sums_of_the_queries(store: Path, found: making.Report) -> None:
 
 
 def rows_of(base: sqlite3.Connection, table: str) -> dict[str, tuple[Any, ...]]:
-    """The rows of a table by the names that the report gives them."""
     return {row[0]: row[1:] for row in base.execute(f"SELECT {ROWS[table]}, rowid, * FROM {table}")}
 
 

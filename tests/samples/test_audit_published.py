@@ -93,7 +93,6 @@ def paid(program: Path, place: Path) -> Paid:
 
 
 def compared(path: Path, to: Path, *tables: Path) -> tuple[int, str, making.TestRow]:
-    """The status, what is printed, and the test `published`."""
     ran, found = made(path, to, "--published", *tables)
     (test,) = [test for test in found["tests"] if test["name"] == "published"]
     return ran.returncode, ran.stdout, test

@@ -16,7 +16,8 @@ from reporting import making, page, texts
 from reporting.period import Figures
 
 from tests.restore.counter_day import run
-from tests.samples.books import AUDIT, REPORT, changed, differing, files_of, made, report, reported
+from tests.samples.books import AUDIT, REPORT, REQUESTS, STATUSES, changed, differing, files_of
+from tests.samples.books import made, report, reported
 from tests.samples.test_audit_by_chance import has_the_sums_of_the_queries
 from tests.shared.counter_calls import BONDS, RATES, apply, ask, post, redeem, served, sql
 
@@ -47,7 +48,6 @@ def here(store: Path) -> making.Report:
 
 @pytest.fixture(scope="module")
 def day(program: Path, place: Path) -> Path:
-    """The store of two known days, which is only read."""
     statuses = [status for status, _ in apply(program, place / "day.db", DAY)]
     assert statuses == [200] * 5 + [409, 409, 200, 200, 200]
     return place / "day.db"
@@ -251,7 +251,6 @@ def remarkable(program: Path, place: Path) -> Path:
 
 
 def test_remarks(remarkable: Path, tmp_path: Path) -> None:
-    """None of them is a difference."""
     ran, found = made(remarkable, tmp_path, "--as-of", "2026-11-29")
     assert ran.returncode == 0 and found["as_of"] == "2026-11-29"
     rows = {one["name"]: one["rows"] for one in found["remarks"]}
@@ -356,16 +355,10 @@ MORE_BONDS = [
     {"serial": "N6EE", "denom": 50, "issued": "2010-11", "owner": 9},
     {"serial": "Z9999999999EE", "denom": 100, "issued": "2099-12", "owner": 10},
 ]
-REQUESTS = [
+ASKED = [
     post("/rates", {"number": 1, "rates": [*RATES, {"from": "2099-11", "rate": "0.00"}]}, b""),
     post("/bonds", {"number": 2, "bonds": BONDS + MORE_BONDS}, b""),
-    post("/day/open", {"number": 3, "day": "2012-02-06"}, b""),
-    redeem(1, 4, "2012-02-06", 7, "L1EE", "M3EE"),
-    redeem(2, 10, "2012-02-06", 8, "K2EE"),
-    redeem(1, 5, "2012-02-06", 7, "K2EE"),
-    post("/day/close", {"number": 4, "day": "2012-02-06"}, b""),
-    post("/day/open", {"number": 5, "day": "2012-02-07"}, b""),
-    redeem(2, 12, "2012-02-07", 9, "N4EE"),
+    *(*DAY[2:6], *REQUESTS[6:]),
 ]
 INTEREST = ["interest_by_payee_and_year", "interest_by_day", "interest_by_ticket"]
 CENT = "UPDATE paid SET cents = cents + 1 WHERE ticket = 2"
@@ -373,8 +366,7 @@ ALL_THREE = f"{CENT}; UPDATE tickets SET total = total + 1 WHERE ticket = 2; UPD
 
 
 def make_store(program: Path, path: Path) -> Path:
-    statuses = [status for status, _ in apply(program, path, REQUESTS)]
-    assert statuses == [200] * 5 + [409] + [200] * 3
+    assert [status for status, _ in apply(program, path, ASKED)] == STATUSES
     return path
 
 
@@ -384,7 +376,6 @@ def store(program: Path, place: Path) -> Path:
 
 
 def query(store: Path, name: str, day: int = 20120206) -> str:
-    """What a query prints, without the spaces at the ends of its lines."""
     words = ("sqlite3", "-readonly", "-cmd", f".parameter set :day {day}", store)
     ran = run(*words, input=(AUDIT / f"{name}.sql").read_text())
     assert ran.returncode == 0 and ran.stderr == "", ran

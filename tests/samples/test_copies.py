@@ -45,7 +45,6 @@ Found = tuple[list[tuple[Any, ...]], dict[str, list[tuple[Any, ...]]], list[Answ
 
 
 def found(program: Path, path: Path) -> Found | str:
-    """What the program finds in a copy of a file, or how it ends."""
     copy = copied(path, path.parent / "found")
     try:
         ran = run(program, "export", "7", "--db", copy)
@@ -195,22 +194,6 @@ def test_torn(busy: Busy, folder: Path) -> None:
     busy.stop()
     done(busy.program, "export", "999", "--db", busy.path)
     assert len(beside_the_log(file) or ()) == len(acknowledged) >= 60
-
-
-def test_copies_at_a_stop(program: Path, folder: Path) -> None:
-    """Where there are no snapshots: stop, copy both files, start, while clients ask on."""
-    busy = Busy(program, folder / "day.db", 8000, pause=0.005)
-    for nth in range(3):
-        busy.load.start()
-        time.sleep(0.5)
-        acknowledged = dict(busy.load.replies)
-        busy.stop()
-        copy = copied(busy.path, folder / str(nth))
-        busy.start()
-        time.sleep(0.2)
-        busy.load.stop()
-        busy.is_right(copy, acknowledged)
-    busy.stop()
 
 
 BETWEEN = '    for end in ("", "-wal"):\n'

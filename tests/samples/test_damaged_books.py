@@ -91,7 +91,6 @@ def change(requests: list[Request], how: str, *given: Any) -> None:
 
 
 def rows_of(requests: list[Request]) -> dict[str, Any]:
-    """The rows of each table after these requests, by the rules of tests/shared/hostile; those of `answers` in the order of the requests."""
     books = desk.Books()
     for message in messages(requests):
         counter.connection(books, message)
@@ -161,7 +160,6 @@ class Case:
         return reported(path, making.Asked(as_of=AS_OF, archives=(copied,), earlier=before))
 
     def damaged(self, kind: dict[str, Any], folder: Path) -> Path:
-        """A copy of the store with damage of a kind; its checksums are wrong."""
         path = changed(self.store, folder / "damaged.db", *kind.get("sql", ()))
         for name, tables in (("requests", TABLES), ("books", TABLES[:-1])):
             if name in kind:

@@ -81,7 +81,6 @@ class Bank:
         return answers
 
     def paid(self) -> tuple[Counter[int], int]:
-        """How often each bond is paid over all stores, and the cents."""
         asked = "SELECT number, cents FROM paid"
         paid = [row for store in self.stores for row in rows(store, asked)]
         return Counter(n for n, _ in paid), sum(cents for _, cents in paid)

@@ -38,11 +38,6 @@ def money(cents: int) -> str:
     return f"{cents // 100}.{cents % 100:02}"
 
 
-def months_since(month: int) -> int:
-    """How many months after the first in which bonds may be issued."""
-    return 12 * (month // 100 - 2005) + month % 100 - 5
-
-
 def period_of(month: int) -> int:
     return max(start for start in RATES if start <= month)
 
@@ -60,7 +55,8 @@ class Bond(NamedTuple):
 
     def row(self) -> tuple[Any, ...]:
         place = ord(self.serial[0]) - 64, int(self.serial[1:-2])
-        return *place, self.denom, months_since(self.issued), self.owner, self.coowner
+        months = 12 * (self.issued // 100 - 2005) + self.issued % 100 - 5
+        return *place, self.denom, months, self.owner, self.coowner
 
     def value(self, extensions: dict[int, int]) -> int:
         rate = RATES[period_of(self.issued)]
@@ -263,17 +259,12 @@ def test_killed(old: Old, dice: random.Random) -> None:
         ends["a hidden folder"] += bool(left)
         assert all(name.startswith(".go_over-") for name in left)
         assert how == signal.SIGKILL or not left
-        for name in left:
-            remove_when_idle(old.path.parent / name)
+        for folder in (old.path.parent / name for name in left):
+            until(lambda: run("pgrep", "-f", folder).returncode != 0, "its program doesn't end")
+            shutil.rmtree(folder)
         assert files_of(old.path) == old.files
     assert ends["missing"] > KILLS // 4 and ends["a hidden folder"], ends
     assert old.go().returncode == 0
-
-
-def remove_when_idle(folder: Path) -> None:
-    """Removes what a killed script left, once the program that it had begun has ended too."""
-    until(lambda: run("pgrep", "-f", folder).returncode != 0, "it doesn't end")
-    shutil.rmtree(folder)
 
 
 @pytest.mark.root

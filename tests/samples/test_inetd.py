@@ -39,7 +39,6 @@ class Inetd:
         time.sleep(1)
 
     def together(self) -> list[Answer | None]:
-        """What clients are answered that come together for one bond."""
         serials = [bond(0)["serial"]]
 
         def client(nth: int) -> Answer | None:

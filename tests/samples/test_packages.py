@@ -144,7 +144,6 @@ def test_control_wrong_spdx(spdx: Listed, alter: Alter) -> None:
 
 
 def parts_of(parts: list[Listed], version: str, sums: str, value: str) -> list[tuple[str, ...]]:
-    """The names, versions and sums of a list's parts."""
     found = [(part, [one[value] for one in part.get(sums, ())]) for part in parts]
     return sorted((part["name"], part[version], *those) for part, those in found)
 
@@ -233,7 +232,6 @@ def test_cyclonedx_validator(cyclonedx: Listed, validator: Path) -> None:
 
 @pytest.fixture
 def keyring(folder: Path) -> Iterator[dict[str, str]]:
-    """An environment with a throwaway key."""
     make_key(folder / "key", "release")
     yield {**os.environ, "GNUPGHOME": str(folder / "key")}
     end_keys(folder / "key")

@@ -26,7 +26,6 @@ LOG = "/srv/requests/requests.log"
 
 
 def page(name: str, nth: int) -> str:
-    """One block of a page of samples."""
     return (TOP / f"samples/{name}/README.md").read_text().split("```\n")[2 * nth + 1]
 
 
@@ -195,7 +194,6 @@ def other(bank: Bank) -> Iterator[Machine]:
 
 
 def put_store(program: Path, folder: Path, machine: Machine, statement: str) -> None:
-    """A store without checksums that SQLite changed."""
     store = folder / "day.db"
     sql(store, "PRAGMA page_size = 1024; VACUUM")
     apply(program, store, beginning(1))
@@ -263,9 +261,8 @@ def second(bank: Bank) -> Machine:
     m.shell(f"install -d /run/sshd {keys}; /usr/sbin/sshd; install -g adm -m 640 /dev/null {LOG}")
     m.shell(f"for key in pull witness; do ssh-keygen -q -t ed25519 -N '' -f {keys}/$key.key; done")
     m.shell(f"ssh-keyscan counter.bank.example second.bank.example > {keys}/known_hosts")
-    pull, witness = m.shell(f"cut -d ' ' -f 1,2 {keys}/pull.key.pub {keys}/witness.key.pub").split(
-        "\n"
-    )[:2]
+    said = m.shell(f"cut -d ' ' -f 1,2 {keys}/pull.key.pub {keys}/witness.key.pub")
+    pull, witness = said.splitlines()
     m.shell(page("restore", 2).replace("ssh-ed25519 AAAA..", pull))
     m.shell("cd samples/restore; install -m 755 pull /opt/counter/restore/")
     m.shell(f"install -m 644 samples/restore/counter-pull.service {UNITS}")

@@ -1,6 +1,4 @@
-"""samples/take_over makes a store that is served of a file that the program refuses, or finds why not and leaves nothing.
-
-Logs that are damaged or orphaned are in tests/restore/test_take_over.py."""
+"""samples/take_over makes a store of a file that the program refuses, or finds why not."""
 
 import json
 import os

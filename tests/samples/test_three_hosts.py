@@ -75,7 +75,7 @@ class Host:
         return ["nsenter", "-t", str(self.first), "-n", "-m", "-p", *map(str, words)]
 
     def on(self, *words: object) -> Ran:
-        return run("timeout", "120", *self.words(*words))
+        return run("timeout", "280", *self.words(*words))
 
     def lose_power(self) -> None:
         if self.first:
@@ -91,7 +91,6 @@ class Host:
         done("ip", "link", "set", self.link, state)
 
     def start(self, *words: str) -> None:
-        """The counter by the sample's script, or by these words."""
         command = self.words(*(words or BY_SCRIPT))
         self.server = subprocess.Popen(command, stderr=subprocess.PIPE, **QUIET)
 
@@ -111,7 +110,6 @@ class Host:
         time.sleep(0.5)
 
     def ask(self, message: bytes, patience: float = 15) -> Answer | None:
-        """The answer of this host's counter, asked in its own network; None if none came."""
         with contextlib.suppress(OSError), self.socket() as client:
             client.settimeout(patience)
             client.connect(("127.0.0.1", PORT))
@@ -166,7 +164,6 @@ class Hosts:
         self.whole()
 
     def both(self) -> tuple[Host, Host]:
-        """The host that serves, and the next one."""
         assert self.serving is not None
         return self.serving, self.all[self.serving.nth % 3]
 
@@ -243,7 +240,6 @@ def made(program: Path, place: Path) -> Iterator[Hosts]:
 
 @pytest.fixture
 def hosts(made: Hosts) -> Hosts:
-    """The three, whole."""
     made.whole()
     return made
 

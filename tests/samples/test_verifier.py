@@ -106,7 +106,6 @@ def test_control_right_release(bank: Bank) -> None:
 
 
 def unchecked(nth: int) -> tuple[int, list[str]]:
-    """How it ends if a check isn't done."""
     return 3, [*GOOD[:nth], "not checked", *GOOD[nth + 1 :]]
 
 

@@ -16,7 +16,6 @@ Row = tuple[int, int, int, int, int, int, int, int]
 
 @functools.lru_cache(maxsize=None)
 def grown(unit: int, rate: int, months: int) -> int:
-    """Return the unit after 0 to 6 months, rounded to the nearest cent, half a cent upwards."""
     have = (2 * unit) ** 6 * (20000 + rate) ** months
     scale: int = 20000**months
     c: int = round(unit * (1 + rate / 20000) ** (months / 6))
@@ -29,7 +28,6 @@ def grown(unit: int, rate: int, months: int) -> int:
 
 @functools.lru_cache(maxsize=None)
 def first_starts(rate: int) -> list[int]:
-    """Return the unit at the start of each half-year to 20 years."""
     starts = [1250]
     for _ in range(40):
         starts.append(grown(starts[-1], rate, 6))
@@ -49,7 +47,6 @@ def accrued(rate: int, extension: int, age: int) -> int:
 
 
 def count_of(month: int, last: int) -> int | None:
-    """Return the months from year 0 to a number YYYYMM from 200505 to the last one, or None."""
     year, of_year = divmod(month, 100)
     return 12 * year + of_year - 1 if 1 <= of_year <= 12 and 200505 <= month <= last else None
 

@@ -46,8 +46,6 @@ def test_a_counter(counter: Counter) -> None:
 
 @contextlib.contextmanager
 def server(answer: Serving) -> Iterator[str]:
-    """A server that does with each connection what `answer` says."""
-
     def accept() -> None:
         with contextlib.suppress(OSError):
             while True:

@@ -32,7 +32,6 @@ KEPT = [
 def entry(
     user: str, route: str, desk: int, number: int, counter: str = "200", body: str | None = None
 ) -> str:
-    """A line of the log, as nginx writes it."""
     asked = json.dumps({"desk": desk, "number": number}) if body is None else body
     fields = {"time": f"{DAY}T10:00:0{number}+00:00", "entry": f"e{desk}-{number}", "user": user}
     fields |= {"route": route, "counter": counter, "body": asked}

@@ -224,7 +224,6 @@ class World:
         return ask(self.socket, message)
 
     def metrics(self) -> dict[str, str]:
-        """The metrics as they were written last, none before the first time: the name of each sample with its labels, and its value."""
         path = Path(self.machine.path("/run/counter-metrics/counter.prom"))
         lines = path.read_text().splitlines() if path.exists() else []
         return dict(line.rsplit(" ", 1) for line in lines if not line.startswith("#"))
@@ -246,7 +245,6 @@ class World:
             return json.load(response)["data"]
 
     def alerts(self) -> list[dict[str, str]]:
-        """The labels of the alerts that fire."""
         alerts = self.prometheus("alerts")["alerts"]
         return [alert["labels"] for alert in alerts if alert["state"] == "firing"]
 
@@ -254,7 +252,6 @@ class World:
         return {labels["alertname"].removeprefix("Ladwenpik") for labels in self.alerts()}
 
     def labels_of(self, alert: str, name: str) -> set[str | None]:
-        """What a label of an alert says, of each one that fires."""
         found = [one for one in self.alerts() if one["alertname"] == f"Ladwenpik{alert}"]
         return {labels.get(name) for labels in found}
 

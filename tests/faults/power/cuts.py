@@ -1,5 +1,4 @@
-"""What a disk may hold after a power loss: all writes before the last flush, and of the later
-ones any, in any order, and of each any sectors."""
+"""What a disk may hold after a power loss: any sectors of any writes since the last flush."""
 
 import os
 import zlib
@@ -16,12 +15,10 @@ Range = tuple[int, int]
 
 
 def last_flush(steps: list[Step], cut: int) -> int:
-    """The place of the last flush before a cut, 0 if there is none."""
     return next((at for at in range(cut - 1, -1, -1) if steps[at].kind == FLUSH), 0)
 
 
 def next_flush(steps: list[Step], cut: int) -> int:
-    """The place of the first flush from a cut on, or the end."""
     return next((at for at in range(cut, len(steps)) if steps[at].kind == FLUSH), len(steps))
 
 
@@ -67,7 +64,6 @@ class Image:
         self.sum = zlib.crc32(b"%d %d %d" % (id(step), begin, end), self.sum)
 
     def put_torn(self, step: Step, dice: Random) -> None:
-        """Do a step for its first units, or for any."""
         if step.kind != WRITE:
             self.put(step, 0, SECTOR * dice.randint(0, step.size // SECTOR))
             return

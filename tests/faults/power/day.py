@@ -1,5 +1,4 @@
-"""The load: requests of some days at the counter, sent one after the other, and how much of the
-disk was recorded when each was sent and answered."""
+"""The load: requests of some days, and how much was recorded when each was sent and answered."""
 
 import ctypes
 import os
@@ -26,7 +25,6 @@ NO_NEW_PRIVILEGES, FILTER = 38, 22
 
 
 def requests(count: int, dice: Random) -> list[bytes]:
-    """`count` requests of random days, each under a number of its own. Some are sent twice."""
     books, found = desk.Books(), list[bytes]()
     while len(found) < count:
         path, value = making.posted(dice, books)
@@ -53,7 +51,6 @@ def drop_syncs() -> None:
 
 
 def read_answer(receive: Callable[[], bytes]) -> bytes:
-    """Read one response by `receive`, which returns some more bytes of it."""
     text = b""
     end: int | None = None
     while end is None or len(text) < end:

@@ -1,7 +1,5 @@
 """File systems in files: creating, copying, mounting over a loop device, unmounting."""
 
-from __future__ import annotations
-
 import ctypes
 import os
 import subprocess
@@ -56,7 +54,6 @@ def make(kind: str, image: str) -> None:
 
 
 def copy(image: str, to: str) -> None:
-    """Copy a file. A block of zeros becomes a hole."""
     with open(image, "rb") as source, open(to, "wb") as target:
         size, at = os.fstat(source.fileno()).st_size, 0
         target.truncate(size)
@@ -68,7 +65,6 @@ def copy(image: str, to: str) -> None:
 
 
 def next_data(file: int, at: int) -> int:
-    """The next block that isn't in a hole, or the size of the file."""
     try:
         return os.lseek(file, at, os.SEEK_DATA) // BLOCK * BLOCK
     except OSError:
@@ -81,7 +77,6 @@ def punch(file: int, at: int, size: int) -> None:
 
 
 def patiently(*words: str) -> str:
-    """Repeat a command until it succeeds: a probe of new devices may have them open."""
     until = time.time() + SECONDS
     while (ended := command(*words))[0]:
         if time.time() > until:
@@ -98,7 +93,7 @@ class Mounted:
         self.refusal: str | None = None
         self.options = ["-o", options] if options else []
 
-    def __enter__(self) -> Mounted:
+    def __enter__(self) -> "Mounted":
         os.makedirs(self.folder, exist_ok=True)
         self.device = patiently("losetup", "--find", "--show", self.image)
         status, told = self.mount()

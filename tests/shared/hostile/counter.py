@@ -1,5 +1,4 @@
-"""What a connection is answered, byte for byte: the messages of its stream, what each asks for,
-and what the desk says to it."""
+"""What a connection is answered, byte for byte."""
 from typing import Any
 
 from . import decoding, desk, framing, talk

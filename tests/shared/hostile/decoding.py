@@ -1,5 +1,4 @@
-"""What a message asks for, or its first fault, by the rules of docs/FORMATS.md, 'Requests': the
-route, the method, the body field by field."""
+"""What a message asks for, or its first fault, by docs/FORMATS.md, 'Requests'."""
 import functools
 from typing import Any, Callable, Sequence, TypeVar
 

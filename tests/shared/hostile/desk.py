@@ -1,8 +1,6 @@
 """The desk by its rules (docs/MODEL.md, docs/STATUSES.md): books, acts, replies, queries, and
 the rows that a store then has. Values are those of tests/shared/exact.py. It shares nothing with
 the program."""
-from __future__ import annotations
-
 import copy
 import json
 from typing import Any, Iterable, Mapping, Sequence, TypedDict
@@ -94,7 +92,7 @@ class Books:
         self.batches: dict[int, tuple[int, int, int]] = {}
         self.kept: dict[Key, tuple[Act, Reply]] = {}
 
-    def copy(self) -> Books:
+    def copy(self) -> "Books":
         return copy.deepcopy(self)
 
     # ---- acts
@@ -219,9 +217,9 @@ class Books:
         return sorted((serial, *bond) for serial, bond in unpaid.items() if bond[2] == owner)
 
     def ask_inventory(self, owner: int, month: int) -> str:
+        bonds = [bond[:3] for bond in self.unpaid(owner)]
         rows = [
-            (serial, columns(dollars, issued, month, self.rates[period(issued)]))
-            for serial, dollars, issued, *_ in self.unpaid(owner)
+            (s, columns(d, issued, month, self.rates[period(issued)])) for s, d, issued in bonds
         ]
         return sheet(rows)
 

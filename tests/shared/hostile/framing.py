@@ -1,5 +1,4 @@
-"""How a stream is split into messages, by the rules of docs/FORMATS.md, 'Framing': line by line
-over all bytes, and not as they come."""
+"""How a stream is split into messages, by docs/FORMATS.md, 'Framing': line by line."""
 import dataclasses
 import re
 
@@ -31,7 +30,6 @@ def is_text(target: bytes) -> bool:
 
 
 def line_at(stream: bytes, at: int, begun: int) -> tuple[bytes, int]:
-    """The line from a place on, and the place after it, in a head that began at `begun`."""
     end = stream.find(b"\n", at, begun + MOST_HEAD)
     if end < 0:
         raise Fault(61 if len(stream) - begun >= MOST_HEAD else 68)
@@ -40,7 +38,6 @@ def line_at(stream: bytes, at: int, begun: int) -> tuple[bytes, int]:
 
 
 def head_at(stream: bytes, begun: int) -> tuple[re.Match[bytes], list[tuple[bytes, bytes]], int]:
-    """The request line, the fields, and the place after the head."""
     line, at = b"", begun
     while not line:
         line, at = line_at(stream, at, begun)
@@ -79,7 +76,6 @@ def body_length(fields: list[tuple[bytes, bytes]]) -> int:
 
 
 def message_at(stream: bytes, begun: int) -> tuple[Message, int]:
-    """The message that begins there, and the place after it."""
     request, fields, at = head_at(stream, begun)
     length = body_length(fields)
     if len(stream) - at < length:

@@ -1,5 +1,4 @@
-"""Whether a run under faults is right: what it answered is followed by the desk's rules, with
-the books that may stand after each answer."""
+"""Whether a run under faults is right: the desk's rules follow what it answered."""
 import dataclasses
 import hashlib
 from typing import Iterable

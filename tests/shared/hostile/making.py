@@ -1,5 +1,4 @@
-"""Random days at the counter: bodies that the books often take. What it makes knows nothing of
-what is right."""
+"""Random days at the counter: bodies that the books often take, by nothing of what is right."""
 
 import random
 

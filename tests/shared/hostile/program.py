@@ -1,5 +1,4 @@
-"""The built program under test, run with what shim.c does to it: faults of files, refused
-memory, a record of its writes."""
+"""The program, and what shim.c does to it: faults of files, refused memory, records of writes."""
 
 import dataclasses
 import os

@@ -1,5 +1,4 @@
-"""What is asked of a store after a run that met faults: the next command shows books that the
-run allows, and the same requests again have their one reply."""
+"""What is asked of a store after a run that met faults: the books, and one reply each."""
 import os
 
 from . import desk, judging, store

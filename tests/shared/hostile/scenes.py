@@ -1,5 +1,4 @@
-"""What the scripts run over: stores in the states that a file can be in, and the commands that
-meet them."""
+"""What the tests run over: stores in the states that a file can be in, and commands."""
 import dataclasses
 import os
 

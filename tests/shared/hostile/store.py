@@ -1,5 +1,4 @@
-"""Stores on disk: their rows, read by SQLite; and stores of version 1, made by the statements of
-that version."""
+"""Stores on disk: their rows, read by SQLite; and stores of version 1."""
 import os
 import shutil
 import sqlite3
@@ -27,7 +26,6 @@ def log_of(store: str) -> str:
 
 
 def copy(store: str, to: str) -> None:
-    """Copy both files of a store, as far as they are there."""
     for end in ("", "-wal"):
         if os.path.exists(store + end):
             shutil.copyfile(store + end, to + end)

@@ -40,7 +40,6 @@ def texts(constant: str) -> dict[str, Any]:
 
 
 def items(count: int, item: str, between: str) -> str:
-    """So many items, in which the first `#` is the place, from 1 on."""
     return between.join(item.replace("#", str(place), 1) for place in range(1, count + 1))
 
 
@@ -51,7 +50,6 @@ def written_out(line: str) -> str:
 
 
 def message(line: str) -> bytes:
-    """The HTTP text of a message `METHOD PATH BODY`."""
     method, path, *body = line.split(" ", 2)
     text = body[0].encode() if body else b""
     return f"{method} {path} HTTP/1.1\r\nContent-Length: {len(text)}\r\n\r\n".encode() + text
