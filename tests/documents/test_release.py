@@ -69,51 +69,34 @@ def owner(program: Path, folder: Path) -> Iterator[Owner]:
 
 
 def test_a_release_is_verified_and_tagged(owner: Owner) -> None:
+    """A second run takes the verdict of the log. Controls: no log, and a package with a byte more."""
     status, said = owner.release("release")
     assert (status, owner.is_verified("release")) == (0, True), said
     assert [tag[:1] for tag in owner.tags()] == ["v"]
     assert not (owner.folder / "release.part").exists()
+    script(owner.folder / "bin/rt", "#!/bin/sh\nexit 1\n")
+    status, said = owner.release("again", "--log", owner.folder / "release.log")
+    assert (status, owner.is_verified("again")) == (0, True), said
+    assert owner.release("third")[0] == 1
+    with open(next((owner.folder / "again").glob("ladwenpik_*.deb")), "ab") as file:
+        file.write(b"\n")
+    assert not owner.is_verified("again")
 
 
-def test_without_the_key_nothing_is_proved(owner: Owner) -> None:
+def test_no_release_is_left(owner: Owner) -> None:
+    """Of a stranger's key, a file that isn't committed, and a gate that failed."""
     status, said = owner.release("release", key="stranger")
     assert (status, owner.tags()) == (1, []), said
-    assert not (owner.folder / "release.log").exists()
-
-
-def test_a_failed_gate_leaves_no_release(owner: Owner) -> None:
+    assert not (owner.folder / "release.log").exists(), "nothing is proved"
+    shutil.copy(owner.tree / "README.md", owner.tree / "notes.md")
+    status, said = owner.release("release")
+    assert (status, owner.tags()) == (1, []) and "aren't committed" in said, said
+    (owner.tree / "notes.md").unlink()
     printed = owner.folder / "printed"
     printed.write_text(printed.read_text().replace(" passed, 0 failed", " passed, 1 failed"))
     status, said = owner.release("release")
     assert (status, owner.tags()) == (1, []) and "no verdict on this program" in said, said
     assert not (owner.folder / "release").exists()
-    printed.write_text(printed.read_text().replace(" passed, 1 failed", " passed, 0 failed"))
-    status, said = owner.release("release")
-    assert (status, owner.is_verified("release")) == (0, True), said
-
-
-def test_a_second_run_takes_the_verdict(owner: Owner) -> None:
-    """Control: without the log it would prove again."""
-    assert owner.release("release")[0] == 0
-    script(owner.folder / "bin/rt", "#!/bin/sh\nexit 1\n")
-    log = ("--log", owner.folder / "release.log")
-    status, said = owner.release("again", *log)
-    assert (status, owner.is_verified("again")) == (0, True), said
-    assert owner.release("third")[0] == 1
-
-
-def test_a_changed_package_is_found(owner: Owner) -> None:
-    """Control: the verifier refuses the release with a byte more."""
-    assert owner.release("release")[0] == 0
-    with open(next((owner.folder / "release").glob("ladwenpik_*.deb")), "ab") as file:
-        file.write(b"\n")
-    assert not owner.is_verified("release")
-
-
-def test_a_file_that_is_not_committed_stops_it(owner: Owner) -> None:
-    shutil.copy(owner.tree / "README.md", owner.tree / "notes.md")
-    status, said = owner.release("release")
-    assert (status, owner.tags()) == (1, []) and "aren't committed" in said, said
 
 
 @pytest.mark.root
