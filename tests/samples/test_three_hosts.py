@@ -18,7 +18,7 @@ import pytest
 
 from tests.conftest import TOP, until
 from tests.restore.counter_day import Ran, run
-from tests.shared.counter_calls import Answer, Load, beginning, bond, day_text, done, end
+from tests.shared.counter_calls import Answer, Load, apply, beginning, bond, day_text, done, end
 from tests.shared.counter_calls import fault_of_books, get, post, read_answer
 
 pytestmark = [pytest.mark.root, pytest.mark.slow, pytest.mark.needs("glusterd", "ip", "sqlite3")]
@@ -75,7 +75,7 @@ class Host:
         return ["nsenter", "-t", str(self.first), "-n", "-m", "-p", *map(str, words)]
 
     def on(self, *words: object) -> Ran:
-        return run("timeout", "280", *self.words(*words))
+        return run("timeout", "120", *self.words(*words))
 
     def lose_power(self) -> None:
         if self.first:
@@ -153,13 +153,12 @@ class Hosts:
         bricks = [f"{host.address}:{host.folder}/brick" for host in self.all]
         ran = first.on(SAMPLES / "make_volume", VOLUME, *bricks)
         assert ran.returncode == 0, ran
-        # The bank's first store, on the volume, of the counter's user.
-        (first.folder / "first").write_bytes(b"".join(beginning(BONDS)))
-        apply = f"{MOUNTED} && {PROGRAM} apply --db {MOUNT}/day.db < {first.folder}/first"
-        said = first.on("sh", "-c", apply).stdout
-        assert said.count("HTTP/1.1 200 OK") == 1 + BONDS // 500
+        # The bank's first store, made on a disk of the host and copied to the volume.
+        store = first.folder / "day.db"
+        assert {status for status, _ in apply(program, store, beginning(BONDS))} == {200}
+        copied = f"{MOUNTED} && cp {store} {store}-wal {MOUNT}"
         own = f"chown {USER} {MOUNT} {MOUNT}/day.db {MOUNT}/day.db-wal"
-        assert first.on("sh", "-c", own).returncode == 0
+        assert first.on("sh", "-c", f"{copied} && {own}").returncode == 0
         self.serve_on(first)
         self.whole()
 
