@@ -15,6 +15,7 @@ import pytest
 from tests.browser.bank import OLDEST, PAGE, TOO_YOUNG, UNISSUED, Bank, released_in
 from tests.clients.scripts import scripts
 from tests.conftest import TOP
+from tests.shared.hostile import desk
 
 pytestmark = pytest.mark.needs("node")
 SCRIPTS = scripts("page_scripts.js")
@@ -30,9 +31,8 @@ def in_node(script: str, *given: object) -> Any:
 
 
 # ---- words
-REFUSALS = tomllib.loads((TOP / "tests/documents/refusals.toml").read_text())["refusal"]
 NAMES = {
-    "refused": {row["code"]: name for name, row in REFUSALS.items()},
+    "refused": desk.NAMES,
     "fault": {
         **{60: "BadHead", 61: "HeadTooLong", 62: "BodyTooLong", 63: "BadLength", 64: "BadJson"},
         **{65: "BadField", 66: "NoRoute", 67: "BadMethod", 68: "Truncated", 69: "NotFound"},

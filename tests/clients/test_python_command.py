@@ -78,8 +78,8 @@ def test_statuses(desk: Desk) -> None:
 
 def test_each_refusal_has_a_second_line() -> None:
     """And one that this version doesn't know says that nothing was changed."""
-    assert errors.REMEDIES.keys() == errors.REFUSALS.keys()
-    assert len(set(errors.REMEDIES.values())) == len(errors.REMEDIES)
+    remedies = {kind.remedy for kind in errors.REFUSALS.values()}
+    assert "" not in remedies and len(remedies) == len(errors.REFUSALS)
     unknown = errors.refusal_of({"code": 55, "refused": "DayOfRest"})
     assert second_of(unknown) == "nothing was changed, and a corrected request gets a new number"
 

@@ -1,92 +1,104 @@
-"""Every place that lists the refusals has them all, with their codes: refusals.toml is the table. A file
-that names ten or more of them is a place; proofs, wrong bodies and files that REST names are left out."""
+"""Every file that lists the refusals has them all. Their table is docs/openapi.json, from which
+.ci/refusals writes some lists. The other lists are written by hand: BY_HAND has their files."""
 
 import re
-import tomllib
-from typing import Any
+import shutil
+import subprocess
+from pathlib import Path
 
 import pytest
 
 from tests.conftest import TOP
 from tests.documents.test_commands import files
+from tests.shared.hostile.desk import NAMES
 
-TABLE: dict[str, Any] = tomllib.loads((TOP / "tests/documents/refusals.toml").read_text())
-#: Files that use refusals and don't list them: a walk names those that change with one.
-REST = {"tests/documents/refusals.toml", "clients/python/src/ee_counter_client/counter.py"}
+WRITER, TABLE = ".ci/refusals", "docs/openapi.json"
+BY_WRITER = ["docs/STATUSES.md", "samples/audit/reporting/texts.py"]
+BY_WRITER += ["samples/watch/watching/proxy.py"]
+BY_WRITER += [f"clients/python/src/ee_counter_client/{name}.py" for name in ("errors", "__init__")]
+#: The tests of an act don't know the numbers of requests; no known terms leave a value unsettled.
+NO_NUMBERS, NO_TERMS = {10}, {22}
+#: Files by hand, with the codes that they leave out.
+BY_HAND: dict[str, set[int]] = {
+    "crates/ee_desk_model/specs/Codes.antt": set(),
+    "crates/ee_desk_model/specs/Refusals.antt": NO_NUMBERS,
+    "crates/ee_desk_model/src/refusals.rt": set(),
+    "crates/ee_desk_decide/src/checks.rt": NO_NUMBERS,
+    "crates/ee_desk_texts/specs/Data.antt": set(),
+    "crates/ee_desk_texts/specs/Reading.antt": set(),
+    "crates/ee_desk_texts/src/refusals.rt": set(),
+    "crates/ee_desk_texts/src/refusal_reading.rt": set(),
+    "crates/library_tests/src/texts.rt": set(),
+    "crates/store_tests/src/refusals.rt": NO_TERMS,
+    "clients/teller/words.js": set(),
+    "clients/python/src/ee_counter_client/testing/fake.py": set(),
+    "samples/audit/reporting/desk.py": NO_NUMBERS | NO_TERMS,
+    "tests/shared/hostile/desk.py": NO_TERMS,
+}
+#: A file that names as many lists them.
 MANY = 10
-Refusals = dict[str, dict[str, Any]]
-REFUSALS: Refusals = TABLE["refusal"]
-NEW: Refusals = {**REFUSALS, "DayOfRest": {"code": 55, "status": 409, "keys": []}}
+NEW = {**NAMES, 99: "Unheard"}
 
 
-def listed(text: str, place: dict[str, Any], refusals: Refusals) -> list[dict[str, str]]:
-    """The refusals that a text lists by the place's pattern, with what it says of each."""
-    found = []
-    for match in re.finditer(place["pattern"], text, re.M):
-        said = {re.sub(r"\d$", "", name): text for name, text in match.groupdict().items() if text}
-        if "names" in said:
-            pairs = zip(said["names"].split(", "), said["codes"].split(", "), strict=True)
-            found += [{"name": name, "code": code} for name, code in pairs]
-        elif said["name"] in refusals or not place.get("among"):
-            found.append(said)
-    return found
+def lacking(text: str, left_out: set[int], names: dict[int, str] = NAMES) -> list[str]:
+    """The refusals of which a text has neither the name nor the code in a call."""
+    calls = {code: rf"\b{name}\b|\b[Rr]efused\({code}\b" for code, name in names.items()}
+    lacks = (code for code in names.keys() - left_out if not re.search(calls[code], text))
+    return sorted(names[code] for code in lacks)
 
 
-def faults(text: str, place: dict[str, Any], refusals: Refusals = REFUSALS) -> list[str]:
-    """What a place lacks, and what it says otherwise."""
-    found, lacks = listed(text, place, refusals), set(place.get("lacks", ()))
-    names = {said["name"] for said in found}
-    wrong = [f"{name} is missing" for name in refusals.keys() - names - lacks]
-    wrong += [f"{name} is listed, and the table says that it isn't" for name in lacks & names]
-    wrong += [f"{name} is no refusal" for name in names - refusals.keys()]
-    for said in found:
-        known = refusals.get(said["name"], {})
-        for what in ("code", "status"):
-            if what in said and what in known and int(said[what]) != known[what]:
-                wrong.append(f"{said} has another {what}")
-        if "keys" in said and re.findall(r'"(\w+)"', said["keys"]) != known.get("keys"):
-            wrong.append(f"{said} has other keys")
-    return wrong
+@pytest.mark.parametrize("name", BY_HAND)
+def test_list(name: str) -> None:
+    text, left_out = (TOP / name).read_text(), BY_HAND[name]
+    assert lacking(text, left_out) == []
+    assert lacking(text, left_out, NEW) == ["Unheard"], "control: a new refusal"
+    for code in NAMES.keys() - left_out:
+        without = re.sub(rf"\b{NAMES[code]}\b|\b[Rr]efused\({code}\b", "x", text)
+        assert lacking(without, left_out) == [NAMES[code]], "control"
 
 
-@pytest.mark.parametrize("place", TABLE["place"], ids=[place["path"] for place in TABLE["place"]])
-def test_place(place: dict[str, Any]) -> None:
-    text = (TOP / place["path"]).read_text()
-    assert faults(text, place) == []
-    there = [said["name"] for said in listed(text, place, REFUSALS)]
-    for name in there:
-        assert faults(re.sub(rf"\b{name}\b", "x", text), place), f"control: without {name}"
-    assert faults(text, place, NEW), "control: a new refusal"
-    if any("code" in said for said in listed(text, place, REFUSALS)):
-        moved = {**REFUSALS, there[0]: {**REFUSALS[there[0]], "code": 99}}
-        assert faults(text, place, moved), "control: another code"
+def codes_in(text: str) -> dict[int, str]:
+    pairs = re.findall(r"Refusal::(\w+)(?:\([_, ]+\))? => (\d+),", text)
+    return {int(code): name for name, code in pairs}
 
 
-def is_of(text: str, span: dict[str, Any], refusals: Refusals = REFUSALS) -> bool:
-    """Whether a span begins and ends with the first and the last code."""
-    codes = sorted(refusal["code"] for refusal in refusals.values())
-    found = [tuple(map(int, pair)) for pair in re.findall(span["pattern"], text)]
-    return bool(found) and all(pair == (codes[0], codes[-1]) for pair in found)
+def test_codes() -> None:
+    """The table has the program's names and codes, and no others."""
+    text = (TOP / "crates/ee_desk_model/src/refusals.rt").read_text()
+    assert codes_in(text) == NAMES
+    assert f"{min(NAMES)} to {max(NAMES)}" in text
+    assert codes_in(text.replace("=> 44,", "=> 45,")) != NAMES, "control: another code"
 
 
-@pytest.mark.parametrize("span", TABLE["span"], ids=[span["path"] for span in TABLE["span"]])
-def test_span(span: dict[str, Any]) -> None:
-    text = (TOP / span["path"]).read_text()
-    assert is_of(text, span)
-    assert not is_of(text, span, NEW), "control: a new last code"
+def written(top: Path) -> tuple[int, list[str]]:
+    ran = subprocess.run([top / WRITER, "--check"], capture_output=True, text=True)
+    return ran.returncode, ran.stdout.splitlines()
 
 
-def unknown_places(known: set[str]) -> list[str]:
-    found = []
-    for name in files():
-        if "/proofs/" not in name and "/must-fail/" not in name and name not in known | REST:
-            text = (TOP / name).read_text(errors="replace")
-            if sum(bool(re.search(rf"\b{refusal}\b", text)) for refusal in REFUSALS) >= MANY:
-                found.append(name)
-    return found
+def test_written_lists(folder: Path) -> None:
+    assert written(TOP) == (0, ["all lists are those of docs/openapi.json"])
+    for name in (WRITER, TABLE, *BY_WRITER):
+        (folder / name).parent.mkdir(parents=True, exist_ok=True)
+        shutil.copy(TOP / name, folder / name)
+    text = (TOP / TABLE).read_text()
+    other = text.replace('      "DayFull": {\n        "type"', '      "Full": {\n        "type"')
+    assert other != text
+    (folder / TABLE).write_text(other)
+    assert written(folder)[0] == 1 and sorted(written(folder)[1]) == sorted(BY_WRITER), "control"
 
 
-def test_all_places_are_known() -> None:
-    known = {place["path"] for place in TABLE["place"]}
-    assert unknown_places(known) == []
-    assert unknown_places(known - {"docs/STATUSES.md"}) == ["docs/STATUSES.md"], "control"
+def unknown_lists(known: set[str]) -> list[str]:
+    """Files that name many refusals, and that no list of this file names."""
+    patterns = [re.compile(rf"\b{name}\b") for name in NAMES.values()]
+    others = [name for name in files() if not re.search("/proofs/|/must-fail/", name)]
+    texts = {name: (TOP / name).read_text(errors="replace") for name in others if name not in known}
+    return [
+        name for name in texts if sum(bool(one.search(texts[name])) for one in patterns) >= MANY
+    ]
+
+
+def test_all_lists_are_known() -> None:
+    uses = {"clients/python/src/ee_counter_client/counter.py"}
+    known = {TABLE, *BY_HAND, *BY_WRITER, *uses}
+    assert unknown_lists(known) == []
+    assert unknown_lists(known - {"docs/STATUSES.md"}) == ["docs/STATUSES.md"], "control"

@@ -20,6 +20,7 @@ MONEY = re.compile(r"(0|[1-9][0-9]*)\.([0-9][0-9])", re.ASCII)
 
 # Every refusal by its code: its name, and what it names beside it (docs/FORMATS.md, "The text of a reply").
 REFUSALS = {
+    # the refusals: .ci/refusals
     10: ("NumberReused", ()),
     11: ("Empty", ()),
     12: ("TooMany", ()),
@@ -40,6 +41,7 @@ REFUSALS = {
     52: ("AlreadyPaid", ("serial", "ticket")),
     53: ("NotIssued", ("serial",)),
     54: ("NotEligible", ("serial",)),
+    # the end of the refusals
 }
 
 # docs/FORMATS.md, "The canonical text of an act". A row names a rate of extended maturity and a coowner, or neither.

@@ -11,6 +11,7 @@ import re
 from typing import Any, BinaryIO, Iterator, NamedTuple, Optional
 
 REFUSALS = {
+    # the refusals: .ci/refusals
     10: "NumberReused",
     11: "Empty",
     12: "TooMany",
@@ -31,6 +32,7 @@ REFUSALS = {
     52: "AlreadyPaid",
     53: "NotIssued",
     54: "NotEligible",
+    # the end of the refusals
 }
 FAULTS = {
     60: "BadHead",

@@ -3,6 +3,7 @@ the rows that a store then has. Values are those of tests/shared/exact.py. It sh
 the program."""
 import copy
 import json
+from pathlib import Path
 from typing import Any, Iterable, Mapping, Sequence, TypedDict
 
 from .. import exact
@@ -32,11 +33,10 @@ class Ticket(TypedDict):
 
 
 MOST_ROWS, MOST_SERIALS, MOST_TICKETS = 500, 100, 1_000
-NAMES = {10: "NumberReused", 11: "Empty", 12: "TooMany", 13: "Repeated", 14: "SameCoowner"}
-NAMES |= {20: "NotAnnouncementMonth", 21: "RateConflict", 30: "NoRate", 31: "SerialConflict"}
-NAMES |= {40: "DayOpen", 41: "DayNotLater", 42: "NoOpenDay", 43: "DayIsOther", 44: "DayFull"}
-NAMES |= {50: "UnknownSerial", 51: "NotPayee", 52: "AlreadyPaid", 53: "NotIssued"}
-NAMES |= {54: "NotEligible"}
+API = json.loads((Path(__file__).parents[3] / "docs/openapi.json").read_text())
+SCHEMAS = API["components"]["schemas"].items()
+#: The name of each refusal by its code.
+NAMES = {one["properties"]["code"]["const"]: name for name, one in SCHEMAS if "x-remedy" in one}
 NOTES = {exact.PLAIN: "", exact.NI: "NI", exact.NE: "NE", exact.P5: "P5", exact.MA: "MA"}
 COLUMNS = "<13 <6 >6 <7 <7 <7 >12 >14 >6 >14".split()
 HEADINGS = "Serial Series Denom Issued Next Final Price Interest Rate Value".split()

@@ -22,7 +22,6 @@ library only, and a system with flock. `python3 -m ee_counter_client --help` lis
 from .asynchronous import AsyncCounter
 from .counter import Counter
 from .errors import (
-    AlreadyPaid,
     BadArchive,
     BadCall,
     BadFile,
@@ -32,11 +31,6 @@ from .errors import (
     CertificateRefused,
     Closed,
     CounterError,
-    DayFull,
-    DayIsOther,
-    DayNotLater,
-    DayOpen,
-    Empty,
     Fault,
     FileFailed,
     Forbidden,
@@ -46,26 +40,13 @@ from .errors import (
     JournalInUse,
     KeyReused,
     NoAnswer,
-    NoOpenDay,
-    NoRate,
     NoReply,
-    NotAnnouncementMonth,
-    NotEligible,
-    NotIssued,
-    NotPayee,
     NotReady,
-    RateConflict,
-    RateUnsettled,
     Refused,
-    Repeated,
     Retryable,
-    SameCoowner,
-    SerialConflict,
     StillOpen,
-    TooMany,
     UnknownHost,
     UnknownOutcome,
-    UnknownSerial,
     UntrustedCertificate,
     WrongSetup,
 )
@@ -94,7 +75,6 @@ from .version import __version__
 __all__ = [
     "Abandoned",
     "Added",
-    "AlreadyPaid",
     "AsyncCounter",
     "BadArchive",
     "BadCall",
@@ -108,11 +88,6 @@ __all__ = [
     "Closed",
     "Counter",
     "CounterError",
-    "DayFull",
-    "DayIsOther",
-    "DayNotLater",
-    "DayOpen",
-    "Empty",
     "Fault",
     "FileFailed",
     "Finished",
@@ -127,36 +102,23 @@ __all__ = [
     "Lookups",
     "Month",
     "NoAnswer",
-    "NoOpenDay",
-    "NoRate",
     "NoReply",
-    "NotAnnouncementMonth",
-    "NotEligible",
-    "NotIssued",
-    "NotPayee",
     "NotReady",
     "Opened",
     "Paid",
     "Pool",
-    "RateConflict",
-    "RateUnsettled",
     "Rates",
     "Refused",
     "Registered",
-    "Repeated",
     "Request",
     "Retryable",
     "Row",
-    "SameCoowner",
-    "SerialConflict",
     "Settlement",
     "Sheet",
     "StillOpen",
     "Ticket",
-    "TooMany",
     "UnknownHost",
     "UnknownOutcome",
-    "UnknownSerial",
     "UntrustedCertificate",
     "WrongSetup",
     "__version__",
@@ -169,3 +131,17 @@ __all__ = [
     "register",
     "settlement_of_day",
 ]
+
+# the refusals: .ci/refusals
+from .errors import AlreadyPaid, DayFull, DayIsOther, DayNotLater
+from .errors import DayOpen, Empty, NoOpenDay, NoRate
+from .errors import NotAnnouncementMonth, NotEligible, NotIssued, NotPayee
+from .errors import RateConflict, RateUnsettled, Repeated, SameCoowner
+from .errors import SerialConflict, TooMany, UnknownSerial
+
+__all__ += ["AlreadyPaid", "DayFull", "DayIsOther", "DayNotLater"]
+__all__ += ["DayOpen", "Empty", "NoOpenDay", "NoRate"]
+__all__ += ["NotAnnouncementMonth", "NotEligible", "NotIssued", "NotPayee"]
+__all__ += ["RateConflict", "RateUnsettled", "Repeated", "SameCoowner"]
+__all__ += ["SerialConflict", "TooMany", "UnknownSerial"]
+# the end of the refusals

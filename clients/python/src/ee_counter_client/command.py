@@ -9,7 +9,6 @@ from typing import Callable, Optional, Sequence, Tuple, Union
 from .answers import compact
 from .counter import Counter
 from .errors import (
-    REMEDIES,
     BadCall,
     CounterError,
     Fault,
@@ -384,9 +383,8 @@ def entry_of(error: CounterError) -> str:
 
 def second_of(refusal: Refused) -> str:
     """The second line of a refusal: what to do."""
-    remedy = REMEDIES.get(refusal.code)
     again = "nothing was changed, and a corrected request gets a new number"
-    return again if remedy is None else f"{remedy}; {again}"
+    return f"{refusal.remedy}; {again}" if refusal.remedy else again
 
 
 def status_of(error: CounterError) -> int:

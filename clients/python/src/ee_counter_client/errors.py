@@ -257,15 +257,27 @@ class StillOpen(UnknownOutcome):
 # ---- refusals
 
 
+#: The class of every code.
+REFUSALS: Dict[int, Type["Refused"]] = {}
+
+
 class Refused(CounterError):
     """The counter refused the request, and nothing was changed. The refusal is the request's reply for good; a corrected request gets a new number.
 
-    `code` is from 10 to 54, `name` its name, `details` what it names, `reply` the counter's own JSON object. If a file was being registered, `rows` has the first and
-    last row of the request, and `line` the line of the bond that the refusal names. A code that this version doesn't know is a plain Refused.
+    `code` is its code, `name` its name, `details` what it names, `reply` the counter's own JSON object. If a file was being registered, `rows` has the first and last
+    row of the request, and `line` the line of the bond that the refusal names. A code that this version doesn't know is a plain Refused. This package refuses what would
+    be Empty or TooMany by BadValue before it is sent.
     """
 
+    code: int = 0
+    #: What to do. Empty for a plain Refused.
+    remedy: str = ""
     #: The keys of the reply beside its code and name, with their types.
     keys: Tuple[Tuple[str, Type[object]], ...] = ()
+
+    def __init_subclass__(cls) -> None:
+        if cls.code:
+            REFUSALS.setdefault(cls.code, cls)
 
     def __init__(self, reply: Mapping[str, Any], request: Optional["Request"] = None) -> None:
         self.reply: Dict[str, Any] = dict(reply)
@@ -307,79 +319,8 @@ class OfMonth(Refused):
         return str(self.details["month"])
 
 
-class Empty(Refused):
-    """Code 11: the list has no rows or serial numbers. This package refuses it by BadValue before it is sent."""
-
-
-class TooMany(Refused):
-    """Code 12: more than 500 rows or 100 serial numbers. This package refuses it by BadValue before it is sent."""
-
-
-class Repeated(OfSerial):
-    """Code 13: the serial number stands twice in the request."""
-
-
-class SameCoowner(OfSerial):
-    """Code 14: owner and coowner are one customer."""
-
-
-class NotAnnouncementMonth(OfMonth):
-    """Code 20: rates hold from a May or November."""
-
-
-class RateConflict(OfMonth):
-    """Code 21: that month has other rates already."""
-
-
-class RateUnsettled(Refused):
-    """Code 22: the values under these rates can't be settled to the cent. `age` is the least age, in months."""
-
-    keys = (("month", int),)
-
-    @property
-    def age(self) -> int:
-        """The least age in months at which a value can't be settled."""
-        return int(self.details["month"])
-
-
-class NoRate(OfSerial):
-    """Code 30: no rates are entered for the issue month of the bond."""
-
-
-class SerialConflict(OfSerial):
-    """Code 31: the serial number is registered with other content."""
-
-
-class DayOpen(Refused):
-    """Code 40: a day is open. Close it first."""
-
-
-class DayNotLater(Refused):
-    """Code 41: a day opens once, and days rise."""
-
-
-class NoOpenDay(Refused):
-    """Code 42: no day is open."""
-
-
-class DayIsOther(Refused):
-    """Code 43: another day is open."""
-
-
-class DayFull(Refused):
-    """Code 44: the day has its 1,000 tickets."""
-
-
-class UnknownSerial(OfSerial):
-    """Code 50: the bond isn't registered."""
-
-
-class NotPayee(OfSerial):
-    """Code 51: the payee is neither owner nor coowner of the bond."""
-
-
-class AlreadyPaid(OfSerial):
-    """Code 52: the bond was paid, on `ticket`."""
+class OfTicket(OfSerial):
+    """A refusal that names a bond, and the ticket that paid it as `ticket`."""
 
     keys = (("serial", str), ("ticket", int))
 
@@ -389,60 +330,154 @@ class AlreadyPaid(OfSerial):
         return int(self.details["ticket"])
 
 
+class OfAge(Refused):
+    """A refusal that names an age, as `age`."""
+
+    keys = (("month", int),)
+
+    @property
+    def age(self) -> int:
+        """The least age in months at which a value can't be settled."""
+        return int(self.details["month"])
+
+
+# the refusals: .ci/refusals
+
+
+class Empty(Refused):
+    """Code 11: the list has no rows or serial numbers."""
+
+    code = 11
+    remedy = "send rows or serial numbers"
+
+
+class TooMany(Refused):
+    """Code 12: the list has more than 500 rows or 100 serial numbers."""
+
+    code = 12
+    remedy = "send at most 500 rows, or 100 serial numbers, in one request"
+
+
+class Repeated(OfSerial):
+    """Code 13: the serial number stands twice in the request."""
+
+    code = 13
+    remedy = "name each serial number once"
+
+
+class SameCoowner(OfSerial):
+    """Code 14: owner and coowner are one customer."""
+
+    code = 14
+    remedy = "name another coowner than the owner, or none"
+
+
+class NotAnnouncementMonth(OfMonth):
+    """Code 20: rates hold from a May or November."""
+
+    code = 20
+    remedy = "rates hold from a May or November: correct the month"
+
+
+class RateConflict(OfMonth):
+    """Code 21: other terms are entered from that month already."""
+
+    code = 21
+    remedy = "entered rates can't be changed: compare them with Treasury's announcement"
+
+
+class RateUnsettled(OfAge):
+    """Code 22: the values under these terms can't be settled to the cent. `month` is the least age, in months."""
+
+    code = 22
+    remedy = "compare the rates with Treasury's announcement: these settle no value to the cent"
+
+
+class NoRate(OfSerial):
+    """Code 30: there are no rates for the issue month of the bond."""
+
+    code = 30
+    remedy = "enter the rates of the issue month first"
+
+
+class SerialConflict(OfSerial):
+    """Code 31: the serial number is registered with other content."""
+
+    code = 31
+    remedy = "a registered bond can't be changed: compare it with the paper"
+
+
+class DayOpen(Refused):
+    """Code 40: a day is open already."""
+
+    code = 40
+    remedy = "close the open day first"
+
+
+class DayNotLater(Refused):
+    """Code 41: a day opens once, and days rise."""
+
+    code = 41
+    remedy = "open a later day: a day opens once, and days rise"
+
+
+class NoOpenDay(Refused):
+    """Code 42: no day is open."""
+
+    code = 42
+    remedy = "open the day first"
+
+
+class DayIsOther(Refused):
+    """Code 43: another day is open."""
+
+    code = 43
+    remedy = "name the day that is open"
+
+
+class DayFull(Refused):
+    """Code 44: the day has its 1,000 tickets."""
+
+    code = 44
+    remedy = "close the day, and pay on a later one: it has its 1,000 tickets"
+
+
+class UnknownSerial(OfSerial):
+    """Code 50: the bond isn't registered."""
+
+    code = 50
+    remedy = "compare the serial number with the paper; if it is right, register the bond first"
+
+
+class NotPayee(OfSerial):
+    """Code 51: the payee is neither owner nor coowner of the bond."""
+
+    code = 51
+    remedy = "compare the payee with the register: only the owner or the coowner is paid"
+
+
+class AlreadyPaid(OfTicket):
+    """Code 52: the bond was paid, on `ticket`."""
+
+    code = 52
+    remedy = "don't pay it again: look at the ticket that paid it"
+
+
 class NotIssued(OfSerial):
     """Code 53: the bond isn't issued yet in the month of the open day."""
+
+    code = 53
+    remedy = "compare the issue month with the paper: the bond isn't issued yet"
 
 
 class NotEligible(OfSerial):
     """Code 54: the bond is younger than 12 months."""
 
-
-#: The class of every code.
-REFUSALS: Dict[int, Type[Refused]] = {
-    11: Empty,
-    12: TooMany,
-    13: Repeated,
-    14: SameCoowner,
-    20: NotAnnouncementMonth,
-    21: RateConflict,
-    22: RateUnsettled,
-    30: NoRate,
-    31: SerialConflict,
-    40: DayOpen,
-    41: DayNotLater,
-    42: NoOpenDay,
-    43: DayIsOther,
-    44: DayFull,
-    50: UnknownSerial,
-    51: NotPayee,
-    52: AlreadyPaid,
-    53: NotIssued,
-    54: NotEligible,
-}
+    code = 54
+    remedy = "pay it from 12 months after its issue month on"
 
 
-#: What to do after a refusal, by its code.
-REMEDIES: Dict[int, str] = {
-    11: "send rows or serial numbers",
-    12: "send at most 500 rows, or 100 serial numbers, in one request",
-    13: "name each serial number once",
-    14: "name another coowner than the owner, or none",
-    20: "rates hold from a May or November: correct the month",
-    21: "entered rates can't be changed: compare them with Treasury's announcement",
-    22: "compare the rates with Treasury's announcement: these settle no value to the cent",
-    30: "enter the rates of the issue month first",
-    31: "a registered bond can't be changed: compare it with the paper",
-    40: "close the open day first",
-    41: "open a later day: a day opens once, and days rise",
-    42: "open the day first",
-    43: "name the day that is open",
-    44: "close the day, and pay on a later one: it has its 1,000 tickets",
-    50: "compare the serial number with the paper; if it is right, register the bond first",
-    51: "compare the payee with the register: only the owner or the coowner is paid",
-    52: "don't pay it again: look at the ticket that paid it",
-    53: "compare the issue month with the paper: the bond isn't issued yet",
-    54: "pay it from 12 months after its issue month on",
-}
+# the end of the refusals
 
 
 def refusal_of(reply: Mapping[str, Any], request: Optional["Request"] = None) -> Refused:
