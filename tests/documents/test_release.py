@@ -12,7 +12,7 @@ import pytest
 from tests.fence.conftest import blocks
 from tests.fence.fresh import bootstrap
 from tests.samples.books import script
-from tests.samples.releases import Tree, end_keys, fingerprint, library_in, make_key
+from tests.samples.releases import QUICKLY, Tree, end_keys, fingerprint, library_in, make_key
 from tests.shared.counter_calls import done, run
 
 pytestmark = pytest.mark.needs("dh", "esbuild", "fakeroot", "gpg", "cc", "git")
@@ -36,7 +36,7 @@ class Owner:
 
     def run(self, *words: object) -> tuple[int, str]:
         path = f"{self.folder / 'bin'}:{os.environ['PATH']}"
-        env = {**os.environ, **GIT, "PATH": path, "GNUPGHOME": str(self.home)}
+        env = {**os.environ, **GIT, **QUICKLY, "PATH": path, "GNUPGHOME": str(self.home)}
         ran = run(sys.executable, *map(str, words), env=env)
         return ran.returncode, ran.stdout
 
@@ -62,6 +62,7 @@ def owner(program: Path, folder: Path) -> Iterator[Owner]:
     tree.commit("the repository")
     tree.build_library()
     (folder / "printed").write_text(tree.printed_by_rt())
+    (folder / "gate.log").write_text(tree.gate_log())
     script(folder / "bin/rt", RT.format(folder=folder, program=program))
     make_key(home, "owner")
     yield Owner(folder, tree.path, home)
@@ -69,18 +70,23 @@ def owner(program: Path, folder: Path) -> Iterator[Owner]:
 
 
 def test_a_release_is_verified_and_tagged(owner: Owner) -> None:
-    """A second run takes the verdict of the log. Controls: no log, and a package with a byte more."""
+    """Control: the verifier refuses the release with a byte more."""
     status, said = owner.release("release")
     assert (status, owner.is_verified("release")) == (0, True), said
     assert [tag[:1] for tag in owner.tags()] == ["v"]
     assert not (owner.folder / "release.part").exists()
+    with open(next((owner.folder / "release").glob("ladwenpik_*.deb")), "ab") as file:
+        file.write(b"\n")
+    assert not owner.is_verified("release")
+
+
+def test_a_second_run_takes_the_verdict(owner: Owner) -> None:
+    """Control: without the log it would prove again."""
+    done(owner.folder / "bin/rt", "ci", "--anew", cwd=owner.tree)
     script(owner.folder / "bin/rt", "#!/bin/sh\nexit 1\n")
-    status, said = owner.release("again", "--log", owner.folder / "release.log")
+    status, said = owner.release("again", "--log", owner.folder / "gate.log")
     assert (status, owner.is_verified("again")) == (0, True), said
     assert owner.release("third")[0] == 1
-    with open(next((owner.folder / "again").glob("ladwenpik_*.deb")), "ab") as file:
-        file.write(b"\n")
-    assert not owner.is_verified("again")
 
 
 def test_no_release_is_left(owner: Owner) -> None:
