@@ -76,9 +76,9 @@ class Passing:
         self.ear.bind(str(self.at))
         self.ear.listen(4096)
         # The socket is the first that a service of systemd is handed: its file 3.
-        line = f"exec 3<&{self.ear.fileno()}; LISTEN_FDS=1 LISTEN_PID=$$ exec {' '.join(network.words)} {start} 127.0.0.1:{port}"
-        files, null = [self.ear.fileno()], subprocess.DEVNULL
-        self.process = subprocess.Popen(["sh", "-c", line], pass_fds=files, stderr=null)
+        line = f"exec 3<&0; LISTEN_FDS=1 LISTEN_PID=$$ exec {' '.join(network.words)} {start} 127.0.0.1:{port}"
+        null = subprocess.DEVNULL
+        self.process = subprocess.Popen(["sh", "-c", line], stdin=self.ear.fileno(), stderr=null)
 
     def end(self) -> None:
         end(self.process)
@@ -102,7 +102,8 @@ def stalled(site: Site, process: int) -> tuple[Count[int], float]:
     with ThreadPoolExecutor(TELLERS) as pool:
         tellers = [pool.submit(teller, nth) for nth in range(TELLERS)]
         begun.wait()
-        time.sleep(STALL)
+        # On a busy machine the tellers come later.
+        time.sleep(STALL * max(1, os.getloadavg()[0] / (os.cpu_count() or 1)))
         os.kill(process, signal.SIGCONT)
         answers = [answer for one in tellers for answer in one.result()]
     statuses, took = Count(status for status, _ in answers), sorted(one for _, one in answers)
