@@ -17,25 +17,9 @@ from hypothesis.stateful import run_state_machine_as_test
 
 from tests.client_machine.conftest import NewPage
 from tests.client_machine.counter import Fate
-from tests.client_machine.machine import (
-    ANSWERED,
-    DONE,
-    FAULT,
-    GO_ON,
-    KILLED,
-    NOT_DONE,
-    NOTHING,
-    REFUSED,
-    SEND,
-    SHOW,
-    SUBMIT,
-    WAIT,
-    WRITE,
-    WRITTEN,
-    Event,
-    Library,
-    Record,
-)
+from tests.client_machine.machine import ANSWERED, DONE, FAULT, GO_ON, KILLED, NOT_DONE, NOTHING
+from tests.client_machine.machine import REFUSED, SEND, SHOW, SUBMIT, WAIT, WRITE, WRITTEN, Event
+from tests.client_machine.machine import Library, Record
 from tests.client_machine.page_client import MOST, PageClient
 from tests.client_machine.python_client import PythonClient, package
 from tests.conftest import TOP

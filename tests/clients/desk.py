@@ -23,6 +23,8 @@ from tests.conftest import TOP
 from tests.shared.counter_calls import end, free_port, serve
 
 DAY = "2012-02-06"
+#: What is broken for a control; None without one.
+Part = ContextManager[object] | None
 #: What a server does with a connection.
 Serving = Callable[[socket.socket], None]
 #: The environment of a program that uses the client's sources.

@@ -11,20 +11,9 @@ from tests.clients.conftest import NewPage
 
 pytest.importorskip("selenium")
 from tests.browser.browser import Keys
-from tests.browser.measures import (
-    box,
-    broken_cells,
-    broken_words,
-    covered,
-    edges_of_a_column,
-    first_cells,
-    in_window,
-    lines_of_a_bond,
-    meeting_cells,
-    scroll,
-    unseen_acts,
-    whole_bonds,
-)
+from tests.browser.measures import box, broken_cells, broken_words, covered, edges_of_a_column
+from tests.browser.measures import first_cells, in_window, lines_of_a_bond, meeting_cells, scroll
+from tests.browser.measures import unseen_acts, whole_bonds
 from tests.browser.page import DOUBT, VALUES, Page, dollars
 from tests.browser.rules import BREAKS, HELPERS, RULES, broken, least_contrast
 

@@ -5,7 +5,7 @@ import os
 import random
 import socket
 import time
-from typing import Any, Callable, ContextManager
+from typing import Any, Callable
 from unittest import mock
 
 import pytest
@@ -16,9 +16,7 @@ import ee_counter_client.journal as journal_module
 import ee_counter_client.lookups as lookups_module
 import ee_counter_client.way as way
 from ee_counter_client.testing import ENDING, FAULTS, OF_ONE_SENDING, gate
-from tests.clients.desk import DAY, Desk, controls, encrypted, holds_not, listening, within
-
-Part = ContextManager[object] | None
+from tests.clients.desk import DAY, Desk, Part, controls, encrypted, holds_not, listening, within
 
 
 def paid_number(ticket: client.Ticket) -> tuple[int, int]:

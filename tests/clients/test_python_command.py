@@ -8,7 +8,7 @@ import shlex
 import sys
 import tomllib
 from pathlib import Path
-from typing import Any, Callable, ContextManager, Iterator
+from typing import Any, Callable, Iterator
 from unittest import mock
 
 import pytest
@@ -18,14 +18,14 @@ import ee_counter_client.errors as errors
 from ee_counter_client.command import ACTS, LOOK_UPS, second_of
 from ee_counter_client.testing import FakeCounter, Gate, fake as fake_module
 from tests.clients.calculator_data import INVENTORY, SHIPPED, Store
-from tests.clients.desk import DAY, Desk, TrueCounter, bonds_csv, by_process, command, controls
+from tests.clients.desk import DAY, Desk, Part, TrueCounter, bonds_csv
+from tests.clients.desk import by_process, command, controls
 from tests.clients.desk import holds_not, ran
 from tests.conftest import TOP
 from tests.fence.conftest import Counter, MakeSite, counter, site
 from tests.fence.site import Site
 
 __all__ = ["counter", "site"]
-Part = ContextManager[object] | None
 COMMANDS = [one[:3] for one in (*ACTS, *LOOK_UPS)]
 
 

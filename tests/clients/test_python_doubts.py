@@ -2,7 +2,7 @@
 
 import contextlib
 import datetime
-from typing import Callable, ContextManager, Iterator
+from typing import Callable, Iterator
 from unittest import mock
 
 import pytest
@@ -10,9 +10,8 @@ import pytest
 import ee_counter_client as client
 import ee_counter_client.plausible as plausible
 from ee_counter_client.testing import FakeCounter
-from tests.clients.desk import Desk, bonds_csv, command, controls, holds_not, within
+from tests.clients.desk import Desk, Part, bonds_csv, command, controls, holds_not, within
 
-Part = ContextManager[object] | None
 #: The letters of paper bonds, from $50 to $10,000.
 LETTERS = {"L": 50, "K": 75, "C": 100, "R": 200, "D": 500, "M": 1000, "V": 5000, "X": 10000}
 TODAY = datetime.date(2026, 11, 27)

@@ -8,7 +8,7 @@ import json
 import re
 from decimal import Decimal
 from pathlib import Path
-from typing import Any, Callable, ContextManager, Iterable, Iterator
+from typing import Any, Callable, Iterable, Iterator
 from unittest import mock
 
 import pytest
@@ -16,12 +16,11 @@ import pytest
 import ee_counter_client as client
 import ee_counter_client.interest as interest_module
 from ee_counter_client.testing import FakeCounter, Gate
-from tests.clients.desk import Desk, TrueCounter, bonds_csv, by_process, command, controls
+from tests.clients.desk import Desk, Part, TrueCounter, bonds_csv, by_process, command, controls
 from tests.clients.desk import holds_not, ran
 from tests.conftest import TOP
 from tests.shared import exact
 
-Part = ContextManager[object] | None
 HEADER = "day,ticket,payee,serial,denom,issued,price,interest,value\n"
 #: Each denomination, with issue months in several periods: younger and older than 5 years, and older than 20 years at the last day.
 ROWS = """L1EE,50,2010-11,7, K1EE,75,2010-10,7,8 C1EE,100,2005-05,7, R1EE,200,2006-11,8,

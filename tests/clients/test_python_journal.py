@@ -21,10 +21,9 @@ import ee_counter_client.counter as counter_module
 from ee_counter_client.archive import Archive
 from ee_counter_client.journal import Journal, Keys
 from ee_counter_client.testing import fake as fake_module
-from tests.clients.desk import DAY, Desk, controls, holds_not, within
+from tests.clients.desk import DAY, Desk, Part, controls, holds_not, within
 from tests.clients.interruptions import Failing, Interrupt, moments_of
 
-Part = ContextManager[object] | None
 #: Locks that keep nobody out.
 LOCKLESS = types.SimpleNamespace(RLock=mock.MagicMock)
 

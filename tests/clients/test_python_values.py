@@ -23,9 +23,8 @@ import ee_counter_client.counter as counter_module
 import ee_counter_client.errors as errors
 import ee_counter_client.lookups as lookups_module
 import ee_counter_client.way as way
-from tests.clients.desk import DAY, OWN, Desk, controls, holds_not, listening, ran
+from tests.clients.desk import DAY, OWN, Desk, Part, controls, holds_not, listening, ran
 
-Part = ContextManager[object] | None
 CLASSES = [one for name in client.__all__ if isinstance(one := getattr(client, name), type)]
 KINDS = [kind for kind in CLASSES if issubclass(kind, client.CounterError)]
 BRANCHES: list[type[client.CounterError]] = [client.BadCall, client.WrongSetup, client.Retryable]

@@ -85,7 +85,7 @@ def test_nothing_else_is_there(recorded: RecordedSite) -> None:
 
 Header = Mapping[str, str]
 CHUNKED = {"Transfer-Encoding": "chunked"}
-LONG, WHOLE = "x" * 5000, "x" * 20_000
+LONG = "x" * 5000
 #: What is sent, and how nginx answers: status and name.
 NAMED: list[tuple[str, str, Header, bytes, int, str]] = [
     ("anna", "GET /ticket/1 HTTP/1.1", {"Host": ""}, b"", 400, "request"),

@@ -17,7 +17,6 @@ pytestmark = [pytest.mark.root, pytest.mark.machine, pytest.mark.slow]
 
 #: The steps of docs/UPGRADE.md. The archive's lines need its disks.
 STEPS = ("1. Stop", "2. Copy", "3. Install", "4. Try the new program on a copy", "5. Resume")
-NEW_TICKET = '{"desk":999,"number":90,"day":"2026-12-01","payee":9,"serials":["R6EE"]}'
 #: A local user who listens where the counter of e30226db listened.
 IMPOSTOR = """
 import socket

@@ -16,8 +16,6 @@ from tests.shared.counter_calls import end, free_port, get, post, rows, serve
 RESTORE = TOP / "samples" / "restore"
 BONDS = 600
 OPENING = post("/day/open", {"number": 1_000_000, "day": day_text(0)}, b"")
-#: The requests before the first payment.
-BEGUN = 4
 Tables = dict[str, list[tuple[Any, ...]]]
 Ran = subprocess.CompletedProcess[str]
 
