@@ -64,6 +64,8 @@ def lose_and_restore(bank: Bank) -> float:
 def test_lost_disk(logged: Bank, dice: random.Random) -> None:
     """The disk is lost MOMENTS times under load. The page's commands restore every reply, and the counter serves."""
     load, seconds = logged.load, list[float]()
+    # The archiver takes a turn every five seconds: it has what no log has.
+    time.sleep(12)
     load.start()
     for _ in range(int(os.environ.get("MOMENTS", "5"))):
         time.sleep(dice.uniform(0.5, 3))
