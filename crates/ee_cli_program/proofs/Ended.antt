@@ -14,9 +14,11 @@ use Rattle.ee_cli_actions.specs.declared.faults.Outcome.{Outcome}
 use Rattle.ee_cli_actions.specs.declared.faults.Outcome.TheVariants as outcome
 use Rattle.ee_cli_actions.specs.declared.faults.RunFault.{RunFault}
 use Rattle.ee_cli_commands.specs.CommandLine.{Asked, value}
-use Rattle.ee_cli_commands.specs.Answer.{IsAsked, IsRefused}
-use Rattle.ee_cli_commands.proofs.Lemmas.{asks_for_help_alone, asks_for_version_alone, asks_for_one, asks_unrefused}
-use Rattle.ee_cli_program.specs.Statuses.{AsksToShow, Carries, Ends, IsRun, IsStatusFor, IsStatusOf, Refuses, ending_of_print}
+use Rattle.ee_cli_commands.specs.declared.commands.CommandFault.{CommandFault}
+use Rattle.ee_cli_commands.specs.declared.commands.CommandFault.TheVariants as fault
+use Rattle.ee_cli_commands.specs.Answer.{AsksForVersion, IsAnswer, IsAsked, IsRefused}
+use Rattle.ee_cli_commands.proofs.Lemmas.{asks_for_help_alone, asks_for_version_alone, asks_for_one, asks_unrefused, never_asks_for_both}
+use Rattle.ee_cli_program.specs.Statuses.{AsksToShow, Carries, Ends, IsAnswered, IsRun, IsStatusFor, IsStatusOf, Refuses, ending_of_print, version_line}
 
 -- ---- the words determine what they ask for
 
@@ -154,6 +156,26 @@ pub refused_line : (words : List Text) (Carried : Asked → Result Outcome RunFa
     → ((name : Text) × IsAsked words (Err name)) ⊎ IsRefused words → (status ≡ 2) ⊎ (status ≡ 3) → IsRun words Carried Unread status
 refused_line words Carried Unread status bad (inl two) = bad_at_two words Carried Unread status bad two
 refused_line words Carried Unread status bad (inr three) = is_failed words Carried Unread status (λ asked is. absurd (nothing_asked words asked bad is)) three
+
+-- ---- words that ask for no command
+
+-- what a status says of them
+pub answered : (words : List Text) (Carried : Asked → Result Outcome RunFault → Type 0) (Unread : Type 0) (why : CommandFault) (old new : Option (List ℕ)) (status : ℕ)
+    → IsAnswer words (Err why) → (new ≡ old → Unread) → IsAnswered why old new status → IsRun words Carried Unread status
+answered words Carried Unread (fault.Help text) old new status help unread h = shown words Carried Unread status (inl help) h
+answered words Carried Unread fault.Version old new status version unread h = shown words Carried Unread status (inr version) h.0
+answered words Carried Unread (fault.Line text) old new status refused unread h = refused_line words Carried Unread status (inr refused) h
+answered words Carried Unread (fault.Argument name word) old new status bad unread h = refused_line words Carried Unread status (inl (name.now, bad.0)) h
+answered words Carried Unread fault.NoMemory old new status _ unread h = is_failed words Carried Unread status (λ asked is. inr (inr (unread h.1))) h.0
+
+-- of words that ask for the version, status 0 says that its line was printed
+pub version_printed : (words : List Text) (why : CommandFault) (old new : Option (List ℕ)) (status : ℕ)
+    → IsAnswer words (Err why) → IsAnswered why old new status → AsksForVersion words → status ≡ 0 → Appends old new version_line
+version_printed words (fault.Help text) old new status help h version zero = absurd (never_asks_for_both words help version)
+version_printed words fault.Version old new status is h version zero = h.1 zero
+version_printed words (fault.Line text) old new status refused h version zero = absurd (asks_for_version_alone words version refused)
+version_printed words (fault.Argument name word) old new status bad h version zero = absurd (asks_unrefused words _ _ bad.0 version)
+version_printed words fault.NoMemory old new status _ h version zero = absurd (omega (arith, h.0, zero))
 
 -- ---- the value's line
 

@@ -1,5 +1,5 @@
 -- Forms of files other than CSV with commas (this project's rule).
-use Rattle.std.specs.Prelude.{List, [], ◌∷◌, ℕ, ◌==◌, ◌&&◌, ◌||◌, Bool, Option, Some, None, codes, find, if◌then◌else◌}
+use Rattle.std.specs.Prelude.{List, ◌∷◌, ℕ, ◌==◌, ◌&&◌, ◌||◌, Bool, Option, Some, None, codes, find, if◌then◌else◌}
 use Rattle.ee_cli_program.specs.declared.forms.Form.{Form}
 use Rattle.ee_cli_program.specs.declared.forms.Form.TheVariants as form
 

@@ -11,7 +11,7 @@ ghost use Rattle.ee_cli_commands.specs.CommandLine.{Asked, value};
 ghost use Rattle.ee_units.specs.declared.denoms.Denom.{Denom};
 ghost use Rattle.ee_value.specs.Chain.{rates_with};
 ghost use Rattle.ee_keeper.specs.Keeping.{HasAfter};
-ghost use Rattle.ee_cli_program.specs.Statuses.{Carries, HasRun, IsRun, IsStatusOf, version_line};
+ghost use Rattle.ee_cli_program.specs.Statuses.{Carries, HasRun, IsAnswered, IsRun, IsStatusOf, version_line};
 ghost use Rattle.ee_cli_program.specs.Stores.{CarriesOver, IsUntouched, Since};
 
 use crate::carrying::{CarriedOut, carry_out};
@@ -91,26 +91,31 @@ pub fn run_words<H: Host, O: Stores, R: Source + Stream, W: Sink + Stream, E: Wr
                 left,
             }
         }
-        Err(CommandFault::Help(text)) => Ran {
-            status: show(&text, output, faults),
+        Err(fault) => Ran {
+            status: answer_words(host.alloc(), &fault, explains, output, faults),
             left: Left::Given(stores),
         },
-        Err(CommandFault::Version) => Ran {
-            status: show_version(host.alloc(), output, faults),
-            left: Left::Given(stores),
-        },
-        Err(CommandFault::Line(text)) => Ran {
-            status: refuse_line(&text, faults),
-            left: Left::Given(stores),
-        },
-        Err(CommandFault::Argument { name, word }) => Ran {
-            status: refuse_argument(name, word.as_deref(), explains, faults),
-            left: Left::Given(stores),
-        },
-        Err(CommandFault::NoMemory) => Ran {
-            status: refuse_memory(explains, faults),
-            left: Left::Given(stores),
-        },
+    }
+}
+
+// Answers words that ask for no command, and returns the exit status.
+fn answer_words<W: Sink, E: Write>(
+    alloc: Global,
+    fault: &CommandFault,
+    explains: bool,
+    output: &mut W,
+    faults: &mut E,
+) -> u8
+    ensures { IsAnswered fault.now (W.contents output.old) (W.contents output.new) result }
+{
+    match fault {
+        CommandFault::Help(text) => show(text, output, faults),
+        CommandFault::Version => show_version(alloc, output, faults),
+        CommandFault::Line(text) => refuse_line(text, faults),
+        CommandFault::Argument { name, word } => {
+            refuse_argument(name, word.as_deref(), explains, faults)
+        }
+        CommandFault::NoMemory => refuse_memory(explains, faults),
     }
 }
 
