@@ -1,5 +1,6 @@
 """HEADLINE's table names every premise of the law of command lines, and nothing else: they are read from
-what `AccountsForLines` supposes, part by part. `RanLine` stands for what the clauses `line` and `ends` suppose."""
+what `AccountsForLines` supposes, part by part. `RanLine` stands for what the clauses `line` and `ends` suppose, of
+lines that ended (`run_line`) and of those that were cut off (`run_stopped`)."""
 
 import re
 from collections import defaultdict
@@ -9,7 +10,8 @@ import pytest
 from tests.conftest import TOP
 
 BANK, RUNNING, CODE = "specs/Bank.antt", "specs/Running.antt", "src/running.rt"
-TEXTS = {it: (TOP / "crates/ee_cli_stores" / it).read_text() for it in (BANK, RUNNING, CODE)}
+STOPPED = "src/stopping.rt"
+TEXTS = {it: (TOP / "crates/ee_cli_stores" / it).read_text() for it in (BANK, RUNNING, CODE, STOPPED)}
 
 
 def names(statement: str) -> set[str]:
@@ -37,11 +39,13 @@ def premises(texts: dict[str, str]) -> tuple[set[str], set[str]]:
         lines = re.sub(r"^ *--.*\n", "", text, flags=re.M).replace("\n    ", " ")
         for name, meaning in re.findall(r"^ *(\w+)\b.*? = (.*)", lines, re.M):
             meanings[name].append(meaning)
-    line, ends = re.findall(r"ensures (?:line|ends) \{(.*?)\}\n", texts[CODE], re.S)
+    code = texts[CODE] + texts[STOPPED]
+    clauses = re.findall(r"ensures (?:line|ends) \{(.*?)\}\n", code, re.S)
+    assert len(clauses) == 4
+    ran = {name for clause in clauses for name in supposed(clause)}
     seen, waiting = set(), supposed(meanings["AccountsForLines"][0])
     while waiting:
         seen.add(name := waiting.pop())
-        ran = supposed(line) | supposed(ends)
         parts = ran if name == "RanLine" else names(" ".join(meanings.get(name, ())))
         waiting |= parts - seen
     return seen - (meanings.keys() - {"RanLine"}), seen
@@ -61,11 +65,13 @@ def test_table_has_the_premises() -> None:
 @pytest.mark.parametrize(
     "file, before",
     [
-        (BANK, "(lines : List Turn) → "),
-        (BANK, "RanLines held (Cut attempts ∷ lines) found = (next : Image) × "),
+        (BANK, "(lines : List Line) → "),
+        (BANK, "RanLines held (line ∷ lines) found = (next : Image) × "),
         (RUNNING, "MayBeFound held (stores.AtRest files) found = "),
         (CODE, "ensures line { (c : Content) → "),
         (CODE, "ensures ends { (c : Content) → "),
+        (STOPPED, "ensures line { AreSettled D.Disk stores.files → (c : Content) → "),
+        (STOPPED, "ensures ends { AreSettled D.Disk stores.files → (c : Content) → "),
     ],
 )
 def test_another_premise_is_found(file: str, before: str) -> None:

@@ -11,7 +11,7 @@ use Rattle.ee_calculator.specs.declared.sheets.Sheet.{Sheet}
 use Rattle.ee_desk_model.specs.declared.acts.Act.TheVariants as act
 use Rattle.ee_desk_model.specs.declared.replies.Reply.{Reply}
 use Rattle.ee_desk_model.specs.declared.refusals.Unserved.{Unserved}
-use Rattle.ee_desk_model.specs.Numbers.{RequestKey, numbered}
+use Rattle.ee_desk_model.specs.Numbers.{RequestKey}
 use Rattle.ee_desk_model.specs.Repeats.{Content}
 use Rattle.ee_desk_model.specs.Sound.{IsSound}
 use Rattle.ee_desk_model.proofs.Lemmas.Books.{sound_pays_right, sound_conserves, empty_is_sound}
@@ -28,7 +28,7 @@ use Rattle.ee_cli_commands.specs.Answer.{IsAsked}
 use Rattle.ee_cli_commands.proofs.Lemmas.{asks_for_one, asks_unrefused}
 use Rattle.ee_cli_commands.specs.CommandLine.{Asked, value, apply, imports, export, sheet, serve}
 use Rattle.ee_keeper.specs.Keeping.{Shows}
-use Rattle.ee_counter.specs.Filing.{Imports, Exports, Reading, Reads}
+use Rattle.ee_counter.specs.Filing.{Imports, Exports, Reading}
 use Rattle.ee_counter.specs.Serving.{Told, Serves, EndsBy, attempts_by, attempts_by_all, left_by, messages}
 use Rattle.ee_counter.specs.declared.connections.Ended.{Ended}
 use Rattle.ee_counter.specs.declared.connections.Why.{Why}
@@ -46,8 +46,7 @@ use Rattle.ee_cli_program.specs.Statuses.{AsksToShow, IsRun, IsStatusOf}
 use Rattle.ee_cli_program.specs.Stores.{Tries}
 use Rattle.ee_store.specs.History.{BeginsInFiles, HasLeft, HoldHistory, stop_and_reopen}
 use Rattle.ee_store.specs.NextRun.{HoldsContent}
-use Rattle.ee_cli_stores.specs.Bank.{AccountsForLines, AsksForValue, AreOfConnections, AreOfMessages, ArePutBy, IsAccounted, IsOfFile, IsOfRows, Line, PutBy, Puts, RanLine, RanLines, Turn}
-use Rattle.ee_cli_stores.specs.Bank.Turn.{Ended as EndedLine, Cut}
+use Rattle.ee_cli_stores.specs.Bank.{AccountsForLines, AsksForValue, AreOfConnections, AreOfMessages, ArePutBy, IsAccounted, IsOfFile, IsOfRows, Line, PutBy, Puts, RanLine, RanLines}
 use Rattle.ee_cli_stores.specs.Lines.{LeadsInARow, LineLeads, LineWaits, LinesLead}
 use Rattle.ee_cli_stores.specs.Running.{Did, DoesInFiles, Led}
 
@@ -175,11 +174,11 @@ asked_put held found c files coming input left old new (serve db port connection
     did_put held found old new (serve db port connections) result (Puts (serve db port connections) files coming input left) (λ Has ended. Tries old new ended (ServesAll (coming port) connections old new c ended Has) (Has c []))
     (λ Has ended it. serve_puts Has (coming port) connections old new c ended it) it
 
--- what a line put that ended, or none
+-- what a line put, or none
 abbrev PutsLine : Image → Line → Image → Type 0
-PutsLine held line found = Put held found (λ attempts. PutBy (EndedLine line) (Some attempts)) (PutBy (EndedLine line) None)
+PutsLine held line found = Put held found (λ attempts. PutBy line (Some attempts)) (PutBy line None)
 
-none_needed : (line : Line) (asked : Asked) (result : Result Outcome RunFault) → IsAsked line.words (Ok asked) → (IsErr result → line.status ≡ 3) → NeedsNone asked result → PutBy (EndedLine line) None
+none_needed : (line : Line) (asked : Asked) (result : Result Outcome RunFault) → IsAsked line.words (Ok asked) → (IsErr result → line.status ≡ 3) → NeedsNone asked result → PutBy line None
 none_needed line asked result is failed (inl needs) other also =
     let same = asks_for_one line.words (Ok asked) (Ok other) is also in
     let one : asked ≡ other = cc in
@@ -207,7 +206,7 @@ of_status (suc (suc zero)) few = inr (inr (inl refl))
 of_status (suc (suc (suc zero))) few = inr (inr (inr refl))
 of_status (suc (suc (suc (suc n)))) few = absurd (omega (arith, few))
 
-shows_none : (line : Line) → AsksToShow line.words → PutBy (EndedLine line) None
+shows_none : (line : Line) → AsksToShow line.words → PutBy line None
 shows_none line (inl help) asked is = absurd (asks_unrefused line.words (Ok asked) _ is help)
 shows_none line (inr version) asked is = absurd (asks_unrefused line.words (Ok asked) _ is version)
 
@@ -258,29 +257,25 @@ some_events (a ∷ attempts) =
     (event ∷ rest, (event, rest, refl, is, are))
 
 -- what lines in a row put leads to what the last one left
-abbrev ArePut : Image → Image → List Turn → Type 0
+abbrev ArePut : Image → Image → List Line → Type 0
 ArePut held found lines = (ran : List (Option (List Attempt))) × ArePutBy lines ran × LinesLead held ran found
 
-and_put : (held next found : Image) (turn : Turn) (lines : List Turn) (attempts : List Attempt) → PutBy turn (Some attempts) → LineLeads held attempts next → ArePut next found lines → ArePut held found (turn ∷ lines)
-and_put held next found turn lines attempts put leads (ran, puts, others) = (Some attempts ∷ ran, (put, puts), (next, leads, others))
+and_put : (held next found : Image) (line : Line) (lines : List Line) (attempts : List Attempt) → PutBy line (Some attempts) → LineLeads held attempts next → ArePut next found lines → ArePut held found (line ∷ lines)
+and_put held next found line lines attempts put leads (ran, puts, others) = (Some attempts ∷ ran, (put, puts), (next, leads, others))
 
-and_waited : (held next found : Image) (line : Line) (lines : List Turn) → PutBy (EndedLine line) None → LineWaits held next → ArePut next found lines → ArePut held found (EndedLine line ∷ lines)
+and_waited : (held next found : Image) (line : Line) (lines : List Line) → PutBy line None → LineWaits held next → ArePut next found lines → ArePut held found (line ∷ lines)
 and_waited held next found line lines none waits (ran, puts, others) = (None ∷ ran, (none, puts), (next, waits, others))
 
-are_put : HoldHistory → (held found : Image) (lines : List Turn) → RanLines held lines found → (start : Content) (earlier : List Event) → HasLeft start earlier held → ∥ ArePut held found lines ∥₁
+are_put : HoldHistory → (held found : Image) (lines : List Line) → RanLines held lines found → (start : Content) (earlier : List Event) → HasLeft start earlier held → ∥ ArePut held found lines ∥₁
 are_put hold held found [] same start earlier come = ∣ ([], refl, same) ∣₁
-are_put hold held found (EndedLine line ∷ lines) (next, ran, rest) start earlier come =
+are_put hold held found (line ∷ lines) (next, ran, rest) start earlier come =
     ∥∥₁_elim (hold start earlier held come) squash₁ (λ (c, holds, left). elim (line_put held next line ran c holds) [
       | inl put ↦
           let some = some_events put.0 in
           ∥∥₁_map (are_put hold next found lines rest start (earlier ++ (some.0 ++ stop_and_reopen)) (put.2 start earlier some.0 come some.1))
-          (and_put held next found (EndedLine line) lines put.0 put.1 put.2)
+          (and_put held next found line lines put.0 put.1 put.2)
       | inr none ↦ ∥∥₁_map (are_put hold next found lines rest start earlier (none.1 start earlier come)) (and_waited held next found line lines none.0 none.1)
     ])
-are_put hold held found (Cut attempts ∷ lines) (next, leads, rest) start earlier come =
-    let some = some_events attempts in
-    ∥∥₁_map (are_put hold next found lines rest start (earlier ++ (some.0 ++ stop_and_reopen)) (leads start earlier some.0 come some.1))
-    (and_put held next found (Cut attempts) lines attempts refl leads)
 
 -- ---- the law
 

@@ -27,13 +27,13 @@ use Rattle.ee_cli_commands.specs.declared.commands.FileKind.TheVariants as kind
 use Rattle.ee_cli_commands.specs.CommandLine.{Asked, value, apply, imports, export, sheet, serve}
 use Rattle.ee_cli_program.specs.Statuses.{HasRun, IsRun}
 use Rattle.ee_store.specs.NextRun.{HoldsContent}
-use Rattle.ee_cli_stores.specs.Lines.{AreEventsOfLines, LineLeads}
+use Rattle.ee_cli_stores.specs.Lines.{AreEventsOfLines}
 use Rattle.ee_cli_stores.specs.Running.{DoesInFiles}
 
 -- ---- lines
 
--- a line that ended: its words; the bytes of the file at each path, and those that each connection sends which comes to a port, if they
--- are known; the input before and after, the output before and after, and its status
+-- a line: its words; the bytes of the file at each path, and those that each connection sends which comes to a port, if they are known;
+-- the input before and after, the output before and after, and its status
 pub record Line : Type 0 where
   pub words : List Text
   pub files : Text → Option (List ℕ)
@@ -44,23 +44,18 @@ pub record Line : Type 0 where
   pub new : Option (List ℕ)
   pub status : ℕ
 
--- how a line of a row went: it ended, or it was cut off with these attempts
-pub data Turn : Type 0 where
-  Ended : (line : Line) → Turn
-  Cut : (attempts : List Attempt) → Turn
-
--- The line ran over two files which held what is first, and these are found afterwards (`run_line`): it did what its command is to do
--- at the content that they held, whichever that is, or it opened no store. Its status says how it ended.
+-- The line ran over two files which held what is first, and these are found afterwards (`run_line`; if it was cut off, `run_stopped`, by
+-- which its files stopped): it did what its command is to do at the content that they held, whichever that is, or it opened no store.
+-- Its status says how it ended.
 abbrev pub RanLine : Image → Line → Image → Type 0
 RanLine held line found = (c : Content) → HoldsContent held c
     → (HasRun line.words (DoesInFiles held found c line.files line.coming line.input line.left line.old line.new) line.status ⊎ (found ≡ held))
     × IsRun line.words (DoesInFiles held found c line.files line.coming line.input line.left line.old line.new) ((found ≡ held) × (line.new ≡ line.old)) line.status
 
--- Lines in a row, each over what the one before it left. One that was cut off had put these attempts, which led to the files.
-abbrev pub RanLines : Image → List Turn → Image → Type 0
+-- lines in a row, each over what the one before it left
+abbrev pub RanLines : Image → List Line → Image → Type 0
 RanLines held [] found = held ≡ found
-RanLines held (Ended line ∷ lines) found = (next : Image) × RanLine held line next × RanLines next lines found
-RanLines held (Cut attempts ∷ lines) found = (next : Image) × LineLeads held attempts next × RanLines next lines found
+RanLines held (line ∷ lines) found = (next : Image) × RanLine held line next × RanLines next lines found
 
 -- ---- what was sent
 
@@ -103,18 +98,15 @@ AsksForValue (export customer db) = ⊥
 AsksForValue (sheet customer month db) = ⊥
 AsksForValue (serve db port connections) = ⊥
 
--- The attempts of a line that ended; of one that was cut off, those with which it ended. None if no store was opened: the line asked for
--- no command over a store, or it failed.
-abbrev pub PutBy : Turn → Option (List Attempt) → Type 0
-PutBy (Ended line) (Some attempts) = (asked : Asked) × IsAsked line.words (Ok asked) × Puts asked line.files line.coming line.input line.left attempts
-PutBy (Ended line) None = (asked : Asked) → IsAsked line.words (Ok asked) → AsksForValue asked ⊎ (line.status ≡ 3)
-PutBy (Cut attempts) (Some others) = others ≡ attempts
-PutBy (Cut attempts) None = ⊥
+-- The attempts of a line. None if no store was opened: the line asked for no command over a store, or it failed.
+abbrev pub PutBy : Line → Option (List Attempt) → Type 0
+PutBy line (Some attempts) = (asked : Asked) × IsAsked line.words (Ok asked) × Puts asked line.files line.coming line.input line.left attempts
+PutBy line None = (asked : Asked) → IsAsked line.words (Ok asked) → AsksForValue asked ⊎ (line.status ≡ 3)
 
-abbrev pub ArePutBy : List Turn → List (Option (List Attempt)) → Type 0
+abbrev pub ArePutBy : List Line → List (Option (List Attempt)) → Type 0
 ArePutBy [] ran = ran ≡ []
-ArePutBy (turn ∷ lines) [] = ⊥
-ArePutBy (turn ∷ lines) (put ∷ ran) = PutBy turn put × ArePutBy lines ran
+ArePutBy (line ∷ lines) [] = ⊥
+ArePutBy (line ∷ lines) (put ∷ ran) = PutBy line put × ArePutBy lines ran
 
 -- ---- the law
 
@@ -138,5 +130,5 @@ pub record IsAccounted (start : Content) (events : List Event) (files : Image) :
 -- For every sequence of command lines over one store in files, whatever these first held: each line put some attempts. Whichever of their
 -- replies arrived, the files hold what was sent, once, and it is right.
 abbrev pub AccountsForLines : Type 0
-AccountsForLines = (first found : Image) (start : Content) (lines : List Turn) → HoldsContent first start → RanLines first lines found
+AccountsForLines = (first found : Image) (start : Content) (lines : List Line) → HoldsContent first start → RanLines first lines found
     → ∥ ((ran : List (Option (List Attempt))) × ArePutBy lines ran × ((events : List Event) → AreEventsOfLines ran events → ∥ IsAccounted start events found ∥₁)) ∥₁

@@ -1,5 +1,5 @@
 -- The fault of a store that isn't opened, and what is left of one that isn't opened or isn't closed.
-use Rattle.std.specs.Prelude.{◌≡◌, ◌⊎◌, Option, None, IfSome}
+use Rattle.std.specs.Prelude.{◌≡◌, ◌⊎◌, Some, None, ⊤}
 use Rattle.sqlite_disk.specs.declared.Disk.{Ghosts}
 use Rattle.sqlite_disk.specs.declared.Files.{Files}
 use Rattle.sqlite.specs.declared.FileStore.{FileStore}
@@ -16,8 +16,10 @@ use Rattle.ee_store_files.specs.Causes.{IsOfSystem, error_of}
 use Rattle.ee_store_files.specs.Files.{Leaves}
 use Rattle.ee_store_files.specs.Opening.{IsCauseOf}
 use Rattle.ee_store.specs.declared.opening.Rest.{Rest}
-use Rattle.ee_store.specs.Adopted.{IsRefusedFrom, IfConnection, IfFiles}
+use Rattle.ee_store.specs.declared.opening.Rest.TheVariants as unopened
+use Rattle.ee_store.specs.Adopted.{IsRefusedFrom}
 use Rattle.ee_store.specs.Holding.{KeepsHeld}
+use Rattle.ee_store.specs.NextRun.{IsNumberedStore}
 use Rattle.ee_desk_laws.specs.Events.{World}
 use Rattle.ee_desk_laws.specs.Ties.{Leaves as LeavesWorld}
 use Rattle.ee_store_books.specs.Seen.{StandsFor}
@@ -28,6 +30,8 @@ use Rattle.ee_store_schema.specs.declared.faults.OpenFault.TheVariants as openin
 use Rattle.ee_cli_actions.specs.declared.faults.StoreFault.TheVariants as store
 use Rattle.ee_cli_actions.specs.declared.faults.RunFault.{RunFault}
 use Rattle.ee_cli_actions.specs.declared.faults.RunFault.TheVariants as fault
+use Rattle.ee_cli_stores.specs.declared.files.Refused.{Refused}
+use Rattle.ee_cli_stores.specs.declared.files.Refused.TheVariants as refused
 
 abbrev pub fault_of_opening : OpenFault → RunFault
 fault_of_opening opening.NoMemory = fault.NoMemory
@@ -36,26 +40,43 @@ fault_of_opening opening.WrongVersion = fault.Store store.WrongVersion
 fault_of_opening opening.Unusable = fault.Store store.Unusable
 
 module _ {D : Type 0} {g : Ghosts D} where
-  -- the fault has a cause, which is why these files weren't opened
-  abbrev pub HasCause : (Files D → Type 0) → (Files D → Type 0) → OpenFault → Leftover D g → Type 0
-  HasCause IsLog IsDb fault left =
-      (why : OpenCause) × (fault ≡ fault_of (error_of why)) × ((files : Files D) × IsLog files × IsDb files × (IsCleanLeft left → IsCauseOf files left why))
+  -- A store is handed back without what isn't committed. A crash leaves of it what it could leave before. If it is clean, it was so
+  -- before, and its trees have the numbers under which `sqlite` lists them.
+  abbrev pub HandsBack : Held (FileStore D g) → FileStore D g → Type 0
+  HandsBack now last =
+      ((db : Trees) → recovers last db → (file_state now).may_leave db) × (IsClean (view last) → HasCleanDisk (file_state now) × IsNumberedStore last)
 
-  -- nothing comes back, and the fault has a cause of the system, which opened no file
-  abbrev pub WasNotOpened : OpenFault → Option (Leftover D g) → Type 0
-  WasNotOpened fault left = left ≡ None → (why : OpenCause) × (fault ≡ fault_of (error_of why)) × IsOfSystem why
+  -- the store of a connection is handed back, or what is left of files that `sqlite` didn't open
+  abbrev pub IsLeftOf : Rest (FileStore D g) (Leftover D g) → Refused D g → Type 0
+  IsLeftOf (unopened.Connection conn) it = (last : FileStore D g) × (it ≡ refused.Store last) × HandsBack conn last
+  IsLeftOf (unopened.Files (Some left)) it = it ≡ refused.Files left
+  IsLeftOf (unopened.Files None) it = it ≡ refused.Nothing
 
-  -- What first held this isn't opened for this fault: its store was refused, and is left as it was found; or `sqlite` didn't open the
-  -- files, and what is left of them recovers to what was there, and holds what they held; or the system opened no file.
-  abbrev pub IsRefused : (Files D → Type 0) → (Files D → Type 0) → Image → RunFault → Rest (FileStore D g) (Leftover D g) → Type 0
+  -- What first held this isn't opened for this fault, and is still there: the store was refused, and is left as it was found; or `sqlite`
+  -- didn't open the files, and what is left of them holds what they held; or the system opened no file.
+  abbrev pub IsStill : Image → OpenFault → Refused D g → Type 0
+  IsStill start cause (refused.Store last) = (conn : Held (FileStore D g)) × HandsBack conn last × (HasCleanDisk (file_state conn) → IsRefusedFrom start cause conn)
+  IsStill start cause (refused.Files left) = IsCleanLeft left → KeepsHeld start left
+  IsStill start cause refused.Nothing = ⊤
+
+  -- Why these files weren't opened. What is left of them recovers to what was there; if nothing is, the cause is the system's.
+  abbrev pub HasCause : (Files D → Type 0) → (Files D → Type 0) → OpenFault → Refused D g → Type 0
+  HasCause IsLog IsDb fault (refused.Store last) = ⊤
+  HasCause IsLog IsDb fault (refused.Files left) =
+      ((why : OpenCause) × (fault ≡ fault_of (error_of why)) × ((files : Files D) × IsLog files × IsDb files × (IsCleanLeft left → IsCauseOf files left why)))
+      × ((files : Files D) × IsLog files × IsDb files × (IsCleanLeft left → Leaves files left))
+  HasCause IsLog IsDb fault refused.Nothing = (why : OpenCause) × (fault ≡ fault_of (error_of why)) × IsOfSystem why
+
+  -- only a store that was opened and refused has a fault of its own
+  abbrev pub IsOfFiles : OpenFault → Refused D g → Type 0
+  IsOfFiles cause (refused.Store last) = ⊤
+  IsOfFiles cause (refused.Files left) = (cause ≡ opening.NoMemory) ⊎ (cause ≡ opening.StoreFailed)
+  IsOfFiles cause refused.Nothing = (cause ≡ opening.NoMemory) ⊎ (cause ≡ opening.StoreFailed)
+
+  -- what first held this isn't opened for this fault, which has a cause, and is still there
+  abbrev pub IsRefused : (Files D → Type 0) → (Files D → Type 0) → Image → RunFault → Refused D g → Type 0
   IsRefused IsLog IsDb start told rest =
-      (cause : OpenFault) × (told ≡ fault_of_opening cause)
-      × IfConnection rest (λ conn. HasCleanDisk (file_state conn) → IsRefusedFrom start cause conn)
-      × IfFiles rest (λ _. (cause ≡ opening.NoMemory) ⊎ (cause ≡ opening.StoreFailed))
-      × IfFiles rest (λ left. IfSome left (HasCause IsLog IsDb cause))
-      × IfFiles rest (λ left. IfSome left (λ left. (files : Files D) × IsLog files × IsDb files × (IsCleanLeft left → Leaves files left)))
-      × IfFiles rest (λ left. IfSome left (λ left. IsCleanLeft left → KeepsHeld start left))
-      × IfFiles rest (WasNotOpened cause)
+      (cause : OpenFault) × (told ≡ fault_of_opening cause) × IsOfFiles cause rest × HasCause IsLog IsDb cause rest × IsStill start cause rest
 
   -- A crash leaves of a store that couldn't be closed what it could leave before, so it still follows the store's events. If what is
   -- left is clean, so was the store.

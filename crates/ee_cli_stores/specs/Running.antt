@@ -1,24 +1,20 @@
 -- What a command line did over two files, and how the files may be found after it.
-use Rattle.std.specs.Prelude.{◌≡◌, ◌⊎◌, ℕ, List, [], Option, Some, None, Result}
+use Rattle.std.specs.Prelude.{◌≡◌, ◌⊎◌, ℕ, List, [], Option, Result}
 use Rattle.clap.specs.Words.{Text}
 use Rattle.std.specs.Result.{IsErr}
 use Rattle.sqlite_disk.specs.declared.Disk.{Ghosts}
 use Rattle.sqlite_disk.specs.declared.Files.{Files}
 use Rattle.sqlite.specs.declared.FileStore.{FileStore}
-use Rattle.sqlite.specs.declared.file.Leftover.{Leftover}
 use Rattle.sqlite.specs.FileStore.{state, view}
-use Rattle.sqlite.specs.Files.{IsCleanLeft, file_state}
+use Rattle.sqlite.specs.Files.{IsCleanLeft}
 use Rattle.sqlite.specs.Recovery.{Image}
-use Rattle.sqlite.specs.State.{HasCleanDisk}
 use Rattle.sqlite.specs.View.{IsClean}
 use Rattle.sqlite.specs.WalReads.{AreClean}
 use Rattle.ee_desk_model.specs.Repeats.{Content}
 use Rattle.ee_desk_laws.specs.Attempts.{Attempt}
-use Rattle.ee_store.specs.declared.opening.Rest.{Rest}
-use Rattle.ee_store.specs.declared.opening.Rest.TheVariants as unopened
 use Rattle.ee_store.specs.Holding.{IsNumberedLeft, MayBeLeft}
 use Rattle.ee_store.specs.History.{AreFoundAs}
-use Rattle.ee_store.specs.NextRun.{HoldsContent, IsNumbered, IsNumberedStore, MayLeaveFiles}
+use Rattle.ee_store.specs.NextRun.{HoldsContent, IsNumberedStore}
 use Rattle.ee_cli_actions.specs.Actions.{Applies, ExportsFrom, ImportsInto, ShowsSheet}
 use Rattle.ee_cli_actions.specs.Connections.{ServesAll}
 use Rattle.ee_cli_actions.specs.declared.faults.RunFault.{RunFault}
@@ -28,24 +24,32 @@ use Rattle.ee_cli_program.specs.Stores.{Tries, unwritten}
 use Rattle.ee_cli_program.specs.declared.stores.Left.{Left}
 use Rattle.ee_cli_program.specs.declared.stores.Left.TheVariants as stores
 use Rattle.ee_cli_stores.specs.declared.files.Refused.{Refused}
+use Rattle.ee_cli_stores.specs.declared.files.Refused.TheVariants as refused
 use Rattle.ee_cli_stores.specs.declared.files.Unclosed.{Unclosed}
 use Rattle.ee_cli_stores.specs.Lines.{LineLeads, LineWaits}
 
 -- ---- how the files may be found
 
 module _ {D : Type 0} {g : Ghosts D} where
-  -- after a store that wasn't opened: as a crash leaves what came back, or as they were if the system opened none
-  abbrev pub MayBeFoundUnopened : Image → Rest (FileStore D g) (Leftover D g) → Image → Type 0
-  MayBeFoundUnopened held (unopened.Connection conn) found = HasCleanDisk (file_state conn) × IsNumbered conn × MayLeaveFiles conn found
-  MayBeFoundUnopened held (unopened.Files None) found = found ≡ held
-  MayBeFoundUnopened held (unopened.Files (Some left)) found = IsCleanLeft left × IsNumberedLeft left × MayBeLeft left found
+  -- after a store that wasn't opened: as a crash leaves what came back, or as they were if nothing did
+  abbrev pub MayBeFoundUnopened : Image → Refused D g → Image → Type 0
+  MayBeFoundUnopened held (refused.Store last) found = IsClean (view last) × (state last).may_leave found
+  MayBeFoundUnopened held (refused.Files left) found = IsCleanLeft left × IsNumberedLeft left × MayBeLeft left found
+  MayBeFoundUnopened held refused.Nothing found = found ≡ held
 
   -- After a line over files that held this: as they read, or as a stop of the machine leaves them. The disk returned what was written.
   abbrev pub MayBeFound : {O : Type 0} → Image → Left O (Refused D g) (Files D) (Unclosed D g) → Image → Type 0
   MayBeFound held (stores.Given given) found = found ≡ held
-  MayBeFound held (stores.Refused it) found = MayBeFoundUnopened held it.rest found
+  MayBeFound held (stores.Refused it) found = MayBeFoundUnopened held it found
   MayBeFound held (stores.AtRest files) found = AreClean g files.log files.db × AreFoundAs g files found
   MayBeFound held (stores.Unclosed it) found = IsClean (view it.store) × IsNumberedStore it.store × (state it.store).may_leave found
+
+  -- After a line whose files stopped, and which so closed no store: as a stop of the machine leaves what came back.
+  abbrev pub MayBeStopped : {O R : Type 0} → Image → Left O (Refused D g) R (FileStore D g) → Image → Type 0
+  MayBeStopped held (stores.Given given) found = found ≡ held
+  MayBeStopped held (stores.Refused it) found = MayBeFoundUnopened held it found
+  MayBeStopped held (stores.AtRest rest) found = ⊥
+  MayBeStopped held (stores.Unclosed last) found = IsClean (view last) × (state last).may_leave found
 
 -- ---- what a line did
 

@@ -8,7 +8,7 @@ ghost use Rattle.sqlite.specs.View.{IsClean};
 ghost use Rattle.ee_store.specs.Ended.{EndsTested, FailsToEnd, RestsIn};
 ghost use Rattle.ee_store.specs.History.{HasLeft, RestsAfter};
 ghost use Rattle.ee_store.specs.NextRun.{HoldsContent};
-ghost use Rattle.ee_cli_stores.specs.Faults.{fault_of_opening, IsRefused, Keeps};
+ghost use Rattle.ee_cli_stores.specs.Faults.{fault_of_opening, IsLeftOf, IsRefused, Keeps};
 ghost use Rattle.ee_cli_stores.specs.Tested.{IsTested, WasClean};
 
 use crate::laws::lines_law;
@@ -47,8 +47,13 @@ pub struct StoreFiles<'a, F: Start> {
 /// What is left of a store in files that wasn't opened. (A type of its own keeps the types of `Stores` short: the
 /// checker compares them part by part.)
 #[derive(Drop)]
-pub struct Refused<D: Disk> {
-    pub rest: Rest<FileStore<D>, Leftover<D>>,
+pub enum Refused<D: Disk> {
+    /// The store, which was refused.
+    Store(FileStore<D>),
+    /// What `sqlite` left of files that it didn't open.
+    Files(Leftover<D>),
+    /// Nothing: the system opened no files.
+    Nothing,
 }
 
 /// What is left of a store in files that couldn't be closed, and why.
@@ -79,7 +84,7 @@ impl<F: Start + Drop> Stores for StoreFiles<'_, F> {
         × IsTested F.Start store.conn files };
 
     // What the files held was refused for this fault, and is still there.
-    ghost refuses = { λ _ _ fault refused. IsRefused (λ files. IsFresh true files.log) (λ files. IsFresh false files.db) (image_at F.Start) fault refused.rest };
+    ghost refuses = { λ _ _ fault refused. IsRefused (λ files. IsFresh true files.log) (λ files. IsFresh false files.db) (image_at F.Start) fault refused };
 
     // A crash leaves of it what it could leave of the store, so it still follows the store's events. Closing failed for a cause.
     ghost keeps = { λ store left. Keeps store.conn left.store × (IsClean (view left.store) → FailsToEnd store.conn left.store left.failure) };
@@ -97,7 +102,7 @@ impl<F: Start + Drop> Stores for StoreFiles<'_, F> {
             Err(not) => Err(Unopened {
                 fault: fault_of(not.fault),
                 cause: not.cause,
-                rest: Refused { rest: not.rest },
+                rest: left_of(not.rest),
             }),
         }
     }
@@ -116,8 +121,19 @@ impl<F: Start + Drop> Stores for StoreFiles<'_, F> {
     }
 }
 
+// What is left of a store that wasn't opened: a connection is handed back as its store, without what isn't committed.
+pub(crate) fn left_of<D: Disk + Drop>(rest: Rest<FileStore<D>, Leftover<D>>) -> Refused<D>
+    ensures { IsLeftOf rest result }
+{
+    match rest {
+        Rest::Connection(conn) => Refused::Store(conn.into_store()),
+        Rest::Files(Some(left)) => Refused::Files(left),
+        Rest::Files(None) => Refused::Nothing,
+    }
+}
+
 // The fault of a store that isn't opened.
-fn fault_of(fault: OpenFault) -> RunFault
+pub(crate) fn fault_of(fault: OpenFault) -> RunFault
     ensures { result ≡ fault_of_opening fault }
 {
     match fault {

@@ -9,6 +9,8 @@
 mod files;
 pub mod laws;
 mod running;
+mod stopping;
 
 pub use files::{Refused, StoreFiles, Unclosed, Untold};
 pub use running::run_line;
+pub use stopping::{StoppingFiles, run_stopped};

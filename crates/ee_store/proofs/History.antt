@@ -13,7 +13,7 @@ use Rattle.sqlite_catalog.specs.Listing.{IsSound, AreListed, IsTableRow, IsIndex
 use Rattle.sqlite_store.specs.Laws.{settled_at}
 use Rattle.sqlite.specs.Order.{Row}
 use Rattle.sqlite.specs.Tree.{Trees}
-use Rattle.sqlite.specs.FileStore.{recovers}
+use Rattle.sqlite.specs.FileStore.{recovers, state}
 use Rattle.sqlite.specs.Held.{AreDatabases, Held}
 use Rattle.sqlite.specs.State.{IsLive, HasCleanDisk, State}
 use Rattle.sqlite.specs.Files.{HoldsDatabase, IsEmpty, file_state}
@@ -40,7 +40,7 @@ use Rattle.ee_store_schema.specs.Making.{IsBlank, no_tables}
 use Rattle.ee_store_books.specs.Seen.{HasContent, StandsFor}
 use Rattle.ee_store.proofs.Opened.{stood_now}
 use Rattle.ee_store.specs.Adopted.{StoodFor, StandsSince, IsRefusedFrom}
-use Rattle.ee_store.specs.NextRun.{IsNumbered, MayLeaveFiles, FollowsInNextRun, HoldsStore, HoldsContent}
+use Rattle.ee_store.specs.NextRun.{IsNumberedStore, FollowsInNextRun, HoldsStore, HoldsContent}
 use Rattle.ee_store.proofs.NextRun.{was_found, found_in, next_on}
 use Rattle.ee_store.specs.Served.{FollowsWorld}
 use Rattle.ee_store.specs.Ended.{StandsAlone, IsAtRest, RestsIn}
@@ -224,7 +224,8 @@ only_one content left (zero, low, is) = sym is
 only_one content left (suc k, low, is) = absurd (omega (arith, low))
 
 module _ {D : Type 0} (g : Ghosts D) (takes : TakesHeld) (finds : FindsHeld) (none : FindsNone) (stays : SeenMayStay g)
-    (found : Image) (fault : OpenFault) (now : Held (FileStore D g)) (clean : HasCleanDisk (file_state now)) (refused : IsRefusedFrom found fault now) (numbered : IsNumbered now) where
+    (found : Image) (fault : OpenFault) (now : Held (FileStore D g)) (last : FileStore D g) (clean : HasCleanDisk (file_state now)) (refused : IsRefusedFrom found fault now)
+    (no_more : (db : Trees) → recovers last db → (file_state now).may_leave db) (numbered : IsNumberedStore last) where
   abbrev refused_was : State
   refused_was = file_state refused.was
 
@@ -239,12 +240,12 @@ module _ {D : Type 0} (g : Ghosts D) (takes : TakesHeld) (finds : FindsHeld) (no
       let one = only_one content other (subst (λ (cs : List Content). Contains cs other) all among_v) in
       stands_in form db content (subst (StandsSince form db) one stands)
 
-  left_of_store : (form : Form) (content : Content) → StoodFor form refused_was.committed.trees content → (left : Image) → MayLeaveFiles now left → ∥ HoldsContent left content ∥₁
+  left_of_store : (form : Form) (content : Content) → StoodFor form refused_was.committed.trees content → (left : Image) → (state last).may_leave left → ∥ HoldsContent left content ∥₁
   left_of_store form content stood left may =
       let stands = stands_after form content stood in
-      let sound : AreDatabases (recovers now.store) = λ db m. let it = stands db m in stood_sound it.0 db content it.1 in
-      ∥∥₁_map (opens_again now.store numbered sound left may) (λ again.
-      let it = stands again.0 again.1 in
+      let sound : AreDatabases (recovers last) = λ db m. let it = stands db (no_more db m) in stood_sound it.0 db content it.1 in
+      ∥∥₁_map (opens_again last numbered sound left may) (λ again.
+      let it = stands again.0 (no_more again.0 again.1) in
       let r : HoldsContent left content = inl (it.0, record { db = again.0; holds = ∣ takes left again.0 again.2 ∣₁; stands = it.1 }) in r)
 
   -- where there was no database, a crash leaves an empty one, or a store without content
@@ -254,26 +255,26 @@ module _ {D : Type 0} (g : Ghosts D) (takes : TakesHeld) (finds : FindsHeld) (no
     | inr begins ↦ inr (begins (blank finds none found refused_was refused.found refused.opened.1 empty))
   ]
 
-  left_of_none : IsEmpty refused_was.committed.trees → (content : Content) → content ≡ nothing → (left : Image) → MayLeaveFiles now left → ∥ HoldsContent left content ∥₁
+  left_of_none : IsEmpty refused_was.committed.trees → (content : Content) → content ≡ nothing → (left : Image) → (state last).may_leave left → ∥ HoldsContent left content ∥₁
   left_of_none empty content is left may =
-      let each = empty_or_begun empty in
-      let sound : AreDatabases (recovers now.store) = λ db m. elim (each db m) [ inl bare ↦ (_, empty_is_sound db bare.1) | inr stands ↦ (counter_schema, stands.stores.sound) ] in
-      ∥∥₁_map (opens_again now.store numbered sound left may) (λ again.
+      let each : (db : Trees) → recovers last db → IsEmpty db ⊎ StandsFor db nothing = λ db m. empty_or_begun empty db (no_more db m) in
+      let sound : AreDatabases (recovers last) = λ db m. elim (each db m) [ inl bare ↦ (_, empty_is_sound db bare.1) | inr stands ↦ (counter_schema, stands.stores.sound) ] in
+      ∥∥₁_map (opens_again last numbered sound left may) (λ again.
       let r : HoldsContent left content = elim (each again.0 again.1) [
         | inl bare ↦ inr (is, inr ∣ (again.0, takes left again.0 again.2, bare) ∣₁)
         | inr stands ↦ subst (HoldsContent left) (sym is) (held_store takes left again.0 nothing again.2 stands)
       ] in r)
 
-  left_refused : (content : Content) → HoldsContent found content → (left : Image) → MayLeaveFiles now left → ∥ HoldsContent left content ∥₁
+  left_refused : (content : Content) → HoldsContent found content → (left : Image) → (state last).may_leave left → ∥ HoldsContent left content ∥₁
   left_refused content (inl (form, store)) left may =
       ∥∥₁_elim store.holds squash₁ (λ held. left_of_store form content (same_stood finds none found refused_was refused.found form content store held) left may)
   left_refused content (inr (is, empty)) left may =
       ∥∥₁_elim (empty_trees finds none found refused_was refused.found empty) squash₁ (λ trees. left_of_none trees content is left may)
 
 pub waits_refused : {D : Type 0} (g : Ghosts D) → TakesHeld → FindsHeld → FindsNone → SeenMayStay g → WaitsRefused g
-waits_refused g takes finds none stays start events found fault now left come clean refused numbered may =
+waits_refused g takes finds none stays start events found fault now last left come clean refused no_more numbered may =
     ∥∥₁_elim come squash₁ (λ (w, happened, just, holds).
-    ∥∥₁_map (left_refused g takes finds none stays found fault now clean refused numbered w.now holds left may) (λ still. (w, happened, just, still)))
+    ∥∥₁_map (left_refused g takes finds none stays found fault now last clean refused no_more numbered w.now holds left may) (λ still. (w, happened, just, still)))
 
 -- ---- a run, and its end
 

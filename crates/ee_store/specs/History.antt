@@ -84,10 +84,11 @@ HasHeld {D} g = (image : Image) (content : Content) (now : Held (FileStore D g))
 abbrev pub WaitsInFiles : Type 0
 WaitsInFiles = (start : Content) (events : List Event) (was now : Image) → HasLeft start events was → HoldsOn was now → HasLeft start events now
 
--- nor is one that is refused, of which a crash leaves two files
+-- Nor is one that is refused. A crash leaves two files of it, or of what is left of it: that leaves no more trees.
 abbrev pub WaitsRefused : {D : Type 0} → Ghosts D → Type 0
-WaitsRefused {D} g = (start : Content) (events : List Event) (found : Image) (fault : OpenFault) (now : Held (FileStore D g)) (left : Image)
-    → HasLeft start events found → HasCleanDisk (file_state now) → IsRefusedFrom found fault now → IsNumbered now → MayLeaveFiles now left → HasLeft start events left
+WaitsRefused {D} g = (start : Content) (events : List Event) (found : Image) (fault : OpenFault) (now : Held (FileStore D g)) (last : FileStore D g) (left : Image)
+    → HasLeft start events found → HasCleanDisk (file_state now) → IsRefusedFrom found fault now
+    → ((db : Trees) → recovers last db → (file_state now).may_leave db) → IsNumberedStore last → (state last).may_leave left → HasLeft start events left
 
 -- queries are no events
 abbrev pub GoesByQueries : {D : Type 0} → Ghosts D → Type 0

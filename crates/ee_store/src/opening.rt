@@ -6,7 +6,8 @@ ghost use Rattle.sqlite.specs.Files.{file_state, image_of, IsCleanLeft};
 ghost use Rattle.sqlite.specs.Recovery.{Image};
 ghost use Rattle.sqlite.specs.WalFiles.{image_at};
 ghost use Rattle.sqlite_std_file.specs.File.{IsFresh};
-ghost use Rattle.sqlite.specs.FileStore.{view};
+ghost use Rattle.sqlite.specs.FileStore.{recovers, view};
+ghost use Rattle.sqlite.specs.Tree.{Trees};
 ghost use Rattle.sqlite.specs.View.{IsClean};
 ghost use Rattle.ee_store_schema.specs.Faults.{fault_of};
 ghost use Rattle.ee_store_files.specs.Causes.{IsOfSystem, error_of};
@@ -15,7 +16,7 @@ ghost use Rattle.ee_store_files.specs.Opening.{IsCauseOf};
 ghost use Rattle.ee_store_delivery.specs.Known.{IsInformed};
 ghost use Rattle.ee_store.specs.Adopted.{IsOpenedFrom, IsRefusedFrom, IfConnection, IfFiles};
 ghost use Rattle.ee_store.specs.Holding.{AreSettled, KeepsHeld};
-ghost use Rattle.ee_store.specs.NextRun.{IsNumbered, LeavesStanding, FollowsOn};
+ghost use Rattle.ee_store.specs.NextRun.{IsNumbered, IsNumberedStore, LeavesStanding, FollowsOn};
 
 use crate::keeper::SqlKeeper;
 use crate::laws::holding_law;
@@ -181,10 +182,15 @@ impl<D: Disk + Drop> SqlKeeper<FileStore<D>> {
     ///
     /// - `leaves`: any two files that a crash might have left of the keeper hold a database which represents a
     ///   content that the crash might leave, by the law of stops and retries.
-    /// - `numbered`: its trees had the numbers under which `sqlite` lists them, as the law `next_run_law` needs.
+    /// - `numbered`, `has_numbers`: its trees had, and have, the numbers under which `sqlite` lists them, as the laws
+    ///   `next_run_law` and `whole_history_law` need.
+    /// - `left`, `was_clean`: a crash leaves what it could leave before; if what is left is clean, so was the keeper.
     pub fn stop(self) -> FileStore<D>
         ensures numbered { IsClean (view result) → IsNumbered self.conn }
         ensures leaves { IsClean (view result) → LeavesStanding self.conn }
+        ensures has_numbers { IsClean (view result) → IsNumberedStore result }
+        ensures left { (db : Trees) → recovers result db → (file_state self.conn).may_leave db }
+        ensures was_clean { IsClean (view result) → HasCleanDisk (file_state self.conn) }
     {
         self.close().into_store()
     }

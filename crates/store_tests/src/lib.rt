@@ -14,6 +14,8 @@ mod command_files;
 #[cfg(test)]
 mod command_lines;
 #[cfg(test)]
+mod command_stops;
+#[cfg(test)]
 mod commands;
 #[cfg(test)]
 mod comparing;

@@ -1,4 +1,4 @@
-use Rattle.ee_cli_stores.proofs.Told.{is_told, of_system, with_cause}
+use Rattle.ee_cli_stores.proofs.Told.{has_cause, is_of_files, is_still, is_told}
 use Rattle.ee_cli_stores.proofs.files.StoreFilesStores.open.Goals as goal
 
 pub returns-in-Ok-clause-opened : goal.returns-in-Ok-clause-opened
@@ -14,8 +14,10 @@ returns-in-Err-clause-told g c = is_told c.in-Err.not.cause c.in-Err.not.fault c
 
 pub returns-in-Err-clause-refused : goal.returns-in-Err-clause-refused
 returns-in-Err-clause-refused g c =
+    let not = c.in-Err.not in
     let it = c.in-Err.ensures in
-    (c.in-Err.not.fault, c.fault_of.ensures, it.refused, it.fault, with_cause c.in-Err.not.rest c.in-Err.not.cause c.in-Err.not.fault _ it.told it.cause, it.left, it.held, of_system c.in-Err.not.rest c.in-Err.not.cause c.in-Err.not.fault it.told it.nothing)
+    let left = c.left_of.ensures in
+    (not.fault, c.fault_of.ensures, is_of_files not.fault not.rest _ left it.fault, has_cause not.fault _ _ not.cause it.told not.rest _ left it.cause it.left it.nothing, is_still not.fault _ not.rest _ left it.refused it.held)
 
 pub returns-in-Ok-clause-tested : goal.returns-in-Ok-clause-tested
 returns-in-Ok-clause-tested g c clean = (c.in-Ok.ensures.opened clean).shielded
