@@ -1,5 +1,5 @@
 -- What commands do over the stores that their lines name.
-use Rattle.std.specs.Prelude.{◌≡◌, ◌⊎◌, ◌+◌, ◌*◌, ◌^◌, ◌≤◌, ℕ, Bool, List, [], Option, Result, Ok, Err, ⊤}
+use Rattle.std.specs.Prelude.{◌≡◌, ◌⊎◌, ◌*◌, ℕ, Bool, List, [], Option, Result, Ok, Err, ⊤}
 use Rattle.std.specs.Result.{IsErr}
 use Rattle.clap.specs.Words.{Text}
 use Rattle.ee_desk_model.specs.Repeats.{Content}
@@ -45,18 +45,15 @@ Closes rests keeps store ended result (Unclosed left) = keeps store left × (res
 Closes rests keeps store ended result (Given given) = ⊥
 Closes rests keeps store ended result (Refused rest) = ⊥
 
--- a store that was opened takes as many requests, and more
-abbrev pub most_requests : ℕ
-most_requests = 2 ^ 52
-
--- A command's store, from its opening to its closing. `room` requests were to be taken, whose texts fit.
-pub record Since {S : Type 0} (is_clean is_guarded : S → Type 0) (is_open : S → Bool) (faults : S → ℕ) (takes : ℕ → S → Type 0) (room : ℕ) (Fit : Type 0)
+-- A command's store, from its opening to its closing. `requests` were to be taken, whose texts fit; `has_room` says for how many the
+-- store has room.
+pub record Since {S : Type 0} (is_clean is_guarded : S → Type 0) (is_open : S → Bool) (faults : S → ℕ) (has_room : ℕ → S → Type 0) (requests : ℕ) (Fit : Type 0)
     (first left : S) (ended : Result Outcome RunFault) : Type 0 where
   -- if it was opened clean, each of its reads was tested against what was read or written there before
   pub tested : is_clean first → is_guarded first
   pub continues : Continues is_clean is_guarded is_open faults first left
-  -- the work failed for the store only if a device of the store failed, for as many requests as a store takes
-  pub cause : is_clean left → (room ≤ most_requests) ⊎ ((n : ℕ) × takes (n + room) first) → Fit → TellsFailureOnlyIf (FailedIn is_open faults first left) ended
+  -- the work failed for the store only if a device of the store failed, if it had room for the requests as it was opened
+  pub cause : is_clean left → has_room requests first → Fit → TellsFailureOnlyIf (FailedIn is_open faults first left) ended
 
 -- the work ended so over a store that was opened, and then closed, of which this is left
 pub record Works {O Q S R L : Type 0} (rests : S → R → Type 0) (keeps : S → L → Type 0) (result : Result Outcome RunFault) (rest : Left O Q R L)

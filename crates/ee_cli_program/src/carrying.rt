@@ -43,7 +43,7 @@ pub fn carry_out<H: Host, O: Stores, R: Source, W: Sink>(
 ) -> CarriedOut<O, O::Refused, O::Rest, O::Left>
     ensures carries { Carries (W.contents output.old) (W.contents output.new) (view_of command.now) result.carried.ended }
     ensures over { (contents : Text → Content) → ((path : Text) → O.holds stores path (contents path))
-        → CarriesOver O.Store.is_clean (Since O.Store.is_clean O.Store.is_guarded O.Store.is_open O.Store.faults O.Store.takes) O.Store.fits (λ path left. HasAfter (O.Store.has left) (O.opens stores path) (O.Store.went left)) O.rests O.keeps (O.refuses stores) contents (H.file host.now) (H.coming host.now) stores result.left (R.remaining input.old) (R.remaining input.new) (W.contents output.old) (W.contents output.new)
+        → CarriesOver O.Store.is_clean (Since O.Store.is_clean O.Store.is_guarded O.Store.is_open O.Store.faults O.has_room) O.Store.fits (λ path left. HasAfter (O.Store.has left) (O.opens stores path) (O.Store.went left)) O.rests O.keeps (O.refuses stores) contents (H.file host.now) (H.coming host.now) stores result.left (R.remaining input.old) (R.remaining input.new) (W.contents output.old) (W.contents output.new)
         (view_of command.now) result.carried.ended }
     ensures told { TellsOnlyIf result.carried.ended result.carried.cause }
 {
@@ -92,7 +92,7 @@ fn apply<H: Host, O: Stores, R: Source, W: Sink>(
 ) -> CarriedOut<O, O::Refused, O::Rest, O::Left>
     ensures over { (c : Content) → O.holds stores db.now c
         → Over O.rests O.keeps (O.refuses stores db.now) (W.contents output.old) (W.contents output.new) result.carried.ended result.left
-        (Since O.Store.is_clean O.Store.is_guarded O.Store.is_open O.Store.faults O.Store.takes most_messages (FitMessages O.Store.fits))
+        (Since O.Store.is_clean O.Store.is_guarded O.Store.is_open O.Store.faults O.has_room most_messages (FitMessages O.Store.fits))
         (λ left ended. O.Store.is_clean left → Applies (R.remaining input.old) (R.remaining input.new) (W.contents output.old) (W.contents output.new) c ended
         (HasAfter (O.Store.has left) (O.opens stores db.now) (O.Store.went left))) }
     ensures told { TellsOnlyIf result.carried.ended result.carried.cause }
@@ -118,7 +118,7 @@ fn import<H: Host, O: Stores, W: Sink>(
 ) -> CarriedOut<O, O::Refused, O::Rest, O::Left>
     ensures over { (c : Content) → O.holds stores db.now c
         → Over O.rests O.keeps (O.refuses stores db.now) (W.contents output.old) (W.contents output.new) result.carried.ended result.left
-        (Since O.Store.is_clean O.Store.is_guarded O.Store.is_open O.Store.faults O.Store.takes 1 (FitFile kind O.Store.fits c (desk, number)))
+        (Since O.Store.is_clean O.Store.is_guarded O.Store.is_open O.Store.faults O.has_room 1 (FitFile kind O.Store.fits c (desk, number)))
         (λ left ended. O.Store.is_clean left → Tries (W.contents output.old) (W.contents output.new) ended
         (ImportsInto kind (H.file host.now file.now) (W.contents output.old) (W.contents output.new) (desk, number) c ended (HasAfter (O.Store.has left) (O.opens stores db.now) (O.Store.went left)))
         (HasAfter (O.Store.has left) (O.opens stores db.now) (O.Store.went left) c [])) }
@@ -142,7 +142,7 @@ fn export<H: Host, O: Stores, W: Sink>(
 ) -> CarriedOut<O, O::Refused, O::Rest, O::Left>
     ensures over { (c : Content) → O.holds stores db.now c
         → Over O.rests O.keeps (O.refuses stores db.now) (W.contents output.old) (W.contents output.new) result.carried.ended result.left
-        (Since O.Store.is_clean O.Store.is_guarded O.Store.is_open O.Store.faults O.Store.takes 0 ⊤)
+        (Since O.Store.is_clean O.Store.is_guarded O.Store.is_open O.Store.faults O.has_room 0 ⊤)
         (λ left ended. O.Store.is_clean left → ExportsFrom (W.contents output.old) (W.contents output.new) customer c ended
         (HasAfter (O.Store.has left) (O.opens stores db.now) (O.Store.went left))) }
     ensures done { IfOk result.carried.ended (λ outcome. outcome ≡ Outcome.Done) }
@@ -166,7 +166,7 @@ fn sheet<O: Stores, W: Sink>(
 ) -> CarriedOut<O, O::Refused, O::Rest, O::Left>
     ensures over { (c : Content) → O.holds stores db.now c
         → Over O.rests O.keeps (O.refuses stores db.now) (W.contents output.old) (W.contents output.new) result.carried.ended result.left
-        (Since O.Store.is_clean O.Store.is_guarded O.Store.is_open O.Store.faults O.Store.takes 0 ⊤)
+        (Since O.Store.is_clean O.Store.is_guarded O.Store.is_open O.Store.faults O.has_room 0 ⊤)
         (λ left ended. O.Store.is_clean left → ShowsSheet (W.contents output.old) (W.contents output.new) customer month c ended
         (HasAfter (O.Store.has left) (O.opens stores db.now) (O.Store.went left) c [])) }
     ensures done { IfOk result.carried.ended (λ outcome. outcome ≡ Outcome.Done) }
@@ -192,7 +192,7 @@ fn serve<H: Host, O: Stores, W: Sink>(
     ensures over { (c : Content) → O.holds stores db.now c
         → IsUnbound stores result.left (W.contents output.old) (W.contents output.new) result.carried.ended
         ⊎ Over O.rests O.keeps (O.refuses stores db.now) (W.contents output.old) (W.contents output.new) result.carried.ended result.left
-        (Since O.Store.is_clean O.Store.is_guarded O.Store.is_open O.Store.faults O.Store.takes (connections * most_messages) (FitMessages O.Store.fits))
+        (Since O.Store.is_clean O.Store.is_guarded O.Store.is_open O.Store.faults O.has_room (connections * most_messages) (FitMessages O.Store.fits))
         (λ left ended. O.Store.is_clean left → Tries (W.contents output.old) (W.contents output.new) ended
         (ServesAll (H.coming host.now port) connections (W.contents output.old) (W.contents output.new) c ended (HasAfter (O.Store.has left) (O.opens stores db.now) (O.Store.went left)))
         (HasAfter (O.Store.has left) (O.opens stores db.now) (O.Store.went left) c [])) }
@@ -223,7 +223,7 @@ fn serve_store<H: Host, O: Stores, W: Sink>(
 ) -> CarriedOut<O, O::Refused, O::Rest, O::Left>
     ensures over { (c : Content) → O.holds stores db.now c
         → Over O.rests O.keeps (O.refuses stores db.now) (W.contents output.old) (W.contents output.new) result.carried.ended result.left
-        (Since O.Store.is_clean O.Store.is_guarded O.Store.is_open O.Store.faults O.Store.takes (connections * most_messages) (FitMessages O.Store.fits))
+        (Since O.Store.is_clean O.Store.is_guarded O.Store.is_open O.Store.faults O.has_room (connections * most_messages) (FitMessages O.Store.fits))
         (λ left ended. O.Store.is_clean left → Tries (W.contents output.old) (W.contents output.new) ended
         (ServesAll (H.coming host.now port) connections (W.contents output.old) (W.contents output.new) c ended (HasAfter (O.Store.has left) (O.opens stores db.now) (O.Store.went left)))
         (HasAfter (O.Store.has left) (O.opens stores db.now) (O.Store.went left) c [])) }

@@ -66,12 +66,12 @@ pub fn run_words<H: Host, O: Stores, R: Source + Stream, W: Sink + Stream, E: Wr
         → Appends (W.contents output.old) (W.contents output.new) version_line }
     ensures over { (contents : Text → Content) → ((path : Text) → O.holds stores path (contents path))
         → IsRun (map (λ w. string_bytes w) words.now)
-        (CarriesOver O.Store.is_clean (Since O.Store.is_clean O.Store.is_guarded O.Store.is_open O.Store.faults O.Store.takes) O.Store.fits (λ path left. HasAfter (O.Store.has left) (O.opens stores path) (O.Store.went left))
+        (CarriesOver O.Store.is_clean (Since O.Store.is_clean O.Store.is_guarded O.Store.is_open O.Store.faults O.has_room) O.Store.fits (λ path left. HasAfter (O.Store.has left) (O.opens stores path) (O.Store.went left))
         O.rests O.keeps (O.refuses stores) contents (H.file host.now) (H.coming host.now) stores result.left (R.remaining input.old) (R.remaining input.new) (W.contents output.old) (W.contents output.new))
         (IsUntouched stores result.left (W.contents output.old) (W.contents output.new)) result.status }
     ensures line { (contents : Text → Content) → ((path : Text) → O.holds stores path (contents path))
         → HasRun (map (λ w. string_bytes w) words.now)
-        (CarriesOver O.Store.is_clean (Since O.Store.is_clean O.Store.is_guarded O.Store.is_open O.Store.faults O.Store.takes) O.Store.fits (λ path left. HasAfter (O.Store.has left) (O.opens stores path) (O.Store.went left))
+        (CarriesOver O.Store.is_clean (Since O.Store.is_clean O.Store.is_guarded O.Store.is_open O.Store.faults O.has_room) O.Store.fits (λ path left. HasAfter (O.Store.has left) (O.opens stores path) (O.Store.went left))
         O.rests O.keeps (O.refuses stores) contents (H.file host.now) (H.coming host.now) stores result.left (R.remaining input.old) (R.remaining input.new) (W.contents output.old) (W.contents output.new)) result.status
         ⊎ (result.left ≡ Left.Given stores) }
     ensures untouched { ((asked : Asked) → ¬ IsAsked (map (λ w. string_bytes w) words.now) (Ok asked)) → result.left ≡ Left.Given stores }

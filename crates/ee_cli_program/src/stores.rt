@@ -4,7 +4,6 @@ ghost use Rattle.std.specs.Prelude.{◌≡◌, List, IfOk, IfErr, IfSome, ℕ};
 ghost use Rattle.ee_desk_model.specs.Repeats.{Content};
 ghost use Rattle.ee_desk_laws.specs.Events.{Event};
 ghost use Rattle.ee_cli_actions.specs.declared.faults.RunFault.{RunFault};
-ghost use Rattle.ee_cli_program.specs.Stores.{most_requests};
 ghost use Rattle.ee_cli_program.specs.Told.{fault_of_cause};
 
 use ee_cli_actions::RunFault;
@@ -55,6 +54,9 @@ pub trait Stores: Drop {
     /// The store at a path had this content at first, and has gone through these events since.
     ghost opens: { Self → List ℕ → Content → List Event → Type 0 };
 
+    /// The store has room for the rows of this many requests.
+    ghost has_room: { ℕ → Self.Store → Type 0 };
+
     /// What is left of a store has everything that the store had, at rest.
     ghost rests: { Self.Store → Self.Rest → Type 0 };
 
@@ -65,13 +67,14 @@ pub trait Stores: Drop {
     ghost keeps: { Self.Store → Self.Left → Type 0 };
 
     /// Opens the store at a path; creates its tables if there are none. A cause that is told is one of the fault. Each
-    /// later read of a store that was opened clean is tested (`is_guarded`), and it takes 2^52 requests.
+    /// later read of a store that was opened clean is tested (`is_guarded`), and it takes the requests that it has
+    /// room for.
     fn open(self, path: &str) -> Result<Self::Store, Unopened<Self::Refused>>
         ensures opened { IfOk result (λ store. Self.Store.is_clean store → (c : Content) → holds self path.now c → Self.Store.has store c) }
         ensures gone { IfOk result (λ store. Self.Store.is_clean store → (start : Content) (events : List Event) → opens self path.now start events
             → Self.Store.went store start events) }
         ensures tested { IfOk result (λ store. Self.Store.is_clean store → Self.Store.is_guarded store) }
-        ensures takes { IfOk result (λ store. Self.Store.is_clean store → Self.Store.takes most_requests store) }
+        ensures takes { IfOk result (λ store. Self.Store.is_clean store → (n : ℕ) → has_room n store → Self.Store.takes n store) }
         ensures told { IfErr result (λ not. IfSome not.cause (λ cause. not.fault ≡ fault_of_cause cause)) }
         ensures refused { IfErr result (λ not. refuses self path.now not.fault not.rest) };
 

@@ -1,5 +1,5 @@
 -- What a line did over stores, it did over their files.
-use Rattle.std.proofs.Common.{◌≡◌, ◌≤◌, ◌*◌, inl, inr, ℕ, List, [], ◌++◌, Option, Result, Ok, Err, refl, sym, subst, append_assoc}
+use Rattle.std.proofs.Common.{◌≡◌, ◌*◌, inl, inr, ℕ, List, [], ◌++◌, Option, Result, Ok, Err, refl, sym, subst, append_assoc}
 use Rattle.std.specs.Result.{IsErr}
 use Rattle.clap.specs.Words.{Text}
 use Rattle.sqlite_disk.specs.declared.Disk.{Ghosts}
@@ -22,7 +22,6 @@ use Rattle.ee_store.specs.Ended.{EndsTested, FailsToEnd, RestsIn}
 use Rattle.ee_store.specs.declared.keeper.SqlKeeper.{SqlKeeper}
 use Rattle.ee_store_delivery.specs.Known.{IsInformed}
 use Rattle.ee_store_delivery.specs.Causes.{TextsFit}
-use Rattle.ee_store_books.specs.Causes.{IsReady}
 use Rattle.ee_store_tables.specs.Rows.{HasRoom}
 use Rattle.ee_store.specs.History.{AreFoundAs, HasCome, HasLeft, HoldAtRest, LeavesHistory, RestsAfter, WaitsRefused, stop_and_reopen}
 use Rattle.ee_store.specs.NextRun.{IsNumberedStore}
@@ -133,7 +132,7 @@ module _ {D : Type 0} (g : Ghosts D) (closes : ClosesLine g) (at_rest : HoldAtRe
   -- what is known of a keeper from its opening on, by the clauses of a line
   abbrev SinceOpened : ℕ → Type 0 → SqlKeeper (FileStore D g) → SqlKeeper (FileStore D g) → Result Outcome RunFault → Type 0
   SinceOpened = Since (λ (k : SqlKeeper (FileStore D g)). HasCleanDisk (file_state k.conn)) (λ k. (file_state k.conn).IsShielded) (λ k. (file_state k.conn).is_open) (λ k. (file_state k.conn).faults)
-      (λ n k. IsReady (file_state k.conn) × ((m : ℕ) → m ≤ n → HasRoom (501 * m) (file_state k.conn)))
+      (λ n k. HasRoom (501 * n) (file_state k.conn))
 
   pub line_in_files : {O : Type 0} (IsLog IsDb : Files D → Type 0) (Tested : SqlKeeper (FileStore D g) → Files D → Type 0)
       (rest : Left O (Refused D g) (Files D) (Unclosed D g)) → MayBeFound held rest found → (c : Content) (files : Text → Option (List ℕ)) (coming : ℕ → Option (List (List ℕ))) (given : O) (input left old new : Option (List ℕ)) (asked : Asked) (result : Result Outcome RunFault)

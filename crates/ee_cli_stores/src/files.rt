@@ -1,10 +1,12 @@
 //! Stores in files.
 
-ghost use Rattle.std.specs.Prelude.{◌≡◌, true, false, IfErr, IfOk};
+ghost use Rattle.std.specs.Prelude.{◌≡◌, ◌*◌, true, false, IfErr, IfOk};
 ghost use Rattle.sqlite_std_file.specs.File.{IsFresh};
 ghost use Rattle.sqlite.specs.WalFiles.{image_at};
 ghost use Rattle.sqlite.specs.FileStore.{view};
+ghost use Rattle.sqlite.specs.Files.{file_state};
 ghost use Rattle.sqlite.specs.View.{IsClean};
+ghost use Rattle.ee_store_tables.specs.Rows.{HasRoom};
 ghost use Rattle.ee_store.specs.Ended.{EndsTested, FailsToEnd, RestsIn};
 ghost use Rattle.ee_store.specs.History.{HasLeft, RestsAfter};
 ghost use Rattle.ee_store.specs.NextRun.{HoldsContent};
@@ -77,6 +79,9 @@ impl<F: Start + Drop> Stores for StoreFiles<'_, F> {
 
     // Each file held what these events led to from that content.
     ghost opens = { λ _ _ start events. HasLeft start events (image_at F.Start) };
+
+    // Its tables have numbers left for the rows of as many requests, 501 each.
+    ghost has_room = { λ n store. HasRoom (501 * n) (file_state store.conn) };
 
     // The files are at rest with what the store had, which is what its whole history led to. If they returned what was written there,
     // the store was clean; they did, if its reads were tested, or two pages have one digest.

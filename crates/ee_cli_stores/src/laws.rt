@@ -53,5 +53,5 @@ pub const fn lines_law<D: Disk>()
 {
     short_texts_law();
     stops_and_retries_law();
-    whole_history_law::<D, D>();
+    whole_history_law::<D>();
 }

@@ -1,10 +1,11 @@
 //! A line that is cut off, as its files stop. The program doesn't run it: what a stop leaves is proved of this line.
 
-ghost use Rattle.std.specs.Prelude.{◌≡◌, ◌⊎◌, IfErr, IfOk, map, string_bytes};
-ghost use Rattle.sqlite.specs.Files.{image_of};
+ghost use Rattle.std.specs.Prelude.{◌≡◌, ◌⊎◌, ◌*◌, IfErr, IfOk, map, string_bytes};
+ghost use Rattle.sqlite.specs.Files.{file_state, image_of};
 ghost use Rattle.sqlite.specs.Recovery.{Image};
 ghost use Rattle.ee_desk_model.specs.Repeats.{Content};
 ghost use Rattle.ee_store_schema.specs.declared.faults.OpenFault.{OpenFault};
+ghost use Rattle.ee_store_tables.specs.Rows.{HasRoom};
 ghost use Rattle.ee_cli_program.specs.Statuses.{HasRun, IsRun};
 ghost use Rattle.ee_store.specs.History.{HasLeft};
 ghost use Rattle.ee_store.specs.Holding.{AreSettled};
@@ -46,6 +47,8 @@ impl<D: Disk + Drop> Stores for StoppingFiles<D> {
 
     // Each file held what these events led to from that content.
     ghost opens = { λ stores _ start events. HasLeft start events (image_of D.Disk stores.files) };
+
+    ghost has_room = { λ n store. HasRoom (501 * n) (file_state store.conn) };
 
     // None comes to rest.
     ghost rests = { λ _ _. ⊥ };

@@ -11,4 +11,3 @@ mod Asked
 mod Shut
 mod Going
 mod Tested
-mod RowOrder

@@ -1,15 +1,11 @@
 -- The state of a store that is opened, and its state before.
 -- Nothing is said of a store that a failing disk has shut.
-use Rattle.std.specs.Prelude.{◌≡◌, ◌≢◌, ◌<◌, ◌≤◌, ◌⊎◌, ◌+◌, ◌*◌, ◌^◌, ℕ, None, true, false, [], ◌∷◌, length, Contains, Option, IsTrue, ⊤}
+use Rattle.std.specs.Prelude.{◌≡◌, ◌≤◌, ◌⊎◌, ◌+◌, ◌^◌, ℕ, None, false, [], ◌∷◌, length, Contains, Option, IsTrue, ⊤}
 use Rattle.std.specs.Ordering.{nat_cmp}
 use Rattle.std.specs.FinMap.{FinMap, entries}
 use Rattle.sqlite_disk.specs.declared.Disk.{Ghosts}
 use Rattle.sqlite.specs.declared.FileStore.{FileStore}
 use Rattle.sqlite.specs.Tree.{Trees}
-use Rattle.sqlite.specs.Table.{Table}
-use Rattle.sqlite.specs.Effect.{Database}
-use Rattle.sqlite_trees.specs.Tree.{IsTable}
-use Rattle.sqlite_rules.specs.Lists.{Has}
 use Rattle.sqlite.specs.Held.{Held}
 use Rattle.sqlite.specs.Files.{file_state, IsOpened}
 use Rattle.sqlite.specs.Recovery.{Image}
@@ -22,12 +18,10 @@ use Rattle.ee_desk_laws.specs.Ties.{Leaves}
 use Rattle.ee_store_schema.specs.declared.forms.Form.{Form}
 use Rattle.ee_store_schema.specs.declared.forms.Form.TheVariants.{Current, First, Earliest}
 use Rattle.ee_store_schema.specs.Forms.{version_of, StoresIn, HasForm, IsOurs, HadIn}
-use Rattle.ee_store_schema.specs.Migrating.{AnswersFit}
+use Rattle.ee_store_schema.specs.Migrating.{AnswersFit, BondsAndLinesHaveRoom}
 use Rattle.ee_store_schema.specs.Making.{IsBlank}
 use Rattle.ee_store_tables.specs.Rows.{Rows, DeskRow, HasRoomIn, HasRoom}
 use Rattle.ee_store_tables.specs.Statements.{HasCause}
-use Rattle.ee_store_load.specs.Numbering.{HasNumbersLeft}
-use Rattle.ee_store_load.specs.declared.whole.AllRows.{AllRows}
 use Rattle.ee_store_load.specs.Opening.{HasTables, IsOther, IsOtherVersion, ShowsOther, SeesDesk}
 use Rattle.ee_store_schema.specs.declared.faults.OpenFault.{OpenFault}
 use Rattle.ee_store_schema.specs.declared.faults.OpenFault.TheVariants.{StoreFailed, WrongVersion, Unusable}
@@ -142,26 +136,23 @@ CanMigrate old = (¬ HasForm Current old) → (form : Form) (rows : Rows) → Ha
 abbrev pub FailsToAdopt : State → State → OpenFault → Type 0
 FailsToAdopt old new fault = old.in_transaction ≡ false → old.step_limit ≡ None → IsBlank old ⊎ IsOurs old → CanMigrate old → fault ≡ StoreFailed → HasCause old new
 
--- Each table is in the order of its row numbers.
-abbrev pub IsInRowOrder : Database → Type 0
-IsInRowOrder db = (table : Table) → Has db.schema.tables table → IsTable (db.trees table.tree)
+-- this many more rows with hidden numbers fit in bonds and lines of version 1, and in a new table
+abbrev pub HasRoomFirst : ℕ → Trees → Type 0
+HasRoomFirst n db = BondsAndLinesHaveRoom n db × (1 + n ≤ 2 ^ 63)
 
--- the hidden row numbers that were read leave room, and the replies that are to be migrated are few
-abbrev pub LeavesNumbers : AllRows → Type 0
-LeavesNumbers all = (all.has_room ≡ true) × (all.form ≢ Current → length all.replies.earlier.items < 2 ^ 61)
+-- The tables in this form have room for this many more rows; those of version 1 also for their kept replies.
+abbrev pub HasRoomFor : Form → ℕ → Trees → Rows → Type 0
+HasRoomFor Current n db rows = HasRoomIn n db
+HasRoomFor First n db rows = HasRoomFirst (n + length (entries rows.answers)) db
+HasRoomFor Earliest n db rows = HasRoomFirst (n + length (entries rows.answers)) db
 
--- the same of the rows that the last commit left
-abbrev pub HadNumbersLeft : State → Type 0
-HadNumbersLeft old = (form : Form) (rows : Rows) → HadIn form old rows
-    → HasNumbersLeft form old.committed.trees × (form ≢ Current → length (entries rows.answers) < 2 ^ 61)
+-- the tables that the last commit left have this room
+abbrev pub HadRoom : ℕ → State → Type 0
+HadRoom n old = (form : Form) × (rows : Rows) × HadIn form old rows × HasRoomFor form n old.committed.trees rows
 
--- a store whose tables were in the order of their row numbers, as `sqlite` keeps them in a file, has room for 2^61 more rows
-abbrev pub OpensWithNumbers : State → State → Type 0
-OpensWithNumbers old new = IsInRowOrder old.committed → HasRoom (2 ^ 61) new
-
--- it has room for as many rows as its trees have; a store that was new, for 2^63 - 1
+-- it has room for as many rows as its trees have, or had before; a store that was new, for 2^63 - 1
 abbrev pub OpensWithRoom : State → State → Type 0
-OpensWithRoom old new = (n : ℕ) → HasRoomIn n new.committed.trees ⊎ (IsBlank old × (1 + n ≤ 2 ^ 63)) → HasRoom n new
+OpensWithRoom old new = (n : ℕ) → HasRoomIn n new.committed.trees ⊎ (HadRoom n old ⊎ (IsBlank old × (1 + n ≤ 2 ^ 63))) → HasRoom n new
 
 -- the keeper has what was found in the files, which first held this
 pub record IsOpenedFrom {D : Type 0} {g : Ghosts D} (start : Image) (now : Held (FileStore D g)) : Type 0 where
@@ -178,11 +169,9 @@ pub record IsOpenedFrom {D : Type 0} {g : Ghosts D} (start : Image) (now : Held 
   pub goes_on : GoesOn (file_state was) (file_state now)
   pub crash : Survives (file_state was) (file_state now) (λ db. IsBlank (file_state was) → StandsFor db nothing)
   pub left : LeavesAsBefore (file_state was) (file_state now)
-  -- it takes requests, with the room that its trees have
+  -- it takes requests, with the room that its trees have or had
   pub ready : IsReady (file_state now)
   pub room : OpensWithRoom (file_state was) (file_state now)
-  -- and that is room for 2^52 requests, of 501 rows each
-  pub numbers : (m : ℕ) → m ≤ 2 ^ 52 → HasRoom (501 * m) (file_state now)
   -- each later read is tested against the digest of what was read or written there
   pub shielded : (file_state now).IsShielded
 
@@ -194,7 +183,7 @@ pub record IsRefusedFrom {D : Type 0} {g : Ghosts D} (start : Image) (fault : Op
   pub kept : KeepsCommit (file_state was) (file_state now)
   pub version : fault ≡ WrongVersion → HadNone (file_state was)
   pub other : fault ≡ WrongVersion → HadOtherVersion (file_state was)
-  pub unusable : fault ≡ Unusable → HadNumbersLeft (file_state was) → HadNone (file_state was)
+  pub unusable : fault ≡ Unusable → HadNone (file_state was)
   pub tested : fault ≡ Unusable → HadNoOtherVersion (file_state was)
   pub cause : FailsToAdopt (file_state was) (file_state now) fault
   pub waits : StaysStopped (file_state was) (file_state now)

@@ -1,6 +1,6 @@
 //! Adopting a connection, and handing it back.
 
-ghost use Rattle.std.specs.Prelude.{◌≡◌, ◌≢◌, ◌↔◌, true, false, IsTrue, IfOk, IfErr, OnOk, OnErr, MatchResult};
+ghost use Rattle.std.specs.Prelude.{◌≡◌, ◌≢◌, false, IsTrue, IfOk, IfErr, OnOk, OnErr, MatchResult};
 ghost use Rattle.sqlite.specs.Held.{state};
 ghost use Rattle.sqlite.specs.State.{HasCleanDisk, IsLive, KeepsCommit, Survives};
 ghost use Rattle.ee_desk_model.specs.Repeats.{Content, nothing};
@@ -16,7 +16,6 @@ ghost use Rattle.ee_store.specs.Adopted.{
   KeepsContent,
   HasSome,
   HadNone,
-  HadNumbersLeft,
   CarriesWorld,
   BeginsWorld,
   GoesOn,
@@ -26,8 +25,6 @@ ghost use Rattle.ee_store.specs.Adopted.{
   LeavesAsBefore,
   FailsToAdopt,
   OpensWithRoom,
-  OpensWithNumbers,
-  LeavesNumbers,
 };
 ghost use Rattle.ee_store_books.specs.Causes.{IsReady};
 ghost use Rattle.ee_store_delivery.specs.Known.{IsInformed};
@@ -37,7 +34,7 @@ use ee_desk_model::UnitTables;
 use ee_store_contents::{ContentFault, KeptReply, TestedContent, tables_of};
 use ee_store_delivery::Known;
 use ee_store_load::{AllRows, is_blank, open_rows};
-use ee_store_schema::{Form, OpenFault, make_tables, migrate};
+use ee_store_schema::{OpenFault, make_tables, migrate};
 use sqlite::{Alter, Connection};
 use std::alloc::Global;
 
@@ -50,16 +47,6 @@ pub struct NotAdopted<S: Alter> {
     pub conn: Connection<S>,
 }
 
-/// Fewer replies than this are migrated.
-const MOST_EARLIER: usize = 1 << 61;
-
-/// Whether rows have hidden numbers that leave room for new rows, also once the replies of version 1 are migrated.
-fn leaves_numbers(all: &AllRows) -> bool
-    ensures { (result ≡ true) ↔ LeavesNumbers all.now }
-{
-    all.has_room && (matches!(all.form, Form::Current) || all.replies.earlier.len() < MOST_EARLIER)
-}
-
 /// The tables of unit values for the rates of rows that represent books and kept replies, and the replies to be migrated.
 /// Drops the rows.
 fn prepared(alloc: Global, all: AllRows) -> Result<TestedContent, OpenFault>
@@ -67,15 +54,11 @@ fn prepared(alloc: Global, all: AllRows) -> Result<TestedContent, OpenFault>
     ensures ok { IfOk result (λ tested. (rows : Rows) → AreRead KeepsAnswer all rows → (content : Content)
         × (tested.tables ≡ tables_for content.books.rates) × StandAt (version_of all.form) rows content) }
     ensures left { IfOk result (λ tested. tested.answers ≡ all.replies.earlier) }
-    ensures numbers { OnOk result (LeavesNumbers all) }
-    ensures unusable { IfErr result (λ fault. fault ≡ OpenFault.Unusable → LeavesNumbers all → (rows : Rows) → AreRead KeepsAnswer all rows
+    ensures unusable { IfErr result (λ fault. fault ≡ OpenFault.Unusable → (rows : Rows) → AreRead KeepsAnswer all rows
         → (content : Content) → StandAt (version_of all.form) rows content → ⊥) }
     ensures version { IfErr result (λ fault. fault ≢ OpenFault.WrongVersion) }
     ensures settled { IfErr result (λ fault. fault ≢ OpenFault.StoreFailed) }
 {
-    if !leaves_numbers(&all) {
-        return Err(OpenFault::Unusable);
-    }
     match tables_of(alloc, all) {
         Ok(tested) => Ok(tested),
         Err(ContentFault::Unusable) => Err(OpenFault::Unusable),
@@ -107,12 +90,10 @@ fn ready<S: Alter>(conn: &mut Connection<S>, alloc: Global) -> Result<UnitTables
     ensures kept { HasCleanDisk (state S.Store conn.new) → OnErr result (KeepsCommit (state S.Store conn.old) (state S.Store conn.new)) }
     ensures version { HasCleanDisk (state S.Store conn.new) → IfErr result (λ fault. fault ≡ OpenFault.WrongVersion → HadNone (state S.Store conn.old)) }
     ensures other { HasCleanDisk (state S.Store conn.new) → IfErr result (λ fault. fault ≡ OpenFault.WrongVersion → HadOtherVersion (state S.Store conn.old)) }
-    ensures unusable { HasCleanDisk (state S.Store conn.new) → IfErr result (λ fault. fault ≡ OpenFault.Unusable
-        → HadNumbersLeft (state S.Store conn.old) → HadNone (state S.Store conn.old)) }
+    ensures unusable { HasCleanDisk (state S.Store conn.new) → IfErr result (λ fault. fault ≡ OpenFault.Unusable → HadNone (state S.Store conn.old)) }
     ensures tested { HasCleanDisk (state S.Store conn.new) → IfErr result (λ fault. fault ≡ OpenFault.Unusable → HadNoOtherVersion (state S.Store conn.old)) }
     ensures ready { IsReady (state S.Store conn.old) → IsReady (state S.Store conn.new) }
     ensures room { HasCleanDisk (state S.Store conn.new) → OnOk result (OpensWithRoom (state S.Store conn.old) (state S.Store conn.new)) }
-    ensures numbers { HasCleanDisk (state S.Store conn.new) → OnOk result (OpensWithNumbers (state S.Store conn.old) (state S.Store conn.new)) }
     ensures cause { HasCleanDisk (state S.Store conn.new) → IfErr result (FailsToAdopt (state S.Store conn.old) (state S.Store conn.new)) }
     ensures crash { Survives (state S.Store conn.old) (state S.Store conn.new) (λ db. IsBlank (state S.Store conn.old) → StandsFor db nothing) }
     ensures left { HasCleanDisk (state S.Store conn.new) → LeavesAsBefore (state S.Store conn.old) (state S.Store conn.new) }
@@ -154,16 +135,15 @@ impl<S: Alter> SqlKeeper<S> {
     /// - `follows`: the store follows the events of the law of stops and retries as before.
     /// - `goes_on`: a store over trees that a crash left, which represent a content, is opened with exactly that
     ///   content, and the events of the law go on from there.
-    /// - `version`, `unusable`: a store that has a content, or no tables, is refused for neither, unless the hidden
-    ///   numbers of its rows leave no room.
+    /// - `version`, `unusable`: a store that has a content, or no tables, is refused for neither.
     /// - `other`, `tested`: the fault is `WrongVersion` only if the rows have another version, and then never
     ///   `Unusable`. Over other tables it is `WrongVersion` only if `sqlite` shows another version for the desk's
     ///   row; if the desk is the first table, exactly then.
     /// - `ready`: a connection in no transaction, without a limit on steps, makes a keeper that takes requests. If
     ///   it is refused, it is handed back in the same state.
-    /// - `room`: it has room for as many rows with hidden rowids as its trees have; a store that was new, for
-    ///   2^63 - 1.
-    /// - `numbers`: that is room for 2^61 rows, if each table was in the order of its row numbers.
+    /// - `room`: it has room for as many rows with hidden rowids as its trees have, and as they had before, less those
+    ///   of the kept replies that are migrated; a store that was new, for 2^63 - 1. A store without room is taken over
+    ///   too: it answers what it keeps, and `StoreFailed` to requests that need a row.
     /// - `cause`: for such a connection, over a store without tables or with exactly those of either version, the
     ///   fault is `StoreFailed` only if the device failed once more, or the store was shut before. For a store of
     ///   version 1 this needs kept replies that fit the rows of version 2, as all do that are shorter than 900
@@ -182,8 +162,7 @@ impl<S: Alter> SqlKeeper<S> {
     /// - `NoMemory` if memory is refused.
     /// - `StoreFailed` if the store fails, or the connection is in a transaction.
     /// - `WrongVersion` if the tables have neither version.
-    /// - `Unusable` if the tables are others, or in another order, or the rows represent no books and kept
-    ///   replies; or if a row's hidden number is below 1, or has fewer than 2^62 numbers above it.
+    /// - `Unusable` if the tables are others, or in another order, or the rows represent no books and kept replies.
     pub fn adopt(conn: Connection<S>, alloc: Global) -> Result<SqlKeeper<S>, NotAdopted<S>>
         ensures begins { IfOk result (λ keeper. HasCleanDisk (state S.Store keeper.conn) → BeginsEmpty (state S.Store conn) (state S.Store keeper.conn)) }
         ensures begun { IfOk result (λ keeper. HasCleanDisk (state S.Store keeper.conn) → BeginsWorld (state S.Store conn) (state S.Store keeper.conn)) }
@@ -196,13 +175,11 @@ impl<S: Alter> SqlKeeper<S> {
         ensures version { IfErr result (λ not. HasCleanDisk (state S.Store not.conn) → not.fault ≡ OpenFault.WrongVersion → HadNone (state S.Store conn)) }
         ensures other { IfErr result
             (λ not. HasCleanDisk (state S.Store not.conn) → not.fault ≡ OpenFault.WrongVersion → HadOtherVersion (state S.Store conn)) }
-        ensures unusable { IfErr result (λ not. HasCleanDisk (state S.Store not.conn) → not.fault ≡ OpenFault.Unusable
-            → HadNumbersLeft (state S.Store conn) → HadNone (state S.Store conn)) }
+        ensures unusable { IfErr result (λ not. HasCleanDisk (state S.Store not.conn) → not.fault ≡ OpenFault.Unusable → HadNone (state S.Store conn)) }
         ensures tested { IfErr result (λ not. HasCleanDisk (state S.Store not.conn) → not.fault ≡ OpenFault.Unusable → HadNoOtherVersion (state S.Store conn)) }
         ensures ready { MatchResult result (λ keeper. IsReady (state S.Store conn) → IsReady (state S.Store keeper.conn))
             (λ not. IsReady (state S.Store conn) → IsReady (state S.Store not.conn)) }
         ensures room { IfOk result (λ keeper. HasCleanDisk (state S.Store keeper.conn) → OpensWithRoom (state S.Store conn) (state S.Store keeper.conn)) }
-        ensures numbers { IfOk result (λ keeper. HasCleanDisk (state S.Store keeper.conn) → OpensWithNumbers (state S.Store conn) (state S.Store keeper.conn)) }
         ensures cause { IfErr result (λ not. HasCleanDisk (state S.Store not.conn) → FailsToAdopt (state S.Store conn) (state S.Store not.conn) not.fault) }
         ensures waits { IfErr result (λ not. HasCleanDisk (state S.Store not.conn) → StaysStopped (state S.Store conn) (state S.Store not.conn)) }
         ensures crash { MatchResult result

@@ -94,7 +94,6 @@ fn parts_in(alloc: Global, stored: AllRows) -> Result<Option<ReadParts>, AllocEr
         batches,
         extensions,
         replies: _,
-        has_room: _,
     } = stored;
     let Some(days) = days_in(form.version(), &desk) else {
         return Ok(None);

@@ -20,4 +20,3 @@ mod FiveLemmas
 mod FirstAnswers
 mod LastLemmas
 mod TestLemmas
-mod NumberLemmas

@@ -3,4 +3,3 @@ pub mod Shown
 pub mod Whole
 pub mod Opening
 pub mod Testing
-pub mod Numbering

@@ -12,7 +12,6 @@ use Rattle.ee_store_schema.specs.declared.forms.Form.{Form}
 use Rattle.ee_store_schema.specs.declared.forms.Form.TheVariants.{Current, First, Earliest}
 use Rattle.ee_store_schema.specs.Forms.{SeesForm, HoldsReplies}
 use Rattle.ee_store_schema.specs.Migrating.{answer_entry}
-use Rattle.ee_store_load.specs.Numbering.{AllLeaveRoom, RepliesLeaveRoom}
 use Rattle.ee_store_load.specs.declared.entries.StoredRate.{StoredRate}
 use Rattle.ee_store_load.specs.declared.tables.KeptReplies.{KeptReplies}
 use Rattle.ee_store_load.specs.declared.whole.AllRows.{AllRows}
@@ -87,12 +86,10 @@ pub record HoldsRegister (db : Trees) (part : RegisterRows) : Type 0 where
   pub desk : HoldsMap desk_columns (db 0) (desk_map part.desk.items)
   pub rates : HoldsMap rate_columns (db 1) (rate_map part.rates.items)
   pub bonds : HoldsPairs bond_columns (db 2) (bond_map part.bonds.items)
-  pub room : (part.has_room ≡ true) ↔ AllLeaveRoom (db 2)
 
 pub record HoldsPayments (db : Trees) (part : PaymentRows) : Type 0 where
   pub tickets : HoldsMap ticket_columns (db 5) (ticket_map part.tickets.items)
   pub lines : HoldsPairs paid_columns (db 7) (line_map part.lines.items)
-  pub room : (part.has_room ≡ true) ↔ AllLeaveRoom (db 7)
 
 -- a transaction sees tables of version 1
 abbrev pub HasFirstTables : State → Type 0
@@ -109,7 +106,6 @@ pub record HoldsTested (Passes : StoredAnswer → Type 0) (form : Form) (db : Tr
   pub kept : List StoredAnswer
   pub tested : AreTested Passes form read kept
   pub held : HoldsKept form db (answer_map kept)
-  pub room : (read.has_room ≡ true) ↔ RepliesLeaveRoom form db
 
 pub record HoldsRecords (Passes : StoredAnswer → Type 0) (form : Form) (db : Trees) (part : KeptRows) : Type 0 where
   pub batches : HoldsMap batch_columns (db 10) (batch_map part.batches.items)

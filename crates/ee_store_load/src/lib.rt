@@ -9,7 +9,6 @@
 
 mod bonds;
 mod entries;
-mod numbering;
 mod opening;
 mod ours;
 mod reading;

@@ -9,7 +9,6 @@ ghost use Rattle.ee_store_schema.specs.declared.forms.Form.{Form};
 ghost use Rattle.ee_store_schema.specs.Faults.{FailsForCause, StaysOutside};
 ghost use Rattle.ee_store_schema.specs.Forms.{IsOurs, HadIn};
 ghost use Rattle.ee_store_schema.specs.Making.{IsBlank};
-ghost use Rattle.ee_store_load.specs.Numbering.{HasNumbersLeft};
 ghost use Rattle.ee_store_load.specs.Whole.{AreRead, AreInOrder};
 ghost use Rattle.ee_store_load.specs.Opening.{HasTables, IsOfForm, IsOtherVersion, AreReadable, IsTold};
 
@@ -56,8 +55,6 @@ fn refusal<S: Alter>(conn: &mut Connection<S>) -> OpenFault
 /// - `found`: a store with tables in this form has these rows, and they were read. All of them are returned but
 ///   the kept replies, for which the result says whether each passed. A store determines its rows.
 /// - `those`: the rows that the store had before were read.
-/// - `room`: the result says whether the hidden row numbers of bonds, lines and kept replies leave room: each is
-///   from 1 on, and has 2^62 numbers above it. A store whose numbers leave none is read like any other.
 /// - `order`, `first`: the rows of each table come in order, and are those of the form that is returned.
 /// - `version`, `tested`, `unusable`: what each refusal says of the rows that the store had.
 /// - `others`: for a store with other tables the fault is `WrongVersion` only if `sqlite` shows another version
@@ -81,7 +78,6 @@ pub fn open_rows<S: Alter, P: RowTest<StoredAnswer>>(
         × HadIn all.form (state S.Store conn.new) rows × AreRead P.passes all rows) }
     ensures those { HasCleanDisk (state S.Store conn.new) → IfOk result (λ all. (form : Form) (rows : Rows) → HadIn form (state S.Store conn.old) rows
         → IsTrue (state S.Store conn.old).is_open → AreRead P.passes all rows) }
-    ensures room { HasCleanDisk (state S.Store conn.new) → IfOk result (λ all. (all.has_room ≡ true) ↔ HasNumbersLeft all.form (state S.Store conn.new).now.trees) }
     ensures order { IfOk result AreInOrder }
     ensures open { HasCleanDisk (state S.Store conn.new) → OnOk result (IsTrue (state S.Store conn.old).is_open × IsTrue (state S.Store conn.new).is_open) }
     ensures first { HasCleanDisk (state S.Store conn.new) → OnOk result ((form : Form) (rows : Rows) → HadIn form (state S.Store conn.old) rows

@@ -26,7 +26,6 @@ ghost use Rattle.ee_store_schema.specs.Faults.{FailsForCause, StaysOutside};
 ghost use Rattle.ee_store_schema.specs.declared.forms.Form.TheVariants.{Current, First};
 ghost use Rattle.ee_store_schema.specs.Forms.{at_first_desk, HasOurTables, SeesForm, HoldsIn, HoldsReplies};
 ghost use Rattle.ee_store_schema.specs.Migrating.{answer_entry};
-ghost use Rattle.ee_store_load.specs.Numbering.{AllLeaveRoom};
 ghost use Rattle.ee_store_load.specs.Reading.{IsSoundNow, OnlyLoads};
 ghost use Rattle.ee_store_load.specs.Shown.{
   AreBonds,
@@ -53,9 +52,8 @@ ghost use Rattle.ee_store_load.specs.Whole.{HasFirstTables, HoldsKept, HoldsTest
 use crate::entries::{
     Rowid, StoredBatch, StoredDesk, StoredLine, StoredRate, StoredReply, StoredTicket,
 };
-use crate::numbering::RoomAbove;
 use crate::reading::read_table;
-use crate::testing::{RowTest, all_pass, test_table};
+use crate::testing::{AnyRow, RowTest, all_pass, test_table};
 use ee_desk_model::Held;
 use ee_store_schema::{Form, OpenFault, StoredAnswer};
 use sqlite::{Alter, Connection};
@@ -207,8 +205,6 @@ pub struct KeptReplies {
     pub pass: bool,
     /// The replies of a store of version 1, which is to be migrated. None for version 2, since each is dropped as soon as it is tested.
     pub earlier: Vec<StoredAnswer>,
-    /// Whether their hidden row numbers leave room. Those of version 1 have none.
-    pub has_room: bool,
 }
 
 /// Tests the kept replies of a store of version 1.
@@ -227,14 +223,10 @@ fn test_first_answers<S: Alter, P: RowTest<StoredAnswer>>(
 {
     let earlier = read_first_answers(conn, alloc)?;
     let pass = all_pass::<StoredAnswer, P>(alloc, &earlier)?;
-    Ok(KeptReplies {
-        pass,
-        earlier,
-        has_room: true,
-    })
+    Ok(KeptReplies { pass, earlier })
 }
 
-/// Tests the kept replies of a store of version 2, each as it is read.
+/// Tests the kept replies of a store of version 2, each as it is read. Reads the rowids as `read_bonds` does.
 fn test_current_answers<S: Alter, P: RowTest<StoredAnswer>>(
     conn: &mut Connection<S>,
     alloc: Global,
@@ -253,15 +245,10 @@ fn test_current_answers<S: Alter, P: RowTest<StoredAnswer>>(
         alloc,
         "SELECT desk, number, act, reply FROM answers ORDER BY desk, number",
     )?;
-    let has_room = test_table::<S, Rowid, RoomAbove>(
-        conn,
-        alloc,
-        "SELECT rowid FROM answers ORDER BY rowid",
-    )?;
+    test_table::<S, Rowid, AnyRow>(conn, alloc, "SELECT rowid FROM answers ORDER BY rowid")?;
     Ok(KeptReplies {
         pass,
         earlier: Vec::new(alloc),
-        has_room,
     })
 }
 
@@ -286,23 +273,15 @@ pub(crate) fn test_answers<S: Alter, P: RowTest<StoredAnswer>>(
     }
 }
 
-/// Rows of a table, and whether their hidden row numbers leave room.
-#[derive(Drop)]
-pub(crate) struct NumberedRows<T> {
-    pub rows: Vec<T>,
-    pub has_room: bool,
-}
-
-/// Reads the bonds, by serial number.
+/// Reads the bonds, by serial number. Then reads the rowids in order, since no clause of `sqlite` says that they are
+/// whole numbers and differ.
 pub(crate) fn read_bonds<S: Alter>(
     conn: &mut Connection<S>,
     alloc: Global,
-) -> Result<NumberedRows<Held>, OpenFault>
+) -> Result<Vec<Held>, OpenFault>
     ensures found { HasCleanDisk (state S.Store conn.new) → HasOurTables (state S.Store conn.old) → IsSoundNow (state S.Store conn.old)
-        → IfOk result (λ found. HoldsPairs bond_columns ((state S.Store conn.old).now.trees 2) (bond_map found.rows.items)) }
-    ensures room { HasCleanDisk (state S.Store conn.new) → HasOurTables (state S.Store conn.old)
-        → IfOk result (λ found. (found.has_room ≡ true) ↔ AllLeaveRoom ((state S.Store conn.old).now.trees 2)) }
-    ensures listed { IfOk result (λ found. entries (bond_map found.rows.items) ≡ map bond_entry found.rows.items) }
+        → IfOk result (λ found. HoldsPairs bond_columns ((state S.Store conn.old).now.trees 2) (bond_map found.items)) }
+    ensures listed { IfOk result (λ found. entries (bond_map found.items) ≡ map bond_entry found.items) }
     ensures usable { HasCleanDisk (state S.Store conn.new) → IfErr result (λ e. e ≡ OpenFault.Unusable → HasOurTables (state S.Store conn.old)
         → IsTrue (state S.Store conn.old).is_open → (m : FinMap pair_cmp BondRow) → AreBonds m → ¬ HoldsPairs bond_columns ((state S.Store conn.old).now.trees 2) m) }
     ensures only_loads { OnlyLoads (state S.Store conn.old) (state S.Store conn.new) result }
@@ -313,24 +292,18 @@ pub(crate) fn read_bonds<S: Alter>(
         alloc,
         "SELECT letter, number, denom, issued, owner, coowner, ticket FROM bonds ORDER BY letter, number",
     )?;
-    let has_room = test_table::<S, Rowid, RoomAbove>(
-        conn,
-        alloc,
-        "SELECT rowid FROM bonds ORDER BY rowid",
-    )?;
-    Ok(NumberedRows { rows, has_room })
+    test_table::<S, Rowid, AnyRow>(conn, alloc, "SELECT rowid FROM bonds ORDER BY rowid")?;
+    Ok(rows)
 }
 
-/// Reads the lines of the tickets, by ticket and place.
+/// Reads the lines of the tickets, by ticket and place. Reads the rowids as `read_bonds` does.
 pub(crate) fn read_lines<S: Alter>(
     conn: &mut Connection<S>,
     alloc: Global,
-) -> Result<NumberedRows<StoredLine>, OpenFault>
+) -> Result<Vec<StoredLine>, OpenFault>
     ensures found { HasCleanDisk (state S.Store conn.new) → HasOurTables (state S.Store conn.old) → IsSoundNow (state S.Store conn.old)
-        → IfOk result (λ found. HoldsPairs paid_columns ((state S.Store conn.old).now.trees 7) (line_map found.rows.items)) }
-    ensures room { HasCleanDisk (state S.Store conn.new) → HasOurTables (state S.Store conn.old)
-        → IfOk result (λ found. (found.has_room ≡ true) ↔ AllLeaveRoom ((state S.Store conn.old).now.trees 7)) }
-    ensures listed { IfOk result (λ found. entries (line_map found.rows.items) ≡ map line_entry found.rows.items) }
+        → IfOk result (λ found. HoldsPairs paid_columns ((state S.Store conn.old).now.trees 7) (line_map found.items)) }
+    ensures listed { IfOk result (λ found. entries (line_map found.items) ≡ map line_entry found.items) }
     ensures usable { HasCleanDisk (state S.Store conn.new) → IfErr result (λ e. e ≡ OpenFault.Unusable → HasOurTables (state S.Store conn.old)
         → IsTrue (state S.Store conn.old).is_open → (m : FinMap pair_cmp PaidRow) → ¬ HoldsPairs paid_columns ((state S.Store conn.old).now.trees 7) m) }
     ensures only_loads { OnlyLoads (state S.Store conn.old) (state S.Store conn.new) result }
@@ -341,12 +314,8 @@ pub(crate) fn read_lines<S: Alter>(
         alloc,
         "SELECT ticket, place, letter, number, cents FROM paid ORDER BY ticket, place",
     )?;
-    let has_room = test_table::<S, Rowid, RoomAbove>(
-        conn,
-        alloc,
-        "SELECT rowid FROM paid ORDER BY rowid",
-    )?;
-    Ok(NumberedRows { rows, has_room })
+    test_table::<S, Rowid, AnyRow>(conn, alloc, "SELECT rowid FROM paid ORDER BY rowid")?;
+    Ok(rows)
 }
 
 /// Reads the extensions, by period; none if the store lacks their table.

@@ -29,6 +29,19 @@ pub trait RowTest<T> {
         ensures { IfOk result (λ right. (right ≡ true) ↔ passes row.now) };
 }
 
+/// Any row passes.
+pub(crate) struct AnyRow;
+
+impl<T> RowTest<T> for AnyRow {
+    ghost use Rattle.std.specs.Prelude.{⊤};
+
+    ghost passes = { λ _. ⊤ };
+
+    fn test(_alloc: Global, _row: &T) -> Result<bool, AllocError> {
+        Ok(true)
+    }
+}
+
 /// What is known about the rows read so far: the last row, whether their keys rise, and whether each passed its test.
 #[derive(Drop)]
 struct TestedRows<T, P> {

@@ -9,7 +9,6 @@ ghost use Rattle.ee_store_schema.specs.Forms.{HoldsIn, SeesForm, HasOurTables, S
 ghost use Rattle.ee_store_load.specs.Opening.{IsOfForm, IsOtherVersion, AreReadable};
 ghost use Rattle.ee_store_load.specs.Shown.{AreBonds, AreWritten};
 ghost use Rattle.ee_store_schema.specs.Faults.{FailsForCause, StaysOutside};
-ghost use Rattle.ee_store_load.specs.Numbering.{HasNumbersLeft};
 ghost use Rattle.ee_store_load.specs.Reading.{IsSoundNow, OnlyLoads};
 ghost use Rattle.ee_store_load.specs.Whole.{
   AreRead,
@@ -56,8 +55,6 @@ pub struct AllRows {
     pub extensions: Vec<StoredRate>,
     /// What was read of the kept acts and replies.
     pub replies: KeptReplies,
-    /// Whether each hidden row number has 2^62 numbers above it, and is from 1 on.
-    pub has_room: bool,
 }
 
 /// The rows of the register.
@@ -66,7 +63,6 @@ pub(crate) struct RegisterRows {
     desk: Vec<StoredDesk>,
     rates: Vec<StoredRate>,
     bonds: Vec<Held>,
-    has_room: bool,
 }
 
 /// The rows of the payments.
@@ -74,7 +70,6 @@ pub(crate) struct RegisterRows {
 pub(crate) struct PaymentRows {
     tickets: Vec<StoredTicket>,
     lines: Vec<StoredLine>,
-    has_room: bool,
 }
 
 /// The rows of what is kept.
@@ -100,12 +95,7 @@ fn read_register<S: Alter>(
     let desk = read_desk(conn, alloc)?;
     let rates = read_rates(conn, alloc)?;
     let bonds = read_bonds(conn, alloc)?;
-    Ok(RegisterRows {
-        desk,
-        rates,
-        bonds: bonds.rows,
-        has_room: bonds.has_room,
-    })
+    Ok(RegisterRows { desk, rates, bonds })
 }
 
 /// Reads the tickets and their lines.
@@ -123,11 +113,7 @@ fn read_payments<S: Alter>(
 {
     let tickets = read_tickets(conn, alloc)?;
     let lines = read_lines(conn, alloc)?;
-    Ok(PaymentRows {
-        tickets,
-        lines: lines.rows,
-        has_room: lines.has_room,
-    })
+    Ok(PaymentRows { tickets, lines })
 }
 
 /// Reads the batches, and tests the kept replies.
@@ -158,8 +144,6 @@ fn read_in<S: Alter, P: RowTest<StoredAnswer>>(
 ) -> Result<AllRows, OpenFault>
     ensures found { HasCleanDisk (state S.Store conn.new) → SeesForm form (state S.Store conn.old) → IsSoundNow (state S.Store conn.old)
         → IfOk result (λ all. (rows : Rows) × HoldsIn form (state S.Store conn.old).now.trees rows × AreRead P.passes all rows) }
-    ensures room { HasCleanDisk (state S.Store conn.new) → SeesForm form (state S.Store conn.old) → IsSoundNow (state S.Store conn.old)
-        → IfOk result (λ all. (all.has_room ≡ true) ↔ HasNumbersLeft form (state S.Store conn.old).now.trees) }
     ensures listed { IfOk result ListsAll }
     ensures form { IfOk result (λ all. all.form ≡ form) }
     ensures usable { HasCleanDisk (state S.Store conn.new) → IfErr result (λ e. e ≡ OpenFault.Unusable → SeesForm form (state S.Store conn.old)
@@ -171,7 +155,6 @@ fn read_in<S: Alter, P: RowTest<StoredAnswer>>(
     let payments = read_payments(conn, alloc)?;
     let records = read_records::<S, P>(conn, alloc, form)?;
     let extensions = read_extensions(conn, alloc, form)?;
-    let has_room = register.has_room & payments.has_room & records.replies.has_room;
     Ok(AllRows {
         form,
         desk: register.desk,
@@ -182,7 +165,6 @@ fn read_in<S: Alter, P: RowTest<StoredAnswer>>(
         batches: records.batches,
         extensions,
         replies: records.replies,
-        has_room,
     })
 }
 
@@ -194,8 +176,6 @@ fn read_of_version<S: Alter, P: RowTest<StoredAnswer>>(
 ) -> Result<AllRows, OpenFault>
     ensures found { HasCleanDisk (state S.Store conn.new) → SeesForm form (state S.Store conn.old) → IsSoundNow (state S.Store conn.old)
         → IfOk result (λ all. (rows : Rows) × HoldsIn form (state S.Store conn.old).now.trees rows × AreRead P.passes all rows) }
-    ensures room { HasCleanDisk (state S.Store conn.new) → SeesForm form (state S.Store conn.old) → IsSoundNow (state S.Store conn.old)
-        → IfOk result (λ all. (all.has_room ≡ true) ↔ HasNumbersLeft form (state S.Store conn.old).now.trees) }
     ensures listed { IfOk result ListsAll }
     ensures form { IfOk result (λ all. all.form ≡ form) }
     ensures first { HasCleanDisk (state S.Store conn.new) → OnOk result ((rows : Rows) → SeesIn form (state S.Store conn.old) rows → IsOfForm form rows) }
@@ -221,8 +201,7 @@ fn read_of_version<S: Alter, P: RowTest<StoredAnswer>>(
 /// Reads all rows of a store with tables in this form, and tests its kept replies.
 ///
 /// Tests the version first. The store keeps what was committed, and a stop leaves what it could leave before.
-/// The time is proportional to the rows, and the memory to all of them but the kept replies of version 2. The result
-/// says whether the hidden row numbers leave room for 2^62 more rows (`room`).
+/// The time is proportional to the rows, and the memory to all of them but the kept replies of version 2.
 ///
 /// # Errors
 ///
@@ -238,8 +217,6 @@ pub(crate) fn read_all<S: Alter, P: RowTest<StoredAnswer>>(
         → (rows : Rows) × HadIn form (state S.Store conn.new) rows × AreRead P.passes all rows) }
     ensures those { HasCleanDisk (state S.Store conn.new) → IfOk result (λ all. (rows : Rows) → HadIn form (state S.Store conn.old) rows
         → IsTrue (state S.Store conn.old).is_open → AreRead P.passes all rows) }
-    ensures room { HasCleanDisk (state S.Store conn.new) → IfOk result (λ all. HasForm form (state S.Store conn.old)
-        → (all.has_room ≡ true) ↔ HasNumbersLeft form (state S.Store conn.new).now.trees) }
     ensures order { IfOk result AreInOrder }
     ensures form { IfOk result (λ all. all.form ≡ form) }
     ensures first { HasCleanDisk (state S.Store conn.new) → OnOk result ((rows : Rows) → HadIn form (state S.Store conn.old) rows → IsOfForm form rows) }

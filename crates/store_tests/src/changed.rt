@@ -8,6 +8,7 @@ use sqlite::{Alter, Connection, MemStore};
 use std::alloc::Global;
 use std::io::Eprint;
 use std::process::Abort;
+use std::test::Fail;
 
 /// A change of the rows after that day, how it is undone, the answer to the changed store, and a row that
 /// the change made.
@@ -23,12 +24,21 @@ UPDATE answers SET desk = 1000 WHERE number = 3 => UPDATE answers SET desk = 0 W
 UPDATE answers SET desk = -1 WHERE number = 3 => UPDATE answers SET desk = 0 WHERE number = 3 => Unusable => answers -1 3 {"act":"open","day":"2012-02-06"} {"opened":"2012-02-06"}
 UPDATE answers SET number = 0 WHERE number = 3 => UPDATE answers SET number = 3 WHERE number = 0 => Unusable => answers 0 0 {"act":"open","day":"2012-02-06"} {"opened":"2012-02-06"}
 UPDATE paid SET cents = 2589 WHERE place = 1 => UPDATE paid SET cents = 2588 WHERE place = 1 => Unusable => paid 1 1 12 1 2589
-UPDATE paid SET rowid = 0 WHERE place = 1 => UPDATE paid SET rowid = 1 WHERE place = 1 => Unusable => paid 1 1 12 1 2588
-UPDATE answers SET rowid = 4611686018427387904 WHERE number = 3 => UPDATE answers SET rowid = 3 WHERE number = 3 => Unusable => answers 0 3 {"act":"open","day":"2012-02-06"} {"opened":"2012-02-06"}
 INSERT INTO extensions VALUES (72, 400) => DELETE FROM extensions => Unusable => extensions 72 400
 INSERT INTO extensions VALUES (60, 200) => DELETE FROM extensions => Unusable => extensions 60 200
 INSERT INTO extensions VALUES (60, 2001) => DELETE FROM extensions => Unusable => extensions 60 2001
 "#;
+
+/// Changes of the hidden row numbers after that day, and the answer to a sixth request: none fails but that for which
+/// no number is left.
+const NUMBERS: &str = r#"UPDATE paid SET rowid = -1 WHERE place = 1 => 200 {"opened":"2012-02-07"}
+UPDATE answers SET rowid = 4611686018427387904 WHERE number = 3 => 200 {"opened":"2012-02-07"}
+UPDATE bonds SET rowid = 9223372036854775807 WHERE letter = 12 => 200 {"opened":"2012-02-07"}
+UPDATE answers SET rowid = 9223372036854775807 WHERE number = 3 => StoreFailed 503 {"code":2,"unserved":"StoreFailed"}
+"#;
+
+/// The sixth request.
+const SIXTH: &str = r#"> POST /day/open {"number":6,"day":"2012-02-07"}"#;
 
 /// Changes of the tables after that day, each on top of those before, and the answer to the changed store: a
 /// table less, the same tables in another order, a table more, another version beside that, and no version.
@@ -92,6 +102,25 @@ fn changed_stores_are_refused(rt: HostRuntime) {
     for case in CHANGES.lines() {
         conn = is_refused(&rt, rt.alloc(), conn, case);
     }
+}
+
+/// A store is opened whatever row numbers it has. It gives each number its first reply, and serves a new one if the
+/// rows of that have numbers.
+#[test]
+fn any_row_numbers_are_served(rt: HostRuntime) {
+    for case in NUMBERS.lines() {
+        let (change, answer) = parts(&rt, case);
+        let mut conn = with_five(&rt, rt.alloc());
+        conn.execute_batch(change).expect(&rt, change);
+        let conn = assert_answers(&rt, rt.alloc(), conn, FIVE, FIVE, change);
+        let talk = prepared(&rt, sixth_text(rt.alloc(), answer));
+        let _conn = assert_answers(&rt, rt.alloc(), conn, talk.as_str(), talk.as_str(), change);
+    }
+}
+
+/// The sixth request with its answer.
+fn sixth_text(alloc: Global, answer: &str) -> Result<String, Fail> {
+    Ok(format!(in alloc; "{SIXTH}\n{answer}\n")?)
 }
 
 /// A store that the five requests were sent to.

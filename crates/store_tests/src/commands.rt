@@ -94,7 +94,7 @@ pub struct InMemory {
 }
 
 impl Stores for InMemory {
-    ghost use Rattle.std.specs.Prelude.{◌≡◌};
+    ghost use Rattle.std.specs.Prelude.{◌≡◌, ⊤};
     ghost use Rattle.ee_desk_model.specs.Repeats.{nothing};
 
     type Store = ListKeeper;
@@ -109,6 +109,8 @@ impl Stores for InMemory {
 
     // Nothing is said of the history of a store in memory.
     ghost opens = { λ _ _ _ _. ⊥ };
+
+    ghost has_room = { λ _ _. ⊤ };
 
     ghost rests = { λ store rest. rest ≡ store };
 

@@ -1,7 +1,7 @@
 use Rattle.std.proofs.Common.{refl, inr, inl}
 use Rattle.ee_keeper.specs.Keeping.{HasAfter}
 use Rattle.ee_cli_actions.proofs.Lemmas.{applies_with}
-use Rattle.ee_cli_program.proofs.Opened.{takes_enough, since_opened}
+use Rattle.ee_cli_program.proofs.Opened.{since_opened}
 use Rattle.ee_cli_program.proofs.carrying.apply.Goals as goal
 
 pub returns-in-Ok-clause-over : goal.returns-in-Ok-clause-over
@@ -22,8 +22,7 @@ returns-in-Ok-clause-over g c = λ content holds.
         continues = c.apply_to-ended.ensures.continues;
         cause = λ clean enough fit.
             let before = c.apply_to-ended.ensures.continues.clean clean in
-            let it = takes_enough g.O.Store.Keeper.takes c.in-Ok.store (g.met.O.Store.Keeper.fewer c.in-Ok.store) (c.in-Ok.ensures.takes before) 1000 enough in
-            c.apply_to-ended.ensures.cause clean content (c.in-Ok.ensures.opened before content holds) it.0 it.1 fit;
+            c.apply_to-ended.ensures.cause clean content (c.in-Ok.ensures.opened before content holds) 0 (c.in-Ok.ensures.takes before 1000 enough) fit;
       };
       carried = λ clean.
           let before = c.apply_to-ended.ensures.continues.clean clean in

@@ -3,7 +3,7 @@ use Rattle.ee_cli_actions.specs.Actions.{ImportsInto}
 use Rattle.ee_keeper.specs.Keeping.{HasAfter}
 use Rattle.ee_cli_actions.proofs.Lemmas.{imports_with}
 use Rattle.ee_cli_program.proofs.Lemmas.{tries_with}
-use Rattle.ee_cli_program.proofs.Opened.{takes_enough, since_opened}
+use Rattle.ee_cli_program.proofs.Opened.{since_opened}
 use Rattle.ee_cli_program.proofs.carrying.import.Goals as goal
 
 pub returns-in-Ok-clause-over : goal.returns-in-Ok-clause-over
@@ -24,8 +24,7 @@ returns-in-Ok-clause-over g c = λ content holds.
         continues = c.import_path-tried.ensures.continues;
         cause = λ clean enough fit.
             let before = c.import_path-tried.ensures.continues.clean clean in
-            let it = takes_enough g.O.Store.Keeper.takes c.in-Ok.store (g.met.O.Store.Keeper.fewer c.in-Ok.store) (c.in-Ok.ensures.takes before) 1 enough in
-            c.import_path-tried.ensures.cause clean content (c.in-Ok.ensures.opened before content holds) it.0 it.1 fit;
+            c.import_path-tried.ensures.cause clean content (c.in-Ok.ensures.opened before content holds) 0 (c.in-Ok.ensures.takes before 1 enough) fit;
       };
       carried = λ clean.
           let before = c.import_path-tried.ensures.continues.clean clean in

@@ -1,9 +1,9 @@
-use Rattle.std.proofs.Common.{refl, inr, ◌*◌, inl, []}
+use Rattle.std.proofs.Common.{◌≡◌, ◌+◌, ◌*◌, refl, inr, inl, [], subst, arith}
 use Rattle.ee_cli_actions.specs.Connections.{ServesAll}
 use Rattle.ee_keeper.specs.Keeping.{HasAfter}
 use Rattle.ee_cli_actions.proofs.Lemmas.{serves_all_with}
 use Rattle.ee_cli_program.proofs.Lemmas.{tries_with}
-use Rattle.ee_cli_program.proofs.Opened.{takes_enough, since_opened}
+use Rattle.ee_cli_program.proofs.Opened.{since_opened}
 use Rattle.ee_cli_program.proofs.carrying.serve_store.Goals as goal
 
 pub returns-in-Ok-clause-over : goal.returns-in-Ok-clause-over
@@ -24,8 +24,9 @@ returns-in-Ok-clause-over g c = λ content holds.
         continues = c.serve_port-tried.ensures.continues;
         cause = λ clean enough fit.
             let before = c.serve_port-tried.ensures.continues.clean clean in
-            let it = takes_enough g.O.Store.Keeper.takes c.in-Ok.store (g.met.O.Store.Keeper.fewer c.in-Ok.store) (c.in-Ok.ensures.takes before) (c.args.connections * 1000) enough in
-            c.serve_port-tried.ensures.cause clean content (c.in-Ok.ensures.opened before content holds) it.0 it.1 fit;
+            let none_more : c.args.connections * 1000 ≡ 0 + c.args.connections * 1000 = omega arith in
+            c.serve_port-tried.ensures.cause clean content (c.in-Ok.ensures.opened before content holds) 0
+            (subst (λ m. g.O.Store.Keeper.takes m c.in-Ok.store) none_more (c.in-Ok.ensures.takes before (c.args.connections * 1000) enough)) fit;
       };
       carried = λ clean.
           let before = c.serve_port-tried.ensures.continues.clean clean in

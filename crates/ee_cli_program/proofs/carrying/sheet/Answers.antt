@@ -1,7 +1,7 @@
-use Rattle.std.proofs.Common.{refl, inr, add-zero, subst, inl, []}
+use Rattle.std.proofs.Common.{refl, inr, inl, []}
 use Rattle.ee_keeper.specs.Keeping.{HasAfter}
 use Rattle.ee_cli_actions.proofs.Lemmas.{sheets_with}
-use Rattle.ee_cli_program.proofs.Opened.{takes_enough, since_opened}
+use Rattle.ee_cli_program.proofs.Opened.{since_opened}
 use Rattle.ee_cli_program.proofs.carrying.sheet.Goals as goal
 
 pub returns-in-Ok-clause-over : goal.returns-in-Ok-clause-over
@@ -22,8 +22,7 @@ returns-in-Ok-clause-over g c = λ content holds.
         continues = c.sheet_of-ended.ensures.continues;
         cause = λ clean enough fit.
             let before = c.sheet_of-ended.ensures.continues.clean clean in
-            let it = takes_enough g.O.Store.Keeper.takes c.in-Ok.store (g.met.O.Store.Keeper.fewer c.in-Ok.store) (c.in-Ok.ensures.takes before) 0 enough in
-            c.sheet_of-ended.ensures.cause clean content (c.in-Ok.ensures.opened before content holds) it.0 (subst (λ m. g.O.Store.Keeper.takes m c.in-Ok.store) (add-zero it.0) it.1);
+            c.sheet_of-ended.ensures.cause clean content (c.in-Ok.ensures.opened before content holds) 0 (c.in-Ok.ensures.takes before 0 enough);
       };
       carried = λ clean.
           let before = c.sheet_of-ended.ensures.continues.clean clean in

@@ -1,13 +1,10 @@
-use Rattle.std.proofs.Common.{rules, ◌≡◌, ◌≢◌, ◌⊎◌, ◌<◌, ◌^◌, List, length, false, inl, inr, IsTrue, IfErr, ap, sym, ◌∙◌, subst}
-use Rattle.std.specs.Prelude.{Vec}
-use Rattle.std.specs.declared.alloc.Global.{Global}
+use Rattle.std.proofs.Common.{rules, ◌≡◌, ◌≢◌, ◌⊎◌, false, inl, inr, IsTrue, IfErr, ap, sym, ◌∙◌, subst}
 use Rattle.sqlite.specs.Held.{state}
 use Rattle.sqlite.proofs.InsideLemmas.{keeps_then}
 use Rattle.sqlite.proofs.StateLemmas.{survives_weaker}
 use Rattle.ee_store_tables.specs.Rows.{Rows, Stores}
 use Rattle.ee_store_tables.proofs.Lemmas.Transactions.{on_err_from, clean_before}
 use Rattle.ee_store_schema.specs.declared.faults.OpenFault.TheVariants.{WrongVersion, Unusable, StoreFailed}
-use Rattle.ee_store_schema.specs.declared.answers.StoredAnswer.{StoredAnswer}
 use Rattle.ee_store_schema.specs.declared.forms.Form.{Form}
 use Rattle.ee_store_schema.specs.Forms.{version_of, IsOurs, HadIn}
 use Rattle.ee_store_schema.specs.Making.{first_rows}
@@ -19,14 +16,14 @@ use Rattle.ee_store_books.specs.Standing.{rows_at, StandAt}
 use Rattle.ee_store_schema.proofs.Lemmas.Faults.{each_fault, two_faults, handed_on}
 use Rattle.ee_store_schema.proofs.Lemmas.Causes.{excused_if_open}
 use Rattle.ee_store_tables.proofs.Lemmas.Causes.{cause_then}
-use Rattle.ee_store_schema.proofs.Lemmas.Forms.{not_blank}
+use Rattle.ee_store_schema.proofs.Lemmas.Forms.{had_form, not_blank}
 use Rattle.ee_store_load.proofs.Lemmas.{one_version}
-use Rattle.ee_store.specs.Adopted.{HadNone, HadNumbersLeft, LeavesNumbers, HadOtherVersion, HadNoOtherVersion, FailsToAdopt}
+use Rattle.ee_store.specs.Adopted.{HadNone, HadOtherVersion, HadNoOtherVersion, FailsToAdopt}
 use Rattle.ee_store.proofs.Opened.{of_nothing, begun_survives, of_version, blank_had_none}
 use Rattle.ee_store.proofs.Migrated.{lists_all, made_of, fits_rows, keeps_content, has_some, stood_for_none, is_ours, not_begun, leaves_as_before, leaves_present, read_then}
 use Rattle.ee_store.proofs.Meeting.{goes_on, carries_world, begins_world, stays_stopped}
 use Rattle.ee_store_contents.proofs.Lemmas.{readable}
-use Rattle.ee_store.proofs.OpenedRoom.{opened_room, blank_numbers, opens_with_numbers, leaves_numbers}
+use Rattle.ee_store.proofs.OpenedRoom.{opened_room, room_before}
 use Rattle.ee_store.proofs.adopting.ready.Goals as goal
 
 -- ---- the tables are not created
@@ -44,8 +41,8 @@ returns-in_err-make_tables-clause-other g c clean =
 pub returns-in_err-make_tables-clause-unusable : goal.returns-in_err-make_tables-clause-unusable
 returns-in_err-make_tables-clause-unusable g c clean =
     let blank = (c.is_blank.ensures.blank c.if-is_blank.true).1 in
-    handed_on (λ e. e ≡ Unusable → HadNumbersLeft (state g.S.Store c.args.conn.now) → HadNone (state g.S.Store c.args.conn.now)) c.from_residual.result c.in_err-make_tables.field-0.0 c.from_residual.ensures.1
-    (λ is _ is_open. absurd (c.in_err-make_tables.ensures.usable clean blank is_open is))
+    handed_on (λ e. e ≡ Unusable → HadNone (state g.S.Store c.args.conn.now)) c.from_residual.result c.in_err-make_tables.field-0.0 c.from_residual.ensures.1
+    (λ is is_open. absurd (c.in_err-make_tables.ensures.usable clean blank is_open is))
 
 pub returns-in_err-make_tables-clause-tested : goal.returns-in_err-make_tables-clause-tested
 returns-in_err-make_tables-clause-tested g c clean =
@@ -128,12 +125,7 @@ returns-then-is_blank-clause-room g c clean =
     let old = state g.S.Store c.args.conn.now in
     let new = state g.S.Store c.make_tables.new.conn in
     opened_room old new (c.settled.ensures.committed c.in_ok-make_tables.ensures.ended) c.settled.ensures.live (c.in_ok-make_tables.ensures.made clean)
-
-pub returns-then-is_blank-clause-numbers : goal.returns-then-is_blank-clause-numbers
-returns-then-is_blank-clause-numbers g c clean =
-    let old = state g.S.Store c.args.conn.now in
-    let new = state g.S.Store c.make_tables.new.conn in
-    blank_numbers old new (returns-then-is_blank-clause-room g c clean) (c.is_blank.ensures.blank c.if-is_blank.true).1
+    (λ n was. absurd (not_blank was.0 old (had_form was.0 old was.1 was.2) (c.is_blank.ensures.blank c.if-is_blank.true).1 (c.in_ok-make_tables.ensures.open clean).0))
 
 pub returns-then-is_blank-clause-crash : goal.returns-then-is_blank-clause-crash
 returns-then-is_blank-clause-crash g c = begun_survives (state g.S.Store c.args.conn.now) (state g.S.Store c.make_tables.new.conn) c.in_ok-make_tables.ensures.crash
@@ -162,7 +154,7 @@ returns-in_err-all-clause-unusable g c clean =
     let old = state g.S.Store c.args.conn.now in
     let told : IfErr c.from_residual-in_err-all.result (λ e. e ≡ Unusable → (form : Form) (rows : Rows) → HadIn form old rows → IsTrue old.is_open → ¬ AreReadable form rows) = search rules in
     let apart : IfErr c.from_residual-in_err-all.result (λ e. (e ≡ StoreFailed) ⊎ (old.in_transaction ≡ false)) = search rules in
-    two_faults c.from_residual-in_err-all.result (λ e unread apart is _ is_open. (
+    two_faults c.from_residual-in_err-all.result (λ e unread apart is is_open. (
       λ form content had. unread is form (rows_at (version_of form) content) had.rows is_open (readable form content had.right),
       λ none. elim apart [ inl failed ↦ cc | inr outside ↦ c.is_blank.ensures.tables c.if-is_blank.false outside is_open (none is_open) ],
     )) told apart
@@ -223,14 +215,13 @@ pub returns-in_err-tested-clause-unusable : goal.returns-in_err-tested-clause-un
 returns-in_err-tested-clause-unusable g c clean =
     let old = state g.S.Store c.args.conn.now in
     let middle = state g.S.Store c.open_rows.new.conn in
-    let told : IfErr c.from_residual-in_err-tested.result (λ e. e ≡ Unusable → LeavesNumbers c.in_ok-all.all → (rows : Rows) → whole.AreRead KeepsAnswer c.in_ok-all.all rows
+    let told : IfErr c.from_residual-in_err-tested.result (λ e. e ≡ Unusable → (rows : Rows) → whole.AreRead KeepsAnswer c.in_ok-all.all rows
     → (content : Content) → StandAt (version_of c.in_ok-all.all.form) rows content → ⊥)
     = handed_on _ c.from_residual-in_err-tested.result c.in_err-tested.field-0.0 c.from_residual-in_err-tested.ensures.1 c.in_err-tested.ensures.unusable in
     let it = c.in_ok-all.ensures in
     let is_open = it.open clean in
     let found = it.found clean in
-    each_fault c.from_residual-in_err-tested.result (λ e none is left. stood_for_none old middle c.in_ok-all.all.form found.0 (it.kept clean) is_open.0 is_open.1 found.1
-    (none is (leaves_numbers old middle c.in_ok-all.all found.0 (it.kept clean) (c.settled-2.ensures.committed (it.ended clean)) is_open.1 found.1 found.2 (it.room clean) left) found.0 found.2)) told
+    each_fault c.from_residual-in_err-tested.result (λ e none is. stood_for_none old middle c.in_ok-all.all.form found.0 (it.kept clean) is_open.0 is_open.1 found.1 (none is found.0 found.2)) told
 
 pub returns-in_err-tested-clause-tested : goal.returns-in_err-tested-clause-tested
 returns-in_err-tested-clause-tested g c clean =
@@ -283,7 +274,7 @@ returns-in_err-migrate-clause-other g c clean =
 
 pub returns-in_err-migrate-clause-unusable : goal.returns-in_err-migrate-clause-unusable
 returns-in_err-migrate-clause-unusable g c clean =
-    handed_on (λ e. e ≡ Unusable → HadNumbersLeft (state g.S.Store c.args.conn.now) → HadNone (state g.S.Store c.args.conn.now)) c.from_residual-in_err-migrate.result c.in_err-migrate.field-0.0
+    handed_on (λ e. e ≡ Unusable → HadNone (state g.S.Store c.args.conn.now)) c.from_residual-in_err-migrate.result c.in_err-migrate.field-0.0
     c.from_residual-in_err-migrate.ensures.1 (λ is. absurd (c.in_err-migrate.ensures.told.0 is))
 
 pub returns-in_err-migrate-clause-tested : goal.returns-in_err-migrate-clause-tested
@@ -446,24 +437,11 @@ returns-clause-room g c clean =
     let before = clean_before middle new c.migrate.ensures.crash clean in
     let it = c.in_ok-all.ensures in
     let found = it.found before in
+    let listed = lists_all c.in_ok-all.all found.0 found.2 c.in_ok-tested.tested.answers c.in_ok-tested.ensures.left c.deref.result.now c.deref.ensures.value in
     opened_room old new (c.settled-3.ensures.committed c.in_ok-migrate.ensures.ended) c.settled-3.ensures.live
     (λ blank. absurd (not_begun old middle c.in_ok-all.all.form found.0 (it.kept before) (it.open before).0 (it.open before).1 found.1 blank))
-
-pub returns-clause-numbers : goal.returns-clause-numbers
-returns-clause-numbers g c clean =
-    let old = state g.S.Store c.args.conn.now in
-    let middle = state g.S.Store c.open_rows.new.conn in
-    let new = state g.S.Store c.migrate.new.conn in
-    let before = clean_before middle new c.migrate.ensures.crash clean in
-    let it = c.in_ok-all.ensures in
-    let found = it.found before in
-    let all = c.in_ok-all.all in
-    let given = c.deref.result.now in
-    let numbers = c.in_ok-tested.ensures.numbers in
-    let left : given ≡ all.replies.earlier.items = c.deref.ensures.value ∙ ap (λ (v : Vec StoredAnswer Global). v.items) c.in_ok-tested.ensures.left in
-    opens_with_numbers old middle new found.0 given (it.kept before) (c.settled-2.ensures.committed (it.ended before)) c.settled-2.ensures.live (it.open before).1 all.form found.1
-    ((it.room before).0 numbers.0) (λ earlier. subst (λ (answers : List StoredAnswer). length answers < 2 ^ 61) (sym left) (numbers.1 earlier))
-    (λ current. ap (state g.S.Store) (c.migrate.ensures.same current)) (c.in_ok-migrate.ensures.room clean found.0 found.1)
+    (room_before old middle new found.0 c.deref.result.now (it.kept before) (c.settled-2.ensures.committed (it.ended before)) c.settled-2.ensures.live (it.open before).1 c.in_ok-all.all.form found.1 listed
+    (λ current. ap (state g.S.Store) (c.migrate.ensures.same current)) (c.in_ok-migrate.ensures.room clean found.0 found.1))
 
 pub returns-clause-waits : goal.returns-clause-waits
 returns-clause-waits g c clean =

@@ -1,10 +1,8 @@
-use Rattle.std.proofs.Common.{rules, arith, ◌*◌, ◌^◌}
+use Rattle.std.proofs.Common.{rules, arith}
 use Rattle.sqlite.specs.State.{HasCleanDisk}
 use Rattle.sqlite.specs.Files.{file_state}
-use Rattle.ee_store_tables.proofs.Lemmas.Causes.{room_less}
 use Rattle.ee_store.proofs.AtRest.{found_alone}
 use Rattle.ee_store.proofs.NextRun.{follows_on}
-use Rattle.ee_store.proofs.RowOrder.{in_row_order}
 use Rattle.ee_store.proofs.opening.open_on.Goals as goal
 
 pub returns-in-Err-clause-left : goal.returns-in-Err-clause-left
@@ -36,8 +34,6 @@ returns-in-Ok-adopt-clause-opened g c clean =
       left = it.left clean;
       ready = it.ready (c.in-Ok.ensures.fresh.autocommit, c.in-Ok.ensures.fresh.unlimited);
       room = it.room clean;
-      numbers = λ m few. room_less (file_state c.in-Ok-adopt.keeper.conn) (501 * m) (2 ^ 61) (omega (arith, few))
-          (it.numbers clean (in_row_order _ (file_state was) (c.in-Ok.ensures.opened early).1 (c.in-Ok.ensures.opened early).0.is_open (c.in-Ok.ensures.found early)));
       shielded = it.crash.shield (c.in-Ok.ensures.guarded early);
     }
 

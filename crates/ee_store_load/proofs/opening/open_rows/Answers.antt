@@ -1,4 +1,4 @@
-use Rattle.std.proofs.Common.{rules, ◌≡◌, ◌↔◌, true, inl, inr, refl, sym, subst, ◌∙◌}
+use Rattle.std.proofs.Common.{rules, inl, inr, refl, sym, subst, ◌∙◌}
 use Rattle.std.proofs.lemmas.Bool.{not-true}
 use Rattle.std.proofs.lemmas.Result.{on_ok_weaker}
 use Rattle.sqlite.specs.Held.{state}
@@ -6,7 +6,6 @@ use Rattle.ee_store_schema.proofs.Lemmas.Causes.{excused_if_open}
 use Rattle.ee_store_schema.proofs.Lemmas.Forms.{form_found, one_form, had_as, none_found}
 use Rattle.ee_store_schema.proofs.Lemmas.Faults.{each_fault}
 use Rattle.ee_store_schema.specs.Forms.{HadIn}
-use Rattle.ee_store_load.specs.Numbering.{HasNumbersLeft}
 use Rattle.ee_store_load.specs.Opening.{IsOfForm, AreReadable}
 use Rattle.ee_store_load.proofs.OpenLemmas.{any_fault}
 use Rattle.ee_store_load.proofs.ReadLemmas.{both_ok, each_ok}
@@ -21,14 +20,6 @@ returns-in-Some-clause-found g c clean =
     both_ok c.read_all.result (λ all found is.
     let it = found ours in
     (it.0, subst (λ f. HadIn f new it.0) (sym is) it.1, it.2)) (c.read_all.ensures.found clean) c.read_all.ensures.form
-
-pub returns-in-Some-clause-room : goal.returns-in-Some-clause-room
-returns-in-Some-clause-room g c clean =
-    let old = state g.S.Store c.args.conn.now in
-    let form = c.in-Some.form in
-    let ours = form_found old (c.is_autocommit.ensures.settled c.if-not-is_autocommit.false) c.schema.result.now c.schema.ensures.value form ((c.form_of.ensures form).0 c.in-Some.is) in
-    let new = state g.S.Store c.read_all.new.conn in
-    both_ok c.read_all.result (λ all room is. subst (λ f. (all.has_room ≡ true) ↔ HasNumbersLeft f new.now.trees) (sym is) (room ours)) (c.read_all.ensures.room clean) c.read_all.ensures.form
 
 pub returns-in-Some-clause-those : goal.returns-in-Some-clause-those
 returns-in-Some-clause-those g c clean =

@@ -1,4 +1,4 @@
-use Rattle.std.proofs.Common.{rules, ◌≡◌, ◌↔◌, true, T, refl, subst}
+use Rattle.std.proofs.Common.{rules, ◌≡◌, ◌↔◌, true, T, subst}
 use Rattle.std.specs.List.{AllByRecursion}
 use Rattle.std.specs.FinMap.{entries_sorted, is_sorted}
 use Rattle.ee_store_tables.specs.Keyed.{pair_cmp}
@@ -17,7 +17,6 @@ returns-clause-found g c clean ours sound =
         earlier = λ _ i. kept;
       };
       held = c.in_ok-earlier.ensures.found clean ours sound;
-      room = (λ _. tt, λ _. refl);
     }
 
 pub returns-in_err-earlier-clause-usable : goal.returns-in_err-earlier-clause-usable

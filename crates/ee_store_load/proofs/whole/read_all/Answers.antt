@@ -1,9 +1,7 @@
-use Rattle.std.proofs.Common.{◌≡◌, ◌↔◌, true, sym, subst, ◌∙◌}
-use Rattle.sqlite.specs.Effect.{Database}
+use Rattle.std.proofs.Common.{sym, subst, ◌∙◌}
 use Rattle.sqlite.specs.Held.{state}
 use Rattle.std.proofs.lemmas.Result.{on_ok_weaker}
 use Rattle.std.proofs.lemmas.Bool.{not-true}
-use Rattle.ee_store_load.specs.Numbering.{HasNumbersLeft}
 use Rattle.ee_store_load.specs.Whole.{AreRead}
 use Rattle.ee_store_schema.proofs.Lemmas.Faults.{each_fault}
 use Rattle.ee_store_load.proofs.ReadLemmas.{each_ok, under_ok, ok_then}
@@ -19,14 +17,6 @@ returns-clause-found g c clean =
     let sound = sound_now old c.schema-schema.ensures.live in
     under_ok _ c.read_of_version.result (λ ours. ok_then c.read_of_version.result (λ all it same. (it.0, has_read c.args.form old settled new same it.0 ours it.1, it.2))
     (c.read_of_version.ensures.found clean (has_ours c.args.form old settled ours) sound) (c.read_of_version.ensures.same clean))
-
-pub returns-clause-room : goal.returns-clause-room
-returns-clause-room g c clean =
-    let old = state g.S.Store c.args.conn.now in
-    let settled = c.is_autocommit.ensures.settled c.if-not-is_autocommit.false in
-    let sound = sound_now old c.schema-schema.ensures.live in
-    under_ok _ c.read_of_version.result (λ ours. ok_then c.read_of_version.result (λ all room same. subst (λ (d : Database). (all.has_room ≡ true) ↔ HasNumbersLeft c.args.form d.trees) (sym same.0.now_is) room)
-    (c.read_of_version.ensures.room clean (has_ours c.args.form old settled ours) sound) (c.read_of_version.ensures.same clean))
 
 pub returns-clause-those : goal.returns-clause-those
 returns-clause-those g c clean =

@@ -1,4 +1,4 @@
-use Rattle.std.proofs.Common.{Ok, Err, ◌&&◌, sym, subst, ◌∙◌}
+use Rattle.std.proofs.Common.{Ok, Err, sym, subst, ◌∙◌}
 use Rattle.sqlite.specs.Effect.{Database}
 use Rattle.sqlite.specs.Held.{state}
 use Rattle.ee_store_tables.proofs.Lemmas.Transactions.{clean_before}
@@ -12,7 +12,6 @@ use Rattle.ee_store_load.specs.Whole.{rows_with, HoldsPayments, HoldsRecords, Ho
 use Rattle.ee_store_schema.proofs.Lemmas.Causes.{excused_then, then_survives}
 use Rattle.ee_store_schema.proofs.Lemmas.Faults.{handed_on}
 use Rattle.ee_store_load.proofs.ReadLemmas.{sound_after, still_form, loads_then, loads_made, loads_failed}
-use Rattle.ee_store_load.proofs.NumberLemmas.{all_three}
 use Rattle.ee_store_load.proofs.WholeLemmas.{holds_all}
 use Rattle.ee_store_load.proofs.whole.read_in.Goals as goal
 
@@ -66,32 +65,6 @@ returns-clause-only_loads g c =
     } in
     loads_made at_0 at_4 _ _ (loads_then at_0 at_1 at_4 _ _ c.in_ok-register.ensures.only_loads (loads_then at_1 at_2 at_4 _ _ c.in_ok-payments.ensures.only_loads (loads_then at_2 at_3 at_4 _ _ c.in_ok-records.ensures.only_loads last)))
 
-pub returns-clause-room : goal.returns-clause-room
-returns-clause-room g c clean ours_0 sound_0 =
-    let at_0 = state g.S.Store c.args.conn.now in
-    let at_1 = state g.S.Store c.read_register.new.conn in
-    let at_2 = state g.S.Store c.read_payments.new.conn in
-    let at_3 = state g.S.Store c.read_records.new.conn in
-    let at_4 = state g.S.Store c.read_extensions.new.conn in
-    let clean_4 = clean in
-    let clean_3 = clean_before at_3 at_4 c.read_extensions.ensures.crash clean_4 in
-    let clean_2 = clean_before at_2 at_3 c.read_records.ensures.only_loads.crash clean_3 in
-    let clean_1 = clean_before at_1 at_2 c.read_payments.ensures.only_loads.crash clean_2 in
-    let same_1 = c.in_ok-register.ensures.only_loads.same clean_1 in
-    let ours_1 = still_form c.args.form at_0 at_1 same_1 ours_0 in
-    let sound_1 = sound_after at_0 at_1 same_1 sound_0 in
-    let same_2 = c.in_ok-payments.ensures.only_loads.same clean_2 in
-    let ours_2 = still_form c.args.form at_1 at_2 same_2 ours_1 in
-    let sound_2 = sound_after at_1 at_2 same_2 sound_1 in
-    let same_3 = c.in_ok-records.ensures.only_loads.same clean_3 in
-    let ours_3 = still_form c.args.form at_2 at_3 same_3 ours_2 in
-    let sound_3 = sound_after at_2 at_3 same_3 sound_2 in
-    let back_2 = same_2.0.now_is ∙ same_1.0.now_is in
-    let register = c.in_ok-register.ensures.found clean_1 (c.args.form, ours_0) sound_0 in
-    let payments = subst (λ (d : Database). HoldsPayments d.trees c.in_ok-payments.payments) same_1.0.now_is (c.in_ok-payments.ensures.found clean_2 (c.args.form, ours_1) sound_1) in
-    let records = subst (λ (d : Database). HoldsRecords g.P.RowTest.passes c.args.form d.trees c.in_ok-records.records) back_2 (c.in_ok-records.ensures.found clean_3 ours_2 sound_2) in
-    all_three _ _ _ register.room payments.room records.replies.room
-
 pub returns-clause-found : goal.returns-clause-found
 returns-clause-found g c clean ours_0 sound_0 =
     let at_0 = state g.S.Store c.args.conn.now in
@@ -128,7 +101,6 @@ returns-clause-found g c clean ours_0 sound_0 =
       batches = c.in_ok-records.records.batches;
       extensions = c.in_ok-extensions.extensions;
       replies = c.in_ok-records.records.replies;
-      has_room = c.in_ok-register.register.has_room && c.in_ok-payments.payments.has_room && c.in_ok-records.records.replies.has_room;
     } in
     let kept = answer_map records.replies.kept in (
       rows_with kept all,

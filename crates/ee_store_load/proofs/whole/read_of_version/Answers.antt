@@ -1,11 +1,10 @@
-use Rattle.std.proofs.Common.{◌≡◌, ◌↔◌, true, sym, subst, ◌∙◌}
+use Rattle.std.proofs.Common.{sym, subst, ◌∙◌}
 use Rattle.sqlite.specs.Effect.{Database}
 use Rattle.sqlite.specs.Held.{state}
 use Rattle.sqlite.proofs.InsideLemmas.{keeps_then}
 use Rattle.ee_store_schema.specs.Forms.{HoldsIn}
 use Rattle.ee_store_tables.proofs.Lemmas.Transactions.{clean_before}
 use Rattle.ee_store_schema.proofs.Lemmas.Faults.{handed_on, each_fault}
-use Rattle.ee_store_load.specs.Numbering.{HasNumbersLeft}
 use Rattle.ee_store_load.proofs.ReadLemmas.{each_ok, sound_after, still_form}
 use Rattle.ee_store_load.proofs.VersionLemmas.{one_version, of_form, names_form, known_is_no_other}
 use Rattle.ee_store_schema.specs.Faults.{IsExcused}
@@ -44,15 +43,6 @@ returns-clause-found g c clean ours sound =
     let same = c.in_ok-version.ensures.same (clean_before middle new c.read_in.ensures.only_loads.crash clean) in
     each_ok c.read_in.result (λ all it. (it.0, subst (λ (d : Database). HoldsIn c.args.form d.trees it.0) same.0.now_is it.1, it.2))
     (c.read_in.ensures.found clean (still_form c.args.form old middle same ours) (sound_after old middle same sound))
-
-pub returns-clause-room : goal.returns-clause-room
-returns-clause-room g c clean ours sound =
-    let old = state g.S.Store c.args.conn.now in
-    let middle = state g.S.Store c.known_version.new.conn in
-    let new = state g.S.Store c.read_in.new.conn in
-    let same = c.in_ok-version.ensures.same (clean_before middle new c.read_in.ensures.only_loads.crash clean) in
-    each_ok c.read_in.result (λ all room. subst (λ (d : Database). (all.has_room ≡ true) ↔ HasNumbersLeft c.args.form d.trees) same.0.now_is room)
-    (c.read_in.ensures.room clean (still_form c.args.form old middle same ours) (sound_after old middle same sound))
 
 pub returns-clause-usable : goal.returns-clause-usable
 returns-clause-usable g c clean =

@@ -1,10 +1,9 @@
-use Rattle.std.proofs.Common.{◌≡◌, ◌↔◌, true, sym, subst, ◌∙◌}
+use Rattle.std.proofs.Common.{sym, subst, ◌∙◌}
 use Rattle.sqlite.specs.Effect.{Database}
 use Rattle.sqlite.specs.Held.{state}
 use Rattle.ee_store_tables.specs.Keyed.{HoldsPairs}
 use Rattle.ee_store_tables.specs.Rows.{paid_columns}
 use Rattle.ee_store_tables.proofs.Lemmas.Transactions.{clean_before}
-use Rattle.ee_store_load.specs.Numbering.{AllLeaveRoom}
 use Rattle.ee_store_load.specs.Shown.{line_map}
 use Rattle.ee_store_schema.specs.Forms.{HoldsIn}
 use Rattle.ee_store_schema.proofs.Lemmas.Forms.{common}
@@ -40,9 +39,8 @@ returns-clause-found g c clean ours sound =
     let ours_1 = still_ours old at_1 same_1 ours in
     let sound_1 = sound_after old at_1 same_1 sound in
     let tickets_held = c.in_ok-tickets.ensures.found clean_1 ours sound in
-    let lines_held = subst (λ (d : Database). HoldsPairs paid_columns (d.trees 7) (line_map c.in_ok-lines.lines.rows.items)) (same_1.0.now_is) (c.in_ok-lines.ensures.found clean_2 ours_1 sound_1) in
-    let room = subst (λ (d : Database). (c.in_ok-lines.lines.has_room ≡ true) ↔ AllLeaveRoom (d.trees 7)) same_1.0.now_is (c.in_ok-lines.ensures.room clean_2 ours_1) in
-    record { tickets = tickets_held; lines = lines_held; room = room }
+    let lines_held = subst (λ (d : Database). HoldsPairs paid_columns (d.trees 7) (line_map c.in_ok-lines.lines.items)) (same_1.0.now_is) (c.in_ok-lines.ensures.found clean_2 ours_1 sound_1) in
+    record { tickets = tickets_held; lines = lines_held }
 
 pub returns-clause-listed : goal.returns-clause-listed
 returns-clause-listed g c = record { tickets = c.in_ok-tickets.ensures.listed; lines = c.in_ok-lines.ensures.listed }

@@ -1,10 +1,9 @@
-use Rattle.std.proofs.Common.{◌≡◌, ◌↔◌, true, sym, subst, ◌∙◌}
+use Rattle.std.proofs.Common.{sym, subst, ◌∙◌}
 use Rattle.sqlite.specs.Effect.{Database}
 use Rattle.sqlite.specs.Held.{state}
 use Rattle.ee_store_tables.specs.Keyed.{HoldsMap, HoldsPairs}
 use Rattle.ee_store_tables.specs.Rows.{rate_columns, bond_columns}
 use Rattle.ee_store_tables.proofs.Lemmas.Transactions.{clean_before}
-use Rattle.ee_store_load.specs.Numbering.{AllLeaveRoom}
 use Rattle.ee_store_load.specs.Shown.{rate_map, bond_map}
 use Rattle.ee_store_schema.specs.Forms.{HoldsIn}
 use Rattle.ee_store_schema.proofs.Lemmas.Forms.{common}
@@ -56,9 +55,8 @@ returns-clause-found g c clean ours sound =
     let sound_2 = sound_after at_1 at_2 same_2 sound_1 in
     let desk_held = c.in_ok-desk.ensures.found clean_1 ours sound in
     let rates_held = subst (λ (d : Database). HoldsMap rate_columns (d.trees 1) (rate_map c.in_ok-rates.rates.items)) (same_1.0.now_is) (c.in_ok-rates.ensures.found clean_2 ours_1 sound_1) in
-    let bonds_held = subst (λ (d : Database). HoldsPairs bond_columns (d.trees 2) (bond_map c.in_ok-bonds.bonds.rows.items)) (same_2.0.now_is ∙ same_1.0.now_is) (c.in_ok-bonds.ensures.found clean_3 ours_2 sound_2) in
-    let room = subst (λ (d : Database). (c.in_ok-bonds.bonds.has_room ≡ true) ↔ AllLeaveRoom (d.trees 2)) (same_2.0.now_is ∙ same_1.0.now_is) (c.in_ok-bonds.ensures.room clean_3 ours_2) in
-    record { desk = desk_held; rates = rates_held; bonds = bonds_held; room = room }
+    let bonds_held = subst (λ (d : Database). HoldsPairs bond_columns (d.trees 2) (bond_map c.in_ok-bonds.bonds.items)) (same_2.0.now_is ∙ same_1.0.now_is) (c.in_ok-bonds.ensures.found clean_3 ours_2 sound_2) in
+    record { desk = desk_held; rates = rates_held; bonds = bonds_held }
 
 pub returns-clause-listed : goal.returns-clause-listed
 returns-clause-listed g c = record { desk = c.in_ok-desk.ensures.listed; rates = c.in_ok-rates.ensures.listed; bonds = c.in_ok-bonds.ensures.listed }

@@ -1,3 +1,6 @@
+use Rattle.std.proofs.Common.{◌*◌, arith}
+use Rattle.sqlite.specs.Files.{file_state}
+use Rattle.ee_store_tables.proofs.Lemmas.Causes.{room_less}
 use Rattle.ee_cli_stores.proofs.Told.{has_cause, is_of_files, is_still, is_told}
 use Rattle.ee_cli_stores.proofs.files.StoreFilesStores.open.Goals as goal
 
@@ -23,4 +26,5 @@ pub returns-in-Ok-clause-tested : goal.returns-in-Ok-clause-tested
 returns-in-Ok-clause-tested g c clean = (c.in-Ok.ensures.opened clean).shielded
 
 pub returns-in-Ok-clause-takes : goal.returns-in-Ok-clause-takes
-returns-in-Ok-clause-takes g c clean = let it = c.in-Ok.ensures.opened clean in (it.ready, it.numbers)
+returns-in-Ok-clause-takes g c clean = λ n room.
+    ((c.in-Ok.ensures.opened clean).ready, λ m few. room_less (file_state c.in-Ok.keeper.conn) (501 * m) (501 * n) (omega (arith, few)) room)

@@ -1,4 +1,6 @@
-use Rattle.sqlite.specs.Files.{image_of, IsCleanLeft}
+use Rattle.std.proofs.Common.{◌*◌, arith}
+use Rattle.sqlite.specs.Files.{file_state, image_of, IsCleanLeft}
+use Rattle.ee_store_tables.proofs.Lemmas.Causes.{room_less}
 use Rattle.ee_store.specs.Holding.{AreSettled, KeepsHeld}
 use Rattle.ee_cli_stores.proofs.Told.{is_still, is_told, of_settled}
 use Rattle.ee_cli_stores.proofs.stopping.StoppingFilesStores.open.Goals as goal
@@ -15,7 +17,8 @@ pub returns-in-Ok-clause-tested : goal.returns-in-Ok-clause-tested
 returns-in-Ok-clause-tested g c clean = (c.in-Ok.ensures.opened clean).shielded
 
 pub returns-in-Ok-clause-takes : goal.returns-in-Ok-clause-takes
-returns-in-Ok-clause-takes g c clean = let it = c.in-Ok.ensures.opened clean in (it.ready, it.numbers)
+returns-in-Ok-clause-takes g c clean = λ n room.
+    ((c.in-Ok.ensures.opened clean).ready, λ m few. room_less (file_state c.in-Ok.keeper.conn) (501 * m) (501 * n) (omega (arith, few)) room)
 
 pub returns-in-Err-clause-told : goal.returns-in-Err-clause-told
 returns-in-Err-clause-told g c = is_told c.in-Err.not.cause c.in-Err.not.fault c.fault_of.result c.fault_of.ensures c.in-Err.ensures.told

@@ -27,9 +27,6 @@ returns-in-Ok-clause-found g c clean = c.in-Ok.ensures.found clean
 pub returns-in-Ok-clause-room : goal.returns-in-Ok-clause-room
 returns-in-Ok-clause-room g c clean = c.in-Ok.ensures.room clean
 
-pub returns-in-Ok-clause-numbers : goal.returns-in-Ok-clause-numbers
-returns-in-Ok-clause-numbers g c clean = c.in-Ok.ensures.numbers clean
-
 pub returns-in-Ok-clause-informed : goal.returns-in-Ok-clause-informed
 returns-in-Ok-clause-informed g c clean =
     let some = some_content (state g.S.Store c.args.conn) (state g.S.Store c.ready.new.conn) (c.in-Ok.ensures.stands clean) in
