@@ -1,6 +1,7 @@
 -- A keeper's calls go on in the history of its store.
 use Rattle.std.proofs.Common.{List, [], ◌∷◌, ◌++◌, Result, Ok, Err, sym, subst, append-nil}
-use Rattle.std.specs.Prelude.{MatchResult}
+use Rattle.std.specs.Prelude.{MatchOption}
+use Rattle.std.specs.Result.{result_err}
 use Rattle.std.proofs.Math.Logic.{∥∥₁_map}
 use Rattle.sqlite.specs.State.{State}
 use Rattle.ee_desk_model.specs.declared.acts.Request.{Request}
@@ -19,7 +20,7 @@ abbrev pub Went : State → Type 0 → Content → List Event → Type 0
 Went now informed start events = HasCome start events now × informed
 
 pub goes_at : {R : Type 0} (old new : State) (was is : Type 0) (q : Request) (result : Result R Unserved)
-    → (was → MatchResult result (λ reply. Goes old (Deliver q ∷ []) new × Goes old (Lose q ∷ []) new) (λ cause. Goes old (NotServed q ∷ []) new))
+    → (was → MatchOption (result_err result) (Goes old (Deliver q ∷ []) new × Goes old (Lose q ∷ []) new) (λ _. Goes old (NotServed q ∷ []) new))
     → (was → is) → LeadOn (Went old was) (attempt_at q result) (Went new is)
 goes_at old new was is q (Ok reply) goes stays = lead_by_reply (Went old was) (Went new is) q (λ start earlier went.
     let both = goes went.1 in

@@ -3,4 +3,5 @@ pub mod Adopted
 pub mod Ended
 pub mod NextRun
 pub mod History
+pub mod Acting
 pub mod Holding

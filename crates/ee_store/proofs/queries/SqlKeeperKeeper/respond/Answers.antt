@@ -6,6 +6,7 @@ use Rattle.ee_store_tables.specs.Rows.{HasRoom}
 use Rattle.ee_store_tables.proofs.Lemmas.Causes.{room_less}
 use Rattle.ee_store_books.specs.Seen.{StandsFor, HasContent}
 use Rattle.ee_store_delivery.specs.Known.{IsInformed}
+use Rattle.ee_store.proofs.Asked.{responds_both, if_served, if_unserved}
 use Rattle.ee_store.proofs.Shut.{continued}
 use Rattle.ee_store.proofs.Going.{goes_at}
 use Rattle.ee_store.proofs.queries.SqlKeeperKeeper.respond.Goals as goal
@@ -14,22 +15,30 @@ pub returns-clause-continues : goal.returns-clause-continues
 returns-clause-continues g c =
     let old = state g.S.Store c.args.self.now.conn in
     continued c.args.self.now c.respond.new.self (λ k. state g.S.Store k.conn) (λ db. IsInformed old c.args.self.now.known
-    → (content : Content) → HasContent old content → StandsFor db (content_after content (c.args.request.now ∷ []))) c.respond.ensures.crash
+    → (content : Content) → HasContent old content → StandsFor db (content_after content (c.args.request.now ∷ []))) c.respond.ensures.acts.crash
+
+pub returns-clause-responds : goal.returns-clause-responds
+returns-clause-responds g c clean content has =
+    responds_both content c.args.request.now c.respond.result (HasContent (state g.S.Store c.respond.new.self.conn)) (IsInformed (state g.S.Store c.respond.new.self.conn) c.respond.new.self.known)
+    (c.respond.ensures.responds clean has.1 content has.0) (c.respond.ensures.acts.informed has.1)
+
+pub returns-clause-opened : goal.returns-clause-opened
+returns-clause-opened g c clean = if_served c.respond.result (λ served content has fresh. c.respond.ensures.acts.opened clean content (served, has.0, fresh))
 
 pub returns-clause-cause : goal.returns-clause-cause
 returns-clause-cause g c clean content has n takes fits =
     let old = state g.S.Store c.args.self.now.conn in
-    c.respond.ensures.cause clean has.1 content (takes.0, has.0, fits, room_less old 501 (501 * (n + 1)) (omega arith) (takes.1 (n + 1) (omega arith)))
+    if_unserved _ c.respond.result (c.respond.ensures.acts.cause clean has.1 content (takes.0, has.0, fits, room_less old 501 (501 * (n + 1)) (omega arith) (takes.1 (n + 1) (omega arith))))
 
 pub returns-clause-ready : goal.returns-clause-ready
 returns-clause-ready g c clean content has n takes = (
-  c.respond.ensures.ready takes.0,
+  c.respond.ensures.acts.ready takes.0,
   λ m few. let one_more : 501 * (m + 1) ≡ 501 + 501 * m = omega arith in
-      c.respond.ensures.room clean takes.0 content has.0 (501 * m) (subst (λ k. HasRoom k (state g.S.Store c.args.self.now.conn)) one_more (takes.1 (m + 1) (omega (arith, few)))),
+      c.respond.ensures.acts.room clean takes.0 content has.0 (501 * m) (subst (λ k. HasRoom k (state g.S.Store c.args.self.now.conn)) one_more (takes.1 (m + 1) (omega (arith, few)))),
 )
 
 pub returns-clause-goes : goal.returns-clause-goes
 returns-clause-goes g c clean =
     let old = state g.S.Store c.args.self.now.conn in
     let new = state g.S.Store c.respond.new.self.conn in
-    goes_at old new (IsInformed old c.args.self.now.known) (IsInformed new c.respond.new.self.known) c.args.request.now c.respond.result (c.respond.ensures.goes clean) c.respond.ensures.informed
+    goes_at old new (IsInformed old c.args.self.now.known) (IsInformed new c.respond.new.self.known) c.args.request.now c.respond.result (c.respond.ensures.acts.goes clean) c.respond.ensures.acts.informed
