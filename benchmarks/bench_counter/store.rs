@@ -5,8 +5,8 @@ use anyhow::{Context, Result, bail};
 use ee_counter::run;
 use ee_desk_model::{Act, Reply, Request};
 use ee_keeper::Keeper;
-use ee_store::SqlKeeper;
-use sqlite::{Alter, Connection, MemStore};
+use ee_store::{SqlKeeper, open_as};
+use sqlite::{Alter, Connection, MemStore, Unknown};
 use std::alloc::Global;
 use std::time::{Duration, Instant};
 
@@ -212,7 +212,7 @@ fn in_memory(rt: &HostRuntime, size: Size) -> Result<()> {
 
 /// Work over the store in a file, which is opened for it and closed.
 fn over_file(rt: &HostRuntime, path: &str, work: Work) -> Result<()> {
-    match SqlKeeper::open(rt, path) {
+    match open_as(rt, path, Unknown) {
         Ok(mut keeper) => work.over(rt, &mut keeper),
         Err(_) => bail!("store"),
     }

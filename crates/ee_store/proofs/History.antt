@@ -40,11 +40,10 @@ use Rattle.ee_store_schema.specs.Making.{IsBlank, no_tables}
 use Rattle.ee_store_books.specs.Seen.{HasContent, StandsFor}
 use Rattle.ee_store.proofs.Opened.{stood_now}
 use Rattle.ee_store.specs.Adopted.{StoodFor, StandsSince, IsRefusedFrom}
-use Rattle.ee_store.specs.NextRun.{IsNumberedStore, FollowsInNextRun, HoldsStore, HoldsContent}
-use Rattle.ee_store.proofs.NextRun.{was_found, found_in, next_on}
+use Rattle.ee_store.specs.NextRun.{IsNumberedStore, HoldsStore, HoldsContent}
 use Rattle.ee_store.specs.Served.{FollowsWorld}
 use Rattle.ee_store.specs.Ended.{StandsAlone, IsAtRest, RestsIn}
-use Rattle.ee_store.specs.History.{IsUp, IsJustUp, Goes, BeginsHistory, BeginsInFiles, OpensHistory, HasHeld, WaitsInFiles, WaitsRefused, GoesByQueries, LeavesHistory, GoesThroughCrash, AreFoundAs, HoldAtRest, RestsHistory, GoesThroughRest, HasHistory, HoldHistory, SettlesHistory, RestsAfter}
+use Rattle.ee_store.specs.History.{IsUp, IsJustUp, Goes, BeginsHistory, BeginsInFiles, OpensHistory, HasHeld, WaitsInFiles, WaitsRefused, GoesByQueries, LeavesHistory, AreFoundAs, HoldAtRest, RestsHistory, HasHistory, HoldHistory, SettlesHistory, RestsAfter}
 
 -- ---- worlds that are up
 
@@ -61,10 +60,6 @@ up_decided w q told is = record { up = refl; among = by_case (finite.contains_ke
 
 up_unserved : (w : World) (q : Request) → IsUp w → IsUp (unserved w q)
 up_unserved w q is = record { up = is.up; among = in_tail (one w.now q) w.may w.now is.among }
-
-up_again : (w v : World) → Happens w (Stop_between ∷ Reopen ∷ []) v → IsUp v
-up_again w v (u, (left, among, stops), (x, (down, opens), same)) =
-    subst IsUp (sym (same ∙ opens ∙ ap (λ (y : World). record y { up = true }) stops)) (record { up = refl; among = (0, omega arith, refl) })
 
 -- ---- one event, or some
 
@@ -292,10 +287,6 @@ leaves_history g takes start events old last left come no_more numbered may = �
       held_store takes left again.0 content again.2 stands,
     )))
 
-pub goes_through_crash : {D E : Type 0} (g : Ghosts D) (h : Ghosts E) → FollowsInNextRun g h → GoesThroughCrash g h
-goes_through_crash g h next old left now numbered may run = goes_from (file_state old) (file_state now) (Stop_between ∷ Reopen ∷ []) (λ w is before.
-    ∥∥₁_map (next old w left now numbered before may run) (λ (v, happens, follows). (v, happens, up_again w v happens, follows)))
-
 -- files at rest represent the content however they are found
 stands_found : {D : Type 0} (g : Ghosts D) (files : Files D) (content : Content) (found : Image) → IsAtRest g files content → AreFoundAs g files found → StandsAlone found content
 stands_found g files content found rest (inl same) = subst (λ image. StandsAlone image content) (sym same) rest.seen
@@ -313,14 +304,6 @@ rests_history g takes start events old files found come clean rests finds = ∥�
   record { up = refl; only = refl },
   hold_at_rest g takes files w.now found (rests clean w.now follows.0) finds,
 ))
-
-pub goes_through_rest : {D E : Type 0} (g : Ghosts D) (h : Ghosts E) → GoesThroughRest g h
-goes_through_rest g h old files found now clean rests finds run = goes_from (file_state old) (file_state now) (Stop_between ∷ Reopen ∷ []) (λ w is before.
-    let seen = stands_found g files w.now found (rests clean w.now before.0) finds in
-    let same : (was_found found now run).committed.trees ≡ seen.db = ∥∥₁_elim seen.holds.both (Trees-set _ _) ((found_in found now run).holds _) in
-    let stands = subst (λ trees. StandsFor trees w.now) (sym same) seen.stands in
-    let (v, happens, kept, follows) = next_on found now run w w.now is.among stands in
-    ∣ (v, happens, up_again w v happens, follows) ∣₁)
 
 -- ---- what a history leaves
 

@@ -20,11 +20,11 @@ use Rattle.ee_store_schema.specs.declared.faults.OpenFault.{OpenFault}
 use Rattle.ee_store_schema.proofs.Lemmas.Forms.{kept_had}
 use Rattle.ee_store_books.specs.Seen.{StandsFor, HasContent}
 use Rattle.ee_store_schema.specs.declared.forms.Form.TheVariants.{Current}
-use Rattle.ee_store.specs.Adopted.{IsOpenedFrom, IsRefusedFrom}
+use Rattle.ee_store.specs.Adopted.{IsRefusedFrom}
 use Rattle.ee_store.specs.Served.{FollowsWorld}
 use Rattle.ee_store.proofs.Opened.{stood_now}
 use Rattle.ee_store.proofs.Meeting.{has_standing}
-use Rattle.ee_store.specs.NextRun.{IsNumbered, MayLeaveFiles, IsNextRun, FollowsInNextRun, WaitsInNextRun, LeavesStanding, FollowsOn}
+use Rattle.ee_store.specs.NextRun.{IsNumbered, MayLeaveFiles, IsNextRun, FollowsInNextRun, WaitsInNextRun, LeavesStanding}
 
 -- an open finds trees that the crash might leave
 found_again : {D : Type 0} {g : Ghosts D} (old : Held (FileStore D g)) (left : Image) (was : State)
@@ -82,8 +82,3 @@ pub leaves_standing : {D : Type 0} {g : Ghosts D} (old : Held (FileStore D g)) �
 leaves_standing old numbered w left follows may =
     let sound : AreDatabases (recovers old.store) = λ db may. let found = follows.1 db may in (counter_schema, found.2.stores.sound) in
     ∥∥₁_map (opens_again old.store numbered sound left may) (λ found. (found.0, found.2, follows.1 found.0 found.1))
-
-pub follows_on : {E : Type 0} {h : Ghosts E} (left : Image) (now : Held (FileStore E h)) → IsOpenedFrom left now → FollowsOn left now
-follows_on left now opened w content db among holds stands =
-    let found = file_state opened.was in
-    opened.goes_on Current w content among (stood_now found.committed.trees content (subst (λ d. StandsFor d content) (sym (opened.found.holds db holds)) stands))

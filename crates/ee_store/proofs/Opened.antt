@@ -3,7 +3,6 @@ use Rattle.std.proofs.Common.{◌≡◌, inl, inr, ℕ, List, [], map, IsTrue, s
 use Rattle.std.specs.Prelude.{IfSome, filter_map}
 use Rattle.std.specs.Ordering.{nat_cmp}
 use Rattle.std.specs.FinMap.{from_entries, get-empty}
-use Rattle.sqlite.specs.Held.{Held}
 use Rattle.sqlite.specs.Effect.{Database}
 use Rattle.sqlite.specs.Tree.{Trees}
 use Rattle.sqlite.specs.State.{State, Survives, KeepsCommit}
@@ -30,9 +29,7 @@ use Rattle.ee_store_load.proofs.Lemmas.{ours_tables, one_version}
 use Rattle.ee_store_schema.proofs.Lemmas.Forms.{no_entries, not_blank}
 use Rattle.ee_store_books.specs.Standing.{rows_at, rows_of, extension_entry, bond_row, reply_row, key_of, IsRight, IsKept}
 use Rattle.ee_store_books.specs.Seen.{StandsFor, HasContent}
-use Rattle.ee_store.specs.Adopted.{StoodFor, HadContent, HasSome, IfConnection}
-use Rattle.ee_store.specs.declared.opening.Rest.{Rest}
-use Rattle.ee_store.specs.declared.opening.Rest.TheVariants.{Connection, Files}
+use Rattle.ee_store.specs.Adopted.{StoodFor, HadContent, HasSome}
 
 -- ---- the empty content and the first rows
 
@@ -104,9 +101,3 @@ rows_not_blank old form rows had is_open blank = not_blank form old (λ o. (had 
 pub some_content : (old new : State) → HasSome old new → (content : Content) × HasContent new content
 some_content old new (inl (form, content, had, has)) = (content, has)
 some_content old new (inr (blank, has)) = (nothing, has)
-
--- ---- connections that are handed back
-
-pub connection_then : {S L : Type 0} {P Q : Held S → Type 0} (rest : Rest S L) → ((conn : Held S) → P conn → Q conn) → IfConnection rest P → IfConnection rest Q
-connection_then (Connection conn) f h = f conn h
-connection_then (Files left) f h = tt

@@ -22,7 +22,7 @@ use Rattle.ee_store_books.specs.Seen.{HasContent}
 use Rattle.ee_store.specs.Served.{FollowsWorld}
 use Rattle.ee_store.specs.Adopted.{KeepsWorld, IsOpenedFrom, IsRefusedFrom}
 use Rattle.ee_store.specs.Ended.{IsAtRest, RestsIn}
-use Rattle.ee_store.specs.NextRun.{IsNumbered, IsNumberedStore, MayLeaveFiles, HoldsContent, IsNextRun}
+use Rattle.ee_store.specs.NextRun.{IsNumberedStore, HoldsContent}
 use Rattle.ee_store.specs.Holding.{HoldsOn}
 
 -- it takes requests, and a crash may leave its content
@@ -100,11 +100,6 @@ LeavesHistory {D} g = (start : Content) (events : List Event) (old : Held (FileS
     → ((db : Trees) → recovers last db → (file_state old).may_leave db) → IsNumberedStore last → (state last).may_leave left
     → HasLeft start (events ++ stop_and_reopen) left
 
--- a crash leaves two files, and the next run opens them, refused or not
-abbrev pub GoesThroughCrash : {D E : Type 0} → Ghosts D → Ghosts E → Type 0
-GoesThroughCrash {D} {E} g h = (old : Held (FileStore D g)) (left : Image) (now : Held (FileStore E h))
-    → IsNumbered old → MayLeaveFiles old left → IsNextRun left now → Goes (file_state old) stop_and_reopen (file_state now)
-
 -- the files are found as they read, or as a stop of the machine leaves them
 abbrev pub AreFoundAs : {D : Type 0} → Ghosts D → Files D → Image → Type 0
 AreFoundAs g files found = (found ≡ image_of g files) ⊎ outcomes g files.log files.db found
@@ -117,12 +112,6 @@ HoldAtRest {D} g = (files : Files D) (content : Content) (found : Image) → IsA
 abbrev pub RestsHistory : {D : Type 0} → Ghosts D → Type 0
 RestsHistory {D} g = (start : Content) (events : List Event) (old : Held (FileStore D g)) (files : Files D) (found : Image) → HasCome start events (file_state old)
     → AreClean g files.log files.db → RestsIn old files → AreFoundAs g files found → HasLeft start (events ++ stop_and_reopen) found
-
--- a command ends with its files at rest, and the next one opens them, refused or not, also after the machine stopped
-abbrev pub GoesThroughRest : {D E : Type 0} → Ghosts D → Ghosts E → Type 0
-GoesThroughRest {D} {E} g h = (old : Held (FileStore D g)) (files : Files D) (found : Image) (now : Held (FileStore E h))
-    → AreClean g files.log files.db → RestsIn old files → AreFoundAs g files found → IsNextRun found now
-    → Goes (file_state old) stop_and_reopen (file_state now)
 
 -- the store has a content that its events lead to
 abbrev pub HasHistory : {D : Type 0} → Ghosts D → Type 0

@@ -62,8 +62,3 @@ WaitsInNextRun {D} {E} g h = (old : Held (FileStore D g)) (w : World) (left : Im
 abbrev pub LeavesStanding : {D : Type 0} {g : Ghosts D} → Held (FileStore D g) → Type 0
 LeavesStanding old = (w : World) (left : Image) → FollowsWorld (file_state old) w → MayLeaveFiles old left
     → ∥ ((db : Trees) × HoldsDatabase left db × ((content : Content) × Contains w.may content × StandsFor db content)) ∥₁
-
--- The keeper was opened on two files. If these hold such a database, it follows the world after a stop and a reopening.
-abbrev pub FollowsOn : {E : Type 0} {h : Ghosts E} → Image → Held (FileStore E h) → Type 0
-FollowsOn left now = (w : World) (content : Content) (db : Trees) → Contains w.may content → HoldsDatabase left db → StandsFor db content
-    → (v : World) × Happens w (Stop_between ∷ Reopen ∷ []) v × (v.now ≡ content) × FollowsWorld (file_state now) v

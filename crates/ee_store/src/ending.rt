@@ -49,7 +49,7 @@ impl<D: Disk + Drop> SqlKeeper<FileStore<D>> {
         ensures was_clean { IfErr result (λ e. IsClean (view e.1) → HasCleanDisk (file_state self.conn)) }
         ensures cause { IfErr result (λ e. IsClean (view e.1) → FailsToEnd self.conn e.1 e.0) }
     {
-        whole_history_law::<D, D>();
+        whole_history_law::<D>();
         // For the proof alone: a connection that has a schema sees a database, which `at_rest` needs.
         let _schema = self.conn.schema();
         match self.close().close_files() {

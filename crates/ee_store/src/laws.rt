@@ -15,10 +15,8 @@ ghost use Rattle.ee_store.specs.History.{
   WaitsRefused,
   GoesByQueries,
   LeavesHistory,
-  GoesThroughCrash,
   HoldAtRest,
   RestsHistory,
-  GoesThroughRest,
   HasHistory,
   HoldHistory,
   SettlesHistory,
@@ -55,7 +53,7 @@ pub const fn next_run_law<D: Disk, E: Disk>()
 
 /// The whole history of a store in files since it was new, or since its files held some content: any deliveries,
 /// lost replies, faults, stops and starts. A request that is delivered is one more event, and so is one whose reply
-/// is lost or that isn't served (`SqlKeeper::deliver`, `goes`).
+/// is lost or that isn't served (`ActsOnce`, `goes`).
 ///
 /// - `begins`: a store that was just created has gone through no event; `SqlKeeper::adopt` creates it (`begun`).
 /// - `found`: so have files that hold a store of either version, or no database yet.
@@ -66,14 +64,13 @@ pub const fn next_run_law<D: Disk, E: Disk>()
 /// - `queries`: a query is no event.
 /// - `leaves`: a crash leaves two files of a store: a stop, and a reopening by whoever opens them. So does what is
 ///   left of a store that couldn't be closed (`SqlKeeper::close_files`, `left`).
-/// - `crash`: the same, with the next run: also if it is refused.
 /// - `at_rest`: files at rest hold the content, however they are found.
-/// - `rests`, `rest`: the same of the end of a command, which leaves its files at rest, also if the machine stops
-///   before the next one.
+/// - `rests`: the end of a command, which leaves its files at rest, is a stop too, also if the machine stops before the
+///   next one.
 /// - `content`, `files`: whatever events it has gone through, the store, or the two files, have the content of
 ///   requests that were sent, each acting once, and each reply that was given is still the answer (`IsLeftBy`).
 /// - `settled`: once each sent request is delivered again, each has taken effect once.
-pub const fn whole_history_law<D: Disk, E: Disk>()
+pub const fn whole_history_law<D: Disk>()
     ensures begins { BeginsHistory D.Disk }
     ensures found { BeginsInFiles }
     ensures opens { OpensHistory D.Disk }
@@ -82,16 +79,13 @@ pub const fn whole_history_law<D: Disk, E: Disk>()
     ensures refused { WaitsRefused D.Disk }
     ensures queries { GoesByQueries D.Disk }
     ensures leaves { LeavesHistory D.Disk }
-    ensures crash { GoesThroughCrash D.Disk E.Disk }
     ensures at_rest { HoldAtRest D.Disk }
     ensures rests { RestsHistory D.Disk }
-    ensures rest { GoesThroughRest D.Disk E.Disk }
     ensures content { HasHistory D.Disk }
     ensures files { HoldHistory }
     ensures settled { SettlesHistory D.Disk }
 {
     stops_and_retries_law();
-    next_run_law::<D, E>();
     holding_law::<D>();
 }
 

@@ -3,7 +3,6 @@
 ghost use Rattle.std.specs.Prelude.{◌≡◌, ◌⊎◌, None, true, false, IsTrue, IfOk, IfErr, IfSome, IsSomeAnd};
 ghost use Rattle.sqlite.specs.State.{HasCleanDisk};
 ghost use Rattle.sqlite.specs.Files.{file_state, image_of, IsCleanLeft};
-ghost use Rattle.sqlite.specs.Recovery.{Image};
 ghost use Rattle.sqlite.specs.WalFiles.{image_at};
 ghost use Rattle.sqlite_std_file.specs.File.{IsFresh};
 ghost use Rattle.sqlite.specs.FileStore.{recovers, view};
@@ -16,15 +15,13 @@ ghost use Rattle.ee_store_files.specs.Opening.{IsCauseOf};
 ghost use Rattle.ee_store_delivery.specs.Known.{IsInformed};
 ghost use Rattle.ee_store.specs.Adopted.{IsOpenedFrom, IsRefusedFrom, IfConnection, IfFiles};
 ghost use Rattle.ee_store.specs.Holding.{AreSettled, KeepsHeld};
-ghost use Rattle.ee_store.specs.NextRun.{IsNumbered, IsNumberedStore, LeavesStanding, FollowsOn};
+ghost use Rattle.ee_store.specs.NextRun.{IsNumbered, IsNumberedStore, LeavesStanding};
 
 use crate::keeper::SqlKeeper;
 use crate::laws::holding_law;
 use ee_store_files::{OpenCause, open_files, open_path};
 use ee_store_schema::OpenFault;
-use sqlite::{
-    Alter, Connection, File, FileFrom, FileStore, Files, Leftover, Options, Start, Unknown,
-};
+use sqlite::{Alter, Connection, FileFrom, FileStore, Files, Leftover, Options, Start};
 use sqlite_disk::Disk;
 use std::alloc::Global;
 
@@ -54,8 +51,6 @@ pub struct NotOpened<S: Alter, L> {
 /// - `opened`: the keeper has what was found: the empty content if there was no store, and otherwise the
 ///   content that the store had, as `SqlKeeper::adopt` says.
 /// - `informed`: the cache is correct, as `SqlKeeper::adopt` says.
-/// - `follows`: if the file held a database that represents a content which a crash might leave, by the law of
-///   stops and retries, the keeper has it and goes on from there. The law `next_run_law` joins both runs.
 /// - `refused`: for a connection that is refused the same is said: why, and what the call left.
 /// - `fault`: a file that `sqlite` doesn't open is neither `WrongVersion` nor `Unusable`.
 /// - `told`, `apart`: a cause is one of that fault, and is told only if `sqlite` didn't open the file.
@@ -77,7 +72,6 @@ pub fn open_on<D: Disk + Drop>(
     requires db { IsTrue (D.Disk.is_usable files.db) }
     ensures opened { IfOk result (λ keeper. HasCleanDisk (file_state keeper.conn) → IsOpenedFrom (image_of D.Disk files) keeper.conn) }
     ensures informed { IfOk result (λ keeper. IsInformed (file_state keeper.conn) keeper.known) }
-    ensures follows { IfOk result (λ keeper. HasCleanDisk (file_state keeper.conn) → FollowsOn (image_of D.Disk files) keeper.conn) }
     ensures refused { IfErr result (λ not. IfConnection not.rest (λ conn. HasCleanDisk (file_state conn) → IsRefusedFrom (image_of D.Disk files) not.fault conn)) }
     ensures fault { IfErr result (λ not. IfFiles not.rest (λ _. (not.fault ≡ OpenFault.NoMemory) ⊎ (not.fault ≡ OpenFault.StoreFailed))) }
     ensures told { IfErr result (λ not. IfSome not.cause (λ cause. not.fault ≡ fault_of (error_of cause))) }
@@ -127,7 +121,6 @@ pub fn open_as<F: Start>(
 >
     ensures opened { IfOk result (λ keeper. HasCleanDisk (file_state keeper.conn) → IsOpenedFrom (image_at F.Start) keeper.conn) }
     ensures informed { IfOk result (λ keeper. IsInformed (file_state keeper.conn) keeper.known) }
-    ensures follows { IfOk result (λ keeper. HasCleanDisk (file_state keeper.conn) → FollowsOn (image_at F.Start) keeper.conn) }
     ensures refused { IfErr result (λ not. IfConnection not.rest (λ conn. HasCleanDisk (file_state conn) → IsRefusedFrom (image_at F.Start) not.fault conn)) }
     ensures fault { IfErr result (λ not. IfFiles not.rest (λ _. (not.fault ≡ OpenFault.NoMemory) ⊎ (not.fault ≡ OpenFault.StoreFailed))) }
     ensures told { IfErr result (λ not. IfSome not.cause (λ cause. not.fault ≡ fault_of (error_of cause))) }
@@ -146,34 +139,6 @@ pub fn open_as<F: Start>(
             cause: Some(cause),
             rest: Rest::Files(None),
         }),
-    }
-}
-
-impl SqlKeeper<FileStore<File>> {
-    /// Opens the store in the file at a path, or creates it there. This is `open_as` without any statement about
-    /// what the file held: a torn write leaves each byte old or new.
-    ///
-    /// # Errors
-    ///
-    /// Those of `SqlKeeper::adopt`; `StoreFailed` also if `sqlite` doesn't open the file.
-    pub fn open(
-        rt: &HostRuntime,
-        path: &str,
-    ) -> Result<SqlKeeper<FileStore<File>>, NotOpened<FileStore<File>, Leftover<File>>>
-        ensures opened { IfOk result (λ keeper. HasCleanDisk (file_state keeper.conn) → (start : Image) × IsOpenedFrom start keeper.conn) }
-        ensures informed { IfOk result (λ keeper. IsInformed (file_state keeper.conn) keeper.known) }
-        ensures refused { IfErr result
-            (λ not. IfConnection not.rest (λ conn. HasCleanDisk (file_state conn) → (start : Image) × IsRefusedFrom start not.fault conn)) }
-        ensures fault { IfErr result (λ not. IfFiles not.rest (λ _. (not.fault ≡ OpenFault.NoMemory) ⊎ (not.fault ≡ OpenFault.StoreFailed))) }
-        ensures told { IfErr result (λ not. IfSome not.cause (λ cause. not.fault ≡ fault_of (error_of cause))) }
-        ensures apart { IfErr result (λ not. IfConnection not.rest (λ _. not.cause ≡ None)) }
-        ensures cause { IfErr result (λ not. IfFiles not.rest (λ rest. IfSome rest (λ left. IsSomeAnd not.cause (λ cause. (files : _) × IsFresh true files.log × IsFresh false files.db
-            × (IsCleanLeft left → IsCauseOf files left cause))))) }
-        ensures left { IfErr result (λ not. IfFiles not.rest (λ rest. IfSome rest (λ left. (files : _) × IsFresh true files.log × IsFresh false files.db
-            × (IsCleanLeft left → Leaves files left)))) }
-        ensures nothing { IfErr result (λ not. IfFiles not.rest (λ rest. rest ≡ None → IsSomeAnd not.cause IsOfSystem)) }
-    {
-        open_as(rt, path, Unknown)
     }
 }
 

@@ -11,8 +11,9 @@ use crate::stops::{
     served_on,
 };
 use crate::talk::answers;
+use ee_cli_stores::Untold;
 use ee_desk::ListKeeper;
-use ee_store::SqlKeeper;
+use ee_store::open_as;
 use sqlite::Files;
 use sqlite_disk::{Crash, Fuse, Memory};
 use std::alloc::Global;
@@ -25,7 +26,7 @@ const TALKS: [&str; 6] = [DAY, IMPORTS, DAYS, LAST, LISTS, EXTENDED];
 
 /// The answers to a talk over the store in a file, which is opened for it and closed.
 fn in_file(rt: &HostRuntime, path: &str, talk: &str) -> Result<String, Fail> {
-    match SqlKeeper::open(rt, path) {
+    match open_as(rt, path, Untold) {
         Ok(mut keeper) => answers(rt.alloc(), &mut keeper, talk),
         Err(_) => Err("the file doesn't open".into()),
     }

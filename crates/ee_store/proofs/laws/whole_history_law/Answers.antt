@@ -1,4 +1,4 @@
-use Rattle.ee_store.proofs.History.{begins_history, begins_in_files, opens_history, has_held, waits_in_files, waits_refused, goes_by_queries, leaves_history, goes_through_crash, hold_at_rest, rests_history, goes_through_rest, has_history, hold_history, settles_history}
+use Rattle.ee_store.proofs.History.{begins_history, begins_in_files, opens_history, has_held, waits_in_files, waits_refused, goes_by_queries, leaves_history, hold_at_rest, rests_history, has_history, hold_history, settles_history}
 use Rattle.ee_store.proofs.laws.whole_history_law.Goals as goal
 
 pub returns-clause-begins : goal.returns-clause-begins
@@ -25,17 +25,11 @@ returns-clause-queries g c = goes_by_queries g.D.Disk
 pub returns-clause-leaves : goal.returns-clause-leaves
 returns-clause-leaves g c = leaves_history g.D.Disk c.holding_law.ensures.takes
 
-pub returns-clause-crash : goal.returns-clause-crash
-returns-clause-crash g c = goes_through_crash g.D.Disk g.E.Disk c.next_run_law.ensures.follows
-
 pub returns-clause-at_rest : goal.returns-clause-at_rest
 returns-clause-at_rest g c = hold_at_rest g.D.Disk c.holding_law.ensures.takes
 
 pub returns-clause-rests : goal.returns-clause-rests
 returns-clause-rests g c = rests_history g.D.Disk c.holding_law.ensures.takes
-
-pub returns-clause-rest : goal.returns-clause-rest
-returns-clause-rest g c = goes_through_rest g.D.Disk g.E.Disk
 
 pub returns-clause-content : goal.returns-clause-content
 returns-clause-content g c = has_history g.D.Disk c.stops_and_retries_law.ensures.survives

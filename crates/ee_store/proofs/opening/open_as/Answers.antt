@@ -8,7 +8,6 @@ use Rattle.ee_store.specs.Holding.{KeepsHeld}
 use Rattle.ee_store.specs.declared.opening.Rest.{Rest}
 use Rattle.ee_store.specs.declared.opening.Rest.TheVariants.{Connection, Files}
 use Rattle.ee_store.specs.Adopted.{IsOpenedFrom, IsRefusedFrom, IfConnection, IfFiles}
-use Rattle.ee_store.specs.NextRun.{FollowsOn}
 use Rattle.ee_store.proofs.opening.open_as.Goals as goal
 
 abbrev image : List ℕ → List ℕ → Image
@@ -46,12 +45,6 @@ returns-in-Ok-clause-opened g c =
     let (log, db) = c.in-Ok.ensures.fresh in
     let same = ap₂ image (ap₂ (seen g.F.Start.log g.F.Start.db) log.0 log.1) (ap₂ (seen g.F.Start.log g.F.Start.db) db.0 db.1) in
     IfOk-weaker c.open_on.result _ _ (λ keeper opened clean. subst (λ i. IsOpenedFrom i keeper.conn) same (opened clean)) c.open_on.ensures.opened
-
-pub returns-in-Ok-clause-follows : goal.returns-in-Ok-clause-follows
-returns-in-Ok-clause-follows g c =
-    let (log, db) = c.in-Ok.ensures.fresh in
-    let same = ap₂ image (ap₂ (seen g.F.Start.log g.F.Start.db) log.0 log.1) (ap₂ (seen g.F.Start.log g.F.Start.db) db.0 db.1) in
-    IfOk-weaker c.open_on.result _ _ (λ keeper follows clean. subst (λ i. FollowsOn i keeper.conn) same (follows clean)) c.open_on.ensures.follows
 
 pub returns-in-Ok-clause-refused : goal.returns-in-Ok-clause-refused
 returns-in-Ok-clause-refused g c =

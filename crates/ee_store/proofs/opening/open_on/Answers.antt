@@ -2,7 +2,6 @@ use Rattle.std.proofs.Common.{rules, arith}
 use Rattle.sqlite.specs.State.{HasCleanDisk}
 use Rattle.sqlite.specs.Files.{file_state}
 use Rattle.ee_store.proofs.AtRest.{found_alone}
-use Rattle.ee_store.proofs.NextRun.{follows_on}
 use Rattle.ee_store.proofs.opening.open_on.Goals as goal
 
 pub returns-in-Err-clause-left : goal.returns-in-Err-clause-left
@@ -60,6 +59,3 @@ returns-in-Err-adopt-clause-refused g c clean =
 
 pub returns-in-Err-clause-fault : goal.returns-in-Err-clause-fault
 returns-in-Err-clause-fault g c = search rules
-
-pub returns-in-Ok-adopt-clause-follows : goal.returns-in-Ok-adopt-clause-follows
-returns-in-Ok-adopt-clause-follows g c clean = follows_on _ c.in-Ok-adopt.keeper.conn (returns-in-Ok-adopt-clause-opened g c clean)
