@@ -14,8 +14,7 @@ use Rattle.ee_desk_model.specs.declared.replies.Ticket.{Ticket}
 use Rattle.ee_desk_model.specs.declared.replies.Batch.{Batch}
 use Rattle.ee_desk_model.specs.Serials.{serial_cmp}
 use Rattle.ee_desk_model.proofs.Lemmas.Maps.{serials_total, serials_exact}
-use Rattle.ee_desk_soundness.specs.declared.parts.Parts.{Parts}
-use Rattle.ee_desk_soundness.specs.Parts.{parts_of, row_of_entry}
+use Rattle.ee_desk_soundness.specs.Parts.{Parts, parts_of, row_of_entry}
 use Rattle.ee_desk.specs.Kept.{books_of}
 use Rattle.ee_desk.proofs.Ordered.{entries_are}
 

@@ -1,3 +1,5 @@
+mod PaidMarks
+mod HeldRows
 mod Outcomes
 mod Added
 mod Registered

@@ -12,13 +12,15 @@ ghost use Rattle.ee_desk_model.specs.Acts.{applied, books_after, reply_to};
 ghost use Rattle.ee_desk_model.specs.Views.{shown_by, view_of};
 ghost use Rattle.ee_desk_model.specs.Queries.{ticket_numbered, batch_on, bonds_of, inventory, quote_of, shown_in_row, shown_in_sheet};
 ghost use Rattle.ee_desk_soundness.specs.Parts.{parts_of, AreUnsound};
+ghost use Rattle.ee_desk.specs.Parts.{as_lists};
 
 use crate::ledger::Ledger;
+use crate::parts::{Parts, checked};
 use crate::seeing;
 use ee_calculator::{Bond, Row, Sheet, sheet};
 use ee_desk_decide::{View, decide, quote, rows_of};
 use ee_desk_model::{Act, Batch, Effects, Reply, Ticket, in_range};
-use ee_desk_soundness::{Parts, PartsFault, checked};
+use ee_desk_soundness::PartsFault;
 use ee_units::calendar::period_of;
 use ee_units::{Customer, Day, Denom, IssueMonth, Month};
 use std::alloc::{AllocError, Global};
@@ -62,8 +64,8 @@ impl Books {
     /// The books with these parts. `Unsound` if and only if no sound books have them; for example, rates or
     /// bonds in another order.
     pub fn from_parts(alloc: Global, parts: Parts) -> Result<Books, PartsFault>
-        ensures ok { IfOk result (λ books. parts_of books ≡ parts) }
-        ensures unsound { IfErr result (λ fault. fault ≡ PartsFault.Unsound → AreUnsound parts) }
+        ensures ok { IfOk result (λ books. parts_of books ≡ as_lists parts) }
+        ensures unsound { IfErr result (λ fault. fault ≡ PartsFault.Unsound → AreUnsound (as_lists parts)) }
     {
         let indexes = checked(alloc, &parts)?;
         let ledger = Ledger::of_parts(alloc, parts, indexes)?;
@@ -73,7 +75,7 @@ impl Books {
     /// A copy of the books as lists: rates sorted by month, bonds by serial number, tickets by number,
     /// batches by day.
     pub fn parts(&self) -> Result<Parts, AllocError>
-        ensures { IfOk result (λ parts. parts ≡ parts_of self.now) }
+        ensures { IfOk result (λ parts. as_lists parts ≡ parts_of self.now) }
     {
         self.ledger.parts(self.alloc)
     }

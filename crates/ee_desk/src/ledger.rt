@@ -12,17 +12,20 @@ ghost use Rattle.ee_desk_model.specs.declared.changes.Change.TheVariants as chan
 ghost use Rattle.ee_desk_soundness.specs.Parts.{parts_of};
 ghost use Rattle.ee_desk_soundness.specs.Marks.{AreMarked};
 ghost use Rattle.ee_desk.specs.Kept.{books_of, AreCounts, AreKeyed};
+ghost use Rattle.ee_desk.specs.Parts.{as_lists};
 ghost use Rattle.ee_desk_decide.specs.Noted.{rates_in};
 ghost use Rattle.ee_desk_decide.specs.NewRows.{rate_row, bond_row, AreNew};
 ghost use Rattle.ee_desk.specs.Added.{with_changes};
 ghost use Rattle.ee_desk_decide.specs.Applicable.{IsUnpaid, IsNextTicket, AreApplicable};
 
 use crate::additions::{add_bonds, add_rates};
+use crate::marks::mark_all;
+use crate::parts::{Parts, copy_tickets, held_bonds, held_map, rate_rows};
 use crate::queries;
 use ee_calculator::Bond;
 use ee_desk_decide::DayCounts;
 use ee_desk_model::{Batch, Change, Held, Rows, Terms, Ticket, UnitTables};
-use ee_desk_soundness::{Indexes, Parts, copy_tickets, held_bonds, mark_all, rate_rows};
+use ee_desk_soundness::Indexes;
 use ee_units::{Cents, Customer, Day, IssueMonth, Serial};
 use std::alloc::{AllocError, Global};
 use std::collections::BTreeMap;
@@ -245,7 +248,7 @@ impl Ledger {
             bonds: sorted,
             counts,
         } = indexes;
-        let bonds = sorted.to_map(alloc)?;
+        let bonds = held_map(alloc, sorted.held())?;
         let Parts {
             day,
             last_day,
@@ -267,7 +270,7 @@ impl Ledger {
 
     /// A copy of the ledger as lists.
     pub fn parts(&self, alloc: Global) -> Result<Parts, AllocError>
-        ensures { IfOk result (λ parts. parts ≡ parts_of self.now) }
+        ensures { IfOk result (λ parts. as_lists parts ≡ parts_of self.now) }
     {
         let rates = rate_rows(alloc, &self.rates)?;
         let bonds = held_bonds(alloc, &self.bonds)?;

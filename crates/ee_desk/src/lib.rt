@@ -13,9 +13,11 @@ mod additions;
 mod books;
 mod ledger;
 mod list;
+mod marks;
+mod parts;
 mod queries;
 mod seeing;
 
 pub use books::Books;
-pub use ee_desk_soundness::Parts;
 pub use list::ListKeeper;
+pub use parts::Parts;

@@ -1,11 +1,11 @@
 -- Bonds found by their places in a list whose serial numbers rise.
-use Rattle.std.proofs.Common.{◌≡◌, ℕ, zero, suc, ◌+◌, ◌<◌, Bool, true, false, cond, List, [], ◌∷◌, map, length, get_or, set, take, Option, Some, None, Result, Ok, Err, ◌≤◌, ◌⊎◌, inl, inr, arith, refl, sym, ap, ◌∙◌, subst}
+use Rattle.std.proofs.Common.{◌≡◌, ℕ, zero, suc, ◌+◌, ◌<◌, Bool, true, false, cond, List, [], ◌∷◌, map, length, get_or, set, Option, Some, None, Result, Ok, Err, ◌≤◌, ◌⊎◌, inl, inr, arith, refl, sym, ap, ◌∙◌, subst}
 use Rattle.std.specs.Prelude.{IfOk, IfErr}
 use Rattle.std.specs.Option.{option_map}
 use Rattle.std.specs.List.{AllByRecursion, HoldsAt}
 use Rattle.std.specs.List.Sorted.{IsBinarySearchResult, IsNonDecreasingBy, IsSearchInRange}
 use Rattle.std.specs.Ordering.{is_eq, is_lt, ordering_index, ordering_reverse}
-use Rattle.std.specs.BTreeMap.{is_at, insert_entry}
+use Rattle.std.specs.BTreeMap.{is_at}
 use Rattle.std.specs.declared.cmp.Ordering.TheVariants.{Less, Greater}
 use Rattle.std.proofs.lemmas.Bool.{cases_lt}
 use Rattle.std.proofs.lemmas.List.{get_or-map, length-map}
@@ -18,7 +18,6 @@ use Rattle.ee_desk_model.proofs.Lemmas.Maps.{serials_total, serials_exact, seria
 use Rattle.ee_desk_soundness.specs.Checks.{InOrder, IsBefore, HaveRisingSerials, RiseBySerial}
 use Rattle.ee_desk_soundness.specs.Marks.{bond_of, bonds_listed, by_serial, held_at, marked, unpaid}
 use Rattle.ee_desk_soundness.proofs.PaidMarks.{unmarked}
-use Rattle.ee_desk_soundness.proofs.Entries.{entries_more}
 
 abbrev Rises : List Held → Type 0
 Rises bonds = RiseBySerial (by_serial bonds)
@@ -132,24 +131,6 @@ module _ (bonds : List Held) (es : List (SerialNumber × Held)) (is : by_serial 
 
   pub marked_by : (n : ℕ) (q : SerialNumber) → held_at (by_serial (set bonds i (marked true n (get_or bonds i d)))) q ≡ option_map (marked (same_serial q s) n) (held_at es q)
   marked_by n q = marked_at bonds i d n r in_range q ∙ (λ j. option_map (marked (same_serial q (same j)) n) (held_at (is j) q))
-
--- ---- bonds that no ticket pays
-pub unpaid_rise : (bonds : List Bond) → HaveRisingSerials bonds → RiseBySerial (map unpaid bonds)
-unpaid_rise bonds h = subst (InOrder IsBefore) (sym (keys bonds)) h
-  where
-    keys : (bonds : List Bond) → map (λ (e : SerialNumber × Held). e.0) (map unpaid bonds) ≡ map (λ (b : Bond). b.serial) bonds
-    keys [] = refl
-    keys (b ∷ bonds) = ap (λ ks. b.serial ∷ ks) (keys bonds)
-
-keys_by_serial : (bonds : List Held) → map (λ (e : SerialNumber × Held). e.0) (by_serial bonds) ≡ map (λ (h : Held). h.bond.serial) bonds
-keys_by_serial [] = refl
-keys_by_serial (x ∷ bonds) = ap (λ ks. x.bond.serial ∷ ks) (keys_by_serial bonds)
-
--- the next bond of a rising list goes to the end of a map
-pub held_more : (bonds : List Held) (i : ℕ) (held : Held) (es : List (SerialNumber × Held)) → Rises bonds → i < length bonds → held ≡ get_or bonds i held
-    → es ≡ by_serial (take i bonds) → insert_entry serial_cmp es held.bond.serial held ≡ by_serial (take (i + 1) bonds)
-held_more bonds i held es r h is e =
-    entries_more serial_cmp serials_total (λ (h : Held). h.bond.serial) (λ (h : Held). h) bonds i held es (subst (InOrder IsBefore) (keys_by_serial bonds) r) h is e
 
 pub listed_unpaid : (bonds : List Bond) → bonds_listed (map unpaid bonds) ≡ bonds
 listed_unpaid [] = refl

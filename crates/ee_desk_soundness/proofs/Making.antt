@@ -7,9 +7,8 @@ use Rattle.ee_value.specs.declared.rates.Rates.{Rates}
 use Rattle.ee_desk_model.specs.declared.changes.Held.{Held}
 use Rattle.ee_desk_model.specs.PlainBooks.{batch_so_far}
 use Rattle.ee_desk_model.specs.Sound.{IsDay}
-use Rattle.ee_desk_soundness.specs.declared.parts.Parts.{Parts}
 use Rattle.ee_desk_soundness.specs.declared.checks.Indexes.{Indexes}
-use Rattle.ee_desk_soundness.specs.Parts.{AreUnsound}
+use Rattle.ee_desk_soundness.specs.Parts.{Parts, AreUnsound}
 use Rattle.ee_desk_soundness.specs.Checks.{entry_of_row, rates_in, IsRegister, CanBePaid, AreClosed}
 use Rattle.ee_desk_soundness.specs.Marks.{bonds_held, unpaid, AreMarked}
 use Rattle.ee_desk_soundness.specs.Days.{days_of, counts_in, IsSmall}

@@ -28,8 +28,7 @@ use Rattle.ee_desk_model.specs.Sound.{IsSound, IsDay, IsRightRate, IsRightBond, 
 use Rattle.ee_desk_model.proofs.Lemmas.Maps.{serials_total, serials_exact, get_lookup, all_weaker, all_append}
 use Rattle.ee_desk_model.proofs.Lemmas.Books.{value_le, sound_keyed}
 use Rattle.ee_desk_decide.specs.declared.views.DayCounts.{DayCounts}
-use Rattle.ee_desk_soundness.specs.declared.parts.Parts.{Parts}
-use Rattle.ee_desk_soundness.specs.Parts.{parts_of, row_of_entry, AreUnsound}
+use Rattle.ee_desk_soundness.specs.Parts.{Parts, parts_of, row_of_entry, AreUnsound}
 use Rattle.ee_desk_soundness.specs.Checks.{InOrder, IsBefore, HaveRisingMonths, HaveRisingSerials, IsRightRow, IsRightOwn, entry_of_row, entry_of_bond, rates_in, bonds_in, books_of, AreSound, IsRegister, CanBePaid, AreClosed}
 use Rattle.ee_desk_soundness.specs.Marks.{bonds_held, held_at, unpaid, IsFree, AreMarked}
 use Rattle.ee_desk_soundness.specs.Days.{days_of, counts_at, counts_on, counts_in, no_counts, AreCounted, IsCounted, IsSmall}

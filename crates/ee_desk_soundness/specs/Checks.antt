@@ -22,7 +22,7 @@ use Rattle.ee_desk_model.specs.Paid.{paid_lines}
 use Rattle.ee_desk_model.specs.Sound.{IsSound, IsRightRate, IsRightBond, IsRightTicket, NumberedFrom, day_of, last_of}
 use Rattle.ee_desk_soundness.specs.Marks.{bonds_held, ArePayable}
 use Rattle.ee_desk_soundness.specs.Days.{days_of, FitDays}
-use Rattle.ee_desk_soundness.specs.declared.parts.Parts.{Parts}
+use Rattle.ee_desk_soundness.specs.Parts.{Parts}
 
 abbrev pub entry_of_row : RateRow → ℕ × Rates
 entry_of_row row = (row.from, row.rates)

@@ -1,7 +1,7 @@
 -- What is made of parts while they are checked.
 use Rattle.std.specs.Prelude.{◌≡◌, map}
 use Rattle.ee_desk_model.specs.PlainBooks.{batch_so_far}
-use Rattle.ee_desk_soundness.specs.declared.parts.Parts.{Parts}
+use Rattle.ee_desk_soundness.specs.Parts.{Parts}
 use Rattle.ee_desk_soundness.specs.declared.checks.Indexes.{Indexes}
 use Rattle.ee_desk_soundness.specs.Checks.{entry_of_row, bonds_in, AreSound}
 use Rattle.ee_desk_soundness.specs.Marks.{bonds_held, AreMarked}

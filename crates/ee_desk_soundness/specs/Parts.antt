@@ -1,11 +1,22 @@
 -- Books as lists (this project's rule).
-use Rattle.std.specs.Prelude.{◌≡◌, ℕ, map}
+use Rattle.std.specs.Prelude.{◌≡◌, ℕ, List, Option, map}
 use Rattle.std.specs.FinMap as finite
 use Rattle.ee_value.specs.declared.rates.Rates.{Rates}
 use Rattle.ee_value.specs.declared.rates.RateRow.{RateRow}
+use Rattle.ee_calculator.specs.declared.bonds.Bond.{Bond}
+use Rattle.ee_desk_model.specs.declared.replies.Batch.{Batch}
+use Rattle.ee_desk_model.specs.declared.replies.Ticket.{Ticket}
 use Rattle.ee_desk_model.specs.PlainBooks.{PlainBooks}
 use Rattle.ee_desk_model.specs.Sound.{IsSound}
-use Rattle.ee_desk_soundness.specs.declared.parts.Parts.{Parts}
+
+-- rates sorted by month and bonds sorted by serial number, each key once; tickets by number, batches by day
+pub record Parts : Type 0 where
+  pub rates : List RateRow
+  pub bonds : List Bond
+  pub day : Option ℕ  -- the open day
+  pub last_day : Option ℕ  -- the last closed day
+  pub tickets : List Ticket
+  pub batches : List Batch
 
 abbrev pub row_of_entry : ℕ × Rates → RateRow
 row_of_entry entry = record { from = entry.0; rates = entry.1 }

@@ -11,13 +11,12 @@ ghost use Rattle.ee_desk_soundness.specs.Marks.{bonds_held, bonds_listed, unpaid
 ghost use Rattle.ee_desk_soundness.specs.Days.{counts_in, days_of, AreCounted, FitDays, IsSmall};
 
 use crate::days::{are_counted, counts_of, days_rise, in_range, last_day, open_counts};
+use crate::faults::PartsFault;
 use crate::lines::{are_numbered, are_right_tickets};
 use crate::marks::mark_paid;
-use crate::order::{days_never_fall, months_rise, serials_rise};
-use crate::parts::{Parts, PartsFault};
+use crate::order::{days_never_fall, months_rise};
 use crate::register::{are_right_bonds, terms_by_month};
 use crate::sorted::SortedBonds;
-use ee_calculator::Bond;
 use ee_desk_decide::DayCounts;
 use ee_desk_model::{Batch, RateRow, Terms, Ticket, UnitTables};
 use ee_units::{Day, IssueMonth};
@@ -172,41 +171,4 @@ pub fn checked_bonds(
         bonds: held,
         counts,
     })
-}
-
-/// The same, for bonds in a list.
-fn checked_lists(
-    alloc: Global,
-    rates: &[RateRow],
-    bonds: &[Bond],
-    day: Option<Day>,
-    last: Option<Day>,
-    tickets: &[Ticket],
-    batches: &[Batch],
-) -> Result<Indexes, PartsFault>
-    ensures ok { IfOk result (IsMadeOf (parts_in rates.now bonds.now day last tickets.now batches.now)) }
-    ensures unsound { IfErr result (λ fault. fault ≡ PartsFault.Unsound → AreUnsound (parts_in rates.now bonds.now day last tickets.now batches.now)) }
-{
-    if !serials_rise(bonds) {
-        return Err(PartsFault::Unsound);
-    }
-    let held = SortedBonds::all_unpaid(alloc, bonds)?;
-    checked_bonds(alloc, rates, held, day, last, tickets, batches)
-}
-
-/// What is made of these parts while they are checked. Fails if no sound books have these parts, or if memory
-/// is refused.
-pub fn checked(alloc: Global, parts: &Parts) -> Result<Indexes, PartsFault>
-    ensures ok { IfOk result (IsMadeOf parts.now) }
-    ensures unsound { IfErr result (λ fault. fault ≡ PartsFault.Unsound → AreUnsound parts.now) }
-{
-    checked_lists(
-        alloc,
-        parts.rates.as_slice(),
-        parts.bonds.as_slice(),
-        parts.day,
-        parts.last_day,
-        parts.tickets.as_slice(),
-        parts.batches.as_slice(),
-    )
 }

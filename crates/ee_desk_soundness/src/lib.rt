@@ -8,18 +8,15 @@
 
 mod checks;
 mod days;
+mod faults;
 mod laws;
 mod lines;
-mod lists;
 mod marks;
 mod order;
-mod parts;
 mod register;
 mod sorted;
 
-pub use checks::{Indexes, checked, checked_bonds};
+pub use checks::{Indexes, checked_bonds};
+pub use faults::PartsFault;
 pub use laws::parts_law;
-pub use lists::{copy_tickets, held_bonds, rate_rows};
-pub use marks::mark_all;
-pub use parts::{Parts, PartsFault};
 pub use sorted::SortedBonds;

@@ -10,29 +10,7 @@ ghost use Rattle.ee_desk_model.specs.Paid.{paid_lines};
 ghost use Rattle.ee_desk_soundness.specs.Marks.{bonds_held, held_at, marked, ArePayable, AreMarked};
 
 use crate::sorted::SortedBonds;
-use ee_desk_model::{Held, Line, Ticket};
-use ee_units::Serial;
-use std::collections::BTreeMap;
-
-/// Marks a bond with the ticket that pays it.
-fn mark(bonds: &mut BTreeMap<Serial, Held>, serial: Serial, ticket: u64)
-    ensures { (q : SerialNumber) → held_at bonds.new.entries q ≡ option_map (marked (same_serial q serial) ticket) (held_at bonds.old.entries q) }
-{
-    if let Some(held) = bonds.get_mut(&serial) {
-        held.ticket = Some(ticket);
-    }
-}
-
-/// Marks the bonds of these lines.
-pub fn mark_all(bonds: &mut BTreeMap<Serial, Held>, lines: &[Line], ticket: u64)
-    ensures marked { (q : SerialNumber)
-        → held_at bonds.new.entries q ≡ option_map (marked (list_any (λ line. same_serial q line.serial) lines.now) ticket) (held_at bonds.old.entries q) }
-    ensures bonds { bonds_held bonds.new.entries ≡ bonds_held bonds.old.entries }
-{
-    for line in lines {
-        mark(bonds, line.serial, ticket);
-    }
-}
+use ee_desk_model::{Line, Ticket};
 
 /// Marks the bonds of a ticket's lines; stops at a bond that isn't registered and unpaid.
 fn mark_free(bonds: &mut SortedBonds, lines: &[Line], ticket: u64) -> bool

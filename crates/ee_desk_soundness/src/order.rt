@@ -2,26 +2,16 @@
 
 ghost use Rattle.std.specs.Prelude.{◌≡◌, ◌↔◌, ◌<◌, ◌≤◌, true, map};
 ghost use Rattle.ee_desk_model.specs.Sound.{day_of};
-ghost use Rattle.ee_desk_soundness.specs.Checks.{InOrder, IsAfter, IsBefore, HaveRisingMonths, HaveRisingSerials};
+ghost use Rattle.ee_desk_soundness.specs.Checks.{InOrder, IsAfter, HaveRisingMonths};
 
-use ee_calculator::Bond;
 use ee_desk_model::{RateRow, Ticket};
-use ee_units::{Day, IssueMonth, Serial};
+use ee_units::{Day, IssueMonth};
 
 fn is_later_month(last: Option<IssueMonth>, month: IssueMonth) -> bool
     ensures { (result ≡ true) ↔ IsAfter ◌<◌ last month }
 {
     match last {
         Some(last) => last < month,
-        None => true,
-    }
-}
-
-fn is_later_serial(last: Option<Serial>, serial: Serial) -> bool
-    ensures { (result ≡ true) ↔ IsAfter IsBefore last serial }
-{
-    match last {
-        Some(last) => last < serial,
         None => true,
     }
 }
@@ -45,20 +35,6 @@ pub fn months_rise(rows: &[RateRow]) -> bool
             return false;
         }
         last = Some(row.from);
-    }
-    true
-}
-
-/// Whether each serial number is before those after it in the list.
-pub fn serials_rise(bonds: &[Bond]) -> bool
-    ensures { (result ≡ true) ↔ HaveRisingSerials bonds.now }
-{
-    let mut last: Option<Serial> = None;
-    for bond in bonds {
-        if !is_later_serial(last, bond.serial) {
-            return false;
-        }
-        last = Some(bond.serial);
     }
     true
 }

@@ -8,7 +8,7 @@ ghost use Rattle.ee_units.specs.Calendar.{period_start};
 ghost use Rattle.ee_desk_soundness.specs.Marks.{bond_of};
 ghost use Rattle.ee_desk_soundness.specs.Checks.{HaveRisingMonths, IsRightRow, IsRightOwn, entry_of_row};
 
-use crate::parts::PartsFault;
+use crate::faults::PartsFault;
 use ee_calculator::Bond;
 use ee_desk_model::{Held, RateRow, Terms, UnitTables};
 use ee_units::IssueMonth;

@@ -8,11 +8,8 @@ ghost use Rattle.ee_desk_model.specs.Serials.{same_serial};
 ghost use Rattle.ee_desk_soundness.specs.Checks.{HaveRisingSerials, RiseBySerial};
 ghost use Rattle.ee_desk_soundness.specs.Marks.{bond_of, bonds_listed, by_serial, held_at, marked, unpaid, IsFree};
 
-use ee_calculator::Bond;
 use ee_desk_model::Held;
 use ee_units::Serial;
-use std::alloc::{AllocError, Global};
-use std::collections::BTreeMap;
 use std::marker::Model;
 
 /// Registered bonds in order of serial number, each marked with the ticket that pays it. It takes 40 bytes a
@@ -37,22 +34,6 @@ impl Model for SortedBonds {
 }
 
 impl SortedBonds {
-    /// These bonds, all unpaid. The list is sorted by serial number.
-    pub fn all_unpaid(alloc: Global, bonds: &[Bond]) -> Result<SortedBonds, AllocError>
-        requires { HaveRisingSerials bonds.now }
-        ensures { IfOk result (λ held. held ≡ map unpaid bonds.now) }
-    {
-        let mut all = Vec::with_capacity(alloc, bonds.len())?;
-        for bond in bonds {
-            let one = Held {
-                bond: *bond,
-                ticket: None,
-            };
-            all.push(one)?;
-        }
-        Ok(SortedBonds { all })
-    }
-
     /// The bonds of a list in order of serial number, all unpaid. Takes no memory.
     pub fn unmarked(held: Vec<Held>) -> SortedBonds
         requires { RiseBySerial (by_serial held.items) }
@@ -67,8 +48,9 @@ impl SortedBonds {
 
     /// The bonds in order of serial number, each with the ticket that pays it.
     pub fn held(&self) -> &[Held]
+        ensures entries { by_serial result.now ≡ self.now }
         ensures bonds { map bond_of result.now ≡ bonds_listed self.now }
-        ensures rises { HaveRisingSerials (bonds_listed self.now) }
+        ensures rises { RiseBySerial self.now × HaveRisingSerials (bonds_listed self.now) }
     {
         self.all.as_slice()
     }
@@ -109,16 +91,5 @@ impl SortedBonds {
         if let Ok(place) = self.place_of(serial) {
             self.all[place].ticket = Some(ticket);
         }
-    }
-
-    /// The same bonds as a map.
-    pub fn to_map(&self, alloc: Global) -> Result<BTreeMap<Serial, Held>, AllocError>
-        ensures { IfOk result (λ map. map.entries ≡ self.now) }
-    {
-        let mut map = BTreeMap::new(alloc);
-        for held in &self.all {
-            map.insert(held.bond.serial, *held)?;
-        }
-        Ok(map)
     }
 }

@@ -8,8 +8,7 @@ use Rattle.ee_desk_model.specs.PlainBooks.{PlainBooks}
 use Rattle.ee_desk_model.specs.Sound.{IsSound}
 use Rattle.ee_desk_model.specs.Repeats.{Content}
 use Rattle.ee_desk_model.specs.UnitTables.{tables_in}
-use Rattle.ee_desk_soundness.specs.declared.parts.Parts.{Parts}
-use Rattle.ee_desk_soundness.specs.Parts.{parts_of, AreUnsound}
+use Rattle.ee_desk_soundness.specs.Parts.{Parts, parts_of, AreUnsound}
 use Rattle.ee_desk_soundness.specs.Checks.{books_of, entry_of_row, AreSound}
 use Rattle.ee_desk_soundness.proofs.Lemmas.{parts_of-books_of}
 use Rattle.ee_store_tables.specs.Rows.{Rows}

@@ -10,8 +10,7 @@ use Rattle.std.proofs.lemmas.Map.Views.{tells_apart}
 use Rattle.ee_value.specs.declared.rates.Rates.{Rates}
 use Rattle.ee_desk_model.specs.PlainBooks.{PlainBooks}
 use Rattle.ee_desk_model.specs.UnitTables.{rates_cmp, tables_in}
-use Rattle.ee_desk_soundness.specs.declared.parts.Parts.{Parts}
-use Rattle.ee_desk_soundness.specs.Parts.{parts_of, row_of_entry}
+use Rattle.ee_desk_soundness.specs.Parts.{Parts, parts_of, row_of_entry}
 use Rattle.ee_desk_soundness.specs.Checks.{entry_of_row}
 use Rattle.ee_store_contents.specs.Contents.{tables_for}
 use Rattle.ee_store_contents.proofs.RowsOfBooks.{fuse, undone}

@@ -34,8 +34,7 @@ use Rattle.ee_desk_decide.proofs.Lemmas.{all_entries}
 use Rattle.ee_desk_soundness.specs.Checks.{RiseBySerial}
 use Rattle.ee_desk_soundness.specs.Marks.{by_serial}
 use Rattle.ee_desk_soundness.proofs.Lemmas.{get_all, map_of_entries, rising_of_sorted}
-use Rattle.ee_desk_soundness.specs.declared.parts.Parts.{Parts}
-use Rattle.ee_desk_soundness.specs.Parts.{parts_of, row_of_entry}
+use Rattle.ee_desk_soundness.specs.Parts.{Parts, parts_of, row_of_entry}
 use Rattle.ee_desk_texts.specs.Ranges.{RateRowFits, BondFits, BatchFits}
 use Rattle.ee_store_tables.specs.Keyed.{pair_cmp}
 use Rattle.ee_store_tables.specs.Rows.{Rows, DeskRow, BondRow, TicketRow, PaidRow, BatchRow, ReplyRow}

@@ -15,7 +15,7 @@ use Rattle.ee_desk_model.specs.declared.replies.Batch.{Batch}
 use Rattle.ee_desk_model.specs.Seen.{held_as}
 use Rattle.ee_desk_model.specs.Sound.{IsDay}
 use Rattle.ee_desk_model.specs.UnitTables.{rates_cmp}
-use Rattle.ee_desk_soundness.specs.declared.parts.Parts.{Parts}
+use Rattle.ee_desk_soundness.specs.Parts.{Parts}
 use Rattle.ee_desk_soundness.specs.Marks.{bonds_listed}
 use Rattle.ee_store_contents.specs.declared.parts.ReadParts.{ReadParts}
 use Rattle.ee_desk_texts.specs.Texts.{act_text, reply_text}

@@ -4,10 +4,9 @@ use super::books::written;
 use crate::comparing::assert_same;
 use ee_calculator::{Sheet, write_sheet};
 use ee_counter::answer_message;
-use ee_desk::{Books, ListKeeper, Parts};
+use ee_desk::{Books, ListKeeper};
 use ee_desk_decide::{View, ViewParts, decide};
 use ee_desk_model::{Act, UnitTables};
-use ee_desk_soundness::{checked, copy_tickets};
 use ee_desk_texts::{GivenReply, read_act, reply_text};
 use ee_units::{Cents, Rate};
 use ee_value::Rates;
@@ -208,22 +207,13 @@ fn ticket_text(alloc: Global, books: &Books, number: &str) -> Option<String> {
     String::from_str(alloc, if is_none { "none" } else { "one" }).ok()
 }
 
-/// The result for parts: whether they are sound, how many tickets are copied, or all of them in words.
-fn text_of_parts(alloc: Global, parts: &Parts, call: &str) -> Option<String> {
-    match call {
-        "check" => checked(alloc, parts).is_ok().to_string(alloc).ok(),
-        "copy" => {
-            let copies = copy_tickets(alloc, parts.tickets.as_slice()).ok()?;
-            copies.len().to_string(alloc).ok()
-        }
-        _ => written(alloc, parts),
-    }
-}
-
-/// The result for the parts of the books.
+/// The result for the parts of the books: how many tickets they have, or all of them in words.
 fn parts_text(alloc: Global, books: &Books, call: &str) -> Option<String> {
     let parts = books.parts().ok()?;
-    text_of_parts(alloc, &parts, call)
+    match call {
+        "copy" => parts.tickets.as_slice().len().to_string(alloc).ok(),
+        _ => written(alloc, &parts),
+    }
 }
 
 /// The books of the books' parts.
@@ -275,7 +265,8 @@ fn result_of(
         "inventory" => inventory_text(alloc, books, rest),
         "bonds" => bonds_text(alloc, books, rest),
         "ticket" => ticket_text(alloc, books, rest),
-        "parts" | "check" | "copy" => parts_text(alloc, books, word),
+        "parts" | "copy" => parts_text(alloc, books, word),
+        "check" => books_again(alloc, books).is_some().to_string(alloc).ok(),
         "again" => parts_text(alloc, &books_again(alloc, books)?, "parts"),
         "redo" => act_text(alloc, &mut books_again(alloc, books)?, "do", rest),
         "post" => post_text(alloc, keeper, rest),

@@ -1,7 +1,7 @@
 use Rattle.std.proofs.Common.{◌≡◌, true, refl, rules}
 use Rattle.std.specs.Result.{IfErr}
 use Rattle.std.proofs.lemmas.Result.{IfErr-weaker}
-use Rattle.ee_desk_soundness.specs.declared.parts.PartsFault.TheVariants.{Unsound}
+use Rattle.ee_desk_soundness.specs.declared.faults.PartsFault.TheVariants.{Unsound}
 use Rattle.ee_desk_soundness.specs.Marks.{bonds_listed}
 use Rattle.ee_desk_soundness.specs.Checks.{parts_in, IsRegister, AreClosed}
 use Rattle.ee_desk_soundness.proofs.Making.{unmarked, small, made_is, not_paid, not_register, not_closed}

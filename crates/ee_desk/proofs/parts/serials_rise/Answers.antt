@@ -1,8 +1,8 @@
 use Rattle.std.proofs.Common.{◌≡◌, true, map, refl, rules}
 use Rattle.ee_calculator.specs.declared.bonds.Bond.{Bond}
 use Rattle.ee_desk_soundness.specs.Checks.{IsBefore, HaveRisingSerials}
-use Rattle.ee_desk_soundness.proofs.InOrder.{before_on, ordered_on}
-use Rattle.ee_desk_soundness.proofs.order.serials_rise.Goals as goal
+use Rattle.ee_desk_soundness.proofs.Lemmas.{before_on, ordered_on}
+use Rattle.ee_desk.proofs.parts.serials_rise.Goals as goal
 
 pub loop-bond-preserved : goal.loop-bond-preserved
 loop-bond-preserved c =

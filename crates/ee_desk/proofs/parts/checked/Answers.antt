@@ -1,11 +1,10 @@
 use Rattle.std.proofs.Common.{◌≡◌, subst}
 use Rattle.std.specs.Result.{IfOk, IfErr}
-use Rattle.ee_desk_soundness.specs.declared.parts.Parts.{Parts}
-use Rattle.ee_desk_soundness.specs.declared.parts.PartsFault.TheVariants.{Unsound}
-use Rattle.ee_desk_soundness.specs.Parts.{AreUnsound}
+use Rattle.ee_desk_soundness.specs.declared.faults.PartsFault.TheVariants.{Unsound}
+use Rattle.ee_desk_soundness.specs.Parts.{Parts, AreUnsound}
 use Rattle.ee_desk_soundness.specs.Checks.{parts_in}
 use Rattle.ee_desk_soundness.specs.Made.{IsMadeOf}
-use Rattle.ee_desk_soundness.proofs.checks.checked.Goals as goal
+use Rattle.ee_desk.proofs.parts.checked.Goals as goal
 
 pub returns-clause-ok : goal.returns-clause-ok
 returns-clause-ok c =

@@ -1,25 +1,8 @@
-//! The parts of books, as lists.
+//! Why parts give no books.
 
-use ee_calculator::Bond;
-use ee_desk_model::{Batch, RateRow, Rows, Ticket};
-use ee_units::Day;
 use ee_value::ValueFault;
 use std::alloc::{AllocError, AllocFailed};
 use thiserror::Error;
-
-/// Books as lists: rates sorted by month and bonds sorted by serial number, each key once; tickets by
-/// number, batches by day.
-#[derive(Drop)]
-pub struct Parts {
-    pub rates: Rows<RateRow>,
-    pub bonds: Rows<Bond>,
-    /// The open day.
-    pub day: Option<Day>,
-    /// The last closed day.
-    pub last_day: Option<Day>,
-    pub tickets: Rows<Ticket>,
-    pub batches: Rows<Batch>,
-}
 
 /// Why parts give no books.
 #[derive(Clone, Copy, Debug, PartialEq, Eq, Error)]
@@ -34,7 +17,7 @@ pub enum PartsFault {
 
 impl From<AllocError> for PartsFault {
     ghost use Rattle.std.specs.Prelude.{◌≡◌};
-    ghost use Rattle.ee_desk_soundness.specs.declared.parts.PartsFault.TheVariants.{NoMemory};
+    ghost use Rattle.ee_desk_soundness.specs.declared.faults.PartsFault.TheVariants.{NoMemory};
 
     ghost from_gives = { λ _ e. e ≡ NoMemory };
 
@@ -45,7 +28,7 @@ impl From<AllocError> for PartsFault {
 
 impl<T: Drop> From<AllocFailed<T>> for PartsFault {
     ghost use Rattle.std.specs.Prelude.{◌≡◌};
-    ghost use Rattle.ee_desk_soundness.specs.declared.parts.PartsFault.TheVariants.{NoMemory};
+    ghost use Rattle.ee_desk_soundness.specs.declared.faults.PartsFault.TheVariants.{NoMemory};
 
     ghost from_gives = { λ _ e. e ≡ NoMemory };
 
