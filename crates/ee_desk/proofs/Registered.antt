@@ -15,8 +15,8 @@ use Rattle.ee_desk_model.specs.Serials.{serial_cmp}
 use Rattle.ee_desk_model.specs.PlainBooks.{PlainBooks, ticket_of}
 use Rattle.ee_desk_model.proofs.Lemmas.Maps.{serials_total, serials_exact, get_lookup}
 use Rattle.std.proofs.lemmas.Map.Views.{tells_apart}
-use Rattle.ee_desk_soundness.proofs.Lemmas.{get_held_bond}
-use Rattle.ee_desk_soundness.specs.Marks.{bonds_held, held_at, AreMarked}
+use Rattle.ee_desk.proofs.PaidMarks.{get_held_bond}
+use Rattle.ee_desk.specs.Marks.{bonds_held, held_at, AreMarked}
 use Rattle.ee_desk_decide.specs.Noted.{held_in}
 use Rattle.ee_desk.specs.Added.{held_row, with_changes}
 use Rattle.ee_desk_decide.specs.NewRows.{bond_row, with_row, AreNew}

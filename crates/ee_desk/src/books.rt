@@ -15,7 +15,7 @@ ghost use Rattle.ee_desk_soundness.specs.Parts.{parts_of, AreUnsound};
 ghost use Rattle.ee_desk.specs.Parts.{as_lists};
 
 use crate::ledger::Ledger;
-use crate::parts::{Parts, checked};
+use crate::parts::{Checked, Parts, checked_parts};
 use crate::seeing;
 use ee_calculator::{Bond, Row, Sheet, sheet};
 use ee_desk_decide::{View, decide, quote, rows_of};
@@ -67,8 +67,9 @@ impl Books {
         ensures ok { IfOk result (λ books. parts_of books ≡ as_lists parts) }
         ensures unsound { IfErr result (λ fault. fault ≡ PartsFault.Unsound → AreUnsound (as_lists parts)) }
     {
-        let indexes = checked(alloc, &parts)?;
-        let ledger = Ledger::of_parts(alloc, parts, indexes)?;
+        let own = checked_parts(alloc, &parts)?;
+        let Checked { rows, indexes } = own;
+        let ledger = Ledger::of_parts(alloc, parts, rows.as_slice(), indexes)?;
         Ok(Books { alloc, ledger })
     }
 

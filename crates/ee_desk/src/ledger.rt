@@ -1,6 +1,6 @@
 //! The records of a desk, in memory.
 
-ghost use Rattle.std.specs.Prelude.{◌≡◌, IfOk, OnOk, OnErr, [], Some};
+ghost use Rattle.std.specs.Prelude.{◌≡◌, IfOk, OnOk, OnErr, [], Some, map};
 ghost use Rattle.std.specs.List.{AllByRecursion};
 ghost use Rattle.std.specs.Option.{option_copied};
 ghost use Rattle.std.specs.FinMap as finite;
@@ -10,7 +10,9 @@ ghost use Rattle.ee_desk_model.specs.Seen.{held_of, open_batch};
 ghost use Rattle.ee_desk_model.specs.Queries.{ticket_numbered, batch_on, bonds_of};
 ghost use Rattle.ee_desk_model.specs.declared.changes.Change.TheVariants as change;
 ghost use Rattle.ee_desk_soundness.specs.Parts.{parts_of};
-ghost use Rattle.ee_desk_soundness.specs.Marks.{AreMarked};
+ghost use Rattle.ee_desk_soundness.specs.Checks.{HaveRisingSerials};
+ghost use Rattle.ee_desk_soundness.specs.Marks.{bond_of};
+ghost use Rattle.ee_desk.specs.Marks.{by_serial, AreMarked};
 ghost use Rattle.ee_desk.specs.Kept.{books_of, AreCounts, AreKeyed};
 ghost use Rattle.ee_desk.specs.Parts.{as_lists};
 ghost use Rattle.ee_desk_decide.specs.Noted.{rates_in};
@@ -49,7 +51,7 @@ impl Model for Ledger {
     ghost use Rattle.std.specs.Coded.{codes};
     ghost use Rattle.std.specs.FinMap as finite;
     ghost use Rattle.ee_desk_model.specs.PlainBooks.{PlainBooks, batch_so_far};
-    ghost use Rattle.ee_desk_soundness.specs.Marks.{AreMarked};
+    ghost use Rattle.ee_desk.specs.Marks.{AreMarked};
     ghost use Rattle.ee_desk.specs.Kept.{books_of, AreCounts};
 
     ghost Value = { PlainBooks };
@@ -236,19 +238,24 @@ impl Ledger {
 }
 
 impl Ledger {
-    /// The ledger with these parts and their indexes. Fails only if memory is refused.
-    pub fn of_parts(alloc: Global, parts: Parts, indexes: Indexes) -> Result<Ledger, AllocError>
-        requires marked { AreMarked indexes.bonds parts.tickets }
+    /// The ledger with these parts, their bonds as rows, and their indexes. Fails only if memory is refused.
+    pub fn of_parts(
+        alloc: Global,
+        parts: Parts,
+        rows: &[Held],
+        indexes: Indexes,
+    ) -> Result<Ledger, AllocError>
+        requires rising { HaveRisingSerials (map bond_of rows.now) }
+        requires marked { AreMarked (by_serial rows.now) parts.tickets }
         requires counted { AreCounts (batch_so_far parts.day parts.tickets) indexes.counts }
-        ensures { IfOk result (λ ledger. ledger ≡ books_of indexes.terms.entries indexes.bonds parts.day parts.last_day parts.tickets parts.batches) }
+        ensures { IfOk result (λ ledger. ledger ≡ books_of indexes.terms.entries (by_serial rows.now) parts.day parts.last_day parts.tickets parts.batches) }
     {
         let Indexes {
             tables,
             terms,
-            bonds: sorted,
             counts,
         } = indexes;
-        let bonds = held_map(alloc, sorted.held())?;
+        let bonds = held_map(alloc, rows)?;
         let Parts {
             day,
             last_day,

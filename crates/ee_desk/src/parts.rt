@@ -7,15 +7,16 @@ ghost use Rattle.std.specs.BTreeMap as tree;
 ghost use Rattle.std.specs.Ordering.{nat_cmp};
 ghost use Rattle.ee_desk_model.specs.PlainBooks.{ticket_of};
 ghost use Rattle.ee_desk_model.specs.Serials.{same_serial, serial_cmp};
-ghost use Rattle.ee_desk_soundness.specs.Checks.{parts_in, HaveRisingSerials, IsAfter, IsBefore, RiseBySerial};
+ghost use Rattle.ee_desk_soundness.specs.Checks.{parts_in, HaveRisingSerials, IsAfter, IsBefore};
 ghost use Rattle.ee_desk_soundness.specs.Made.{IsMadeOf};
-ghost use Rattle.ee_desk_soundness.specs.Marks.{by_serial};
+ghost use Rattle.ee_desk_soundness.specs.Marks.{bond_of};
 ghost use Rattle.ee_desk_soundness.specs.Parts.{row_of_entry, AreUnsound};
+ghost use Rattle.ee_desk.specs.Marks.{by_serial};
 ghost use Rattle.ee_desk.specs.Parts.{as_lists, held_bond};
 
 use ee_calculator::Bond;
 use ee_desk_model::{Batch, Held, Line, RateRow, Rows, Terms, Ticket};
-use ee_desk_soundness::{Indexes, PartsFault, SortedBonds, checked_bonds};
+use ee_desk_soundness::{Indexes, PartsFault, checked};
 use ee_units::{Day, IssueMonth, Serial};
 use std::alloc::{AllocError, Global};
 use std::collections::BTreeMap;
@@ -137,9 +138,9 @@ fn held_rows(alloc: Global, bonds: &[Bond], tickets: &[Ticket]) -> Result<Vec<He
     Ok(rows)
 }
 
-/// The bonds of a list by serial number.
+/// The bonds of rows by serial number.
 pub fn held_map(alloc: Global, rows: &[Held]) -> Result<BTreeMap<Serial, Held>, AllocError>
-    requires { RiseBySerial (by_serial rows.now) }
+    requires { HaveRisingSerials (map bond_of rows.now) }
     ensures { IfOk result (λ map. map.entries ≡ by_serial rows.now) }
 {
     let mut map = BTreeMap::new(alloc);
@@ -147,6 +148,13 @@ pub fn held_map(alloc: Global, rows: &[Held]) -> Result<BTreeMap<Serial, Held>, 
         map.insert(held.bond.serial, *held)?;
     }
     Ok(map)
+}
+
+/// What is made of parts while they are checked: their bonds as rows, and their indexes.
+#[derive(Drop)]
+pub struct Checked {
+    pub rows: Vec<Held>,
+    pub indexes: Indexes,
 }
 
 /// What is made of parts in these lists while they are checked.
@@ -158,22 +166,26 @@ fn checked_lists(
     last: Option<Day>,
     tickets: &[Ticket],
     batches: &[Batch],
-) -> Result<Indexes, PartsFault>
-    ensures ok { IfOk result (IsMadeOf (parts_in rates.now bonds.now day last tickets.now batches.now)) }
+) -> Result<Checked, PartsFault>
+    ensures rows { IfOk result (λ own. own.rows.items ≡ map (held_bond tickets.now) bonds.now) }
+    ensures ok { IfOk result (λ own. IsMadeOf (parts_in rates.now bonds.now day last tickets.now batches.now) own.indexes) }
     ensures unsound { IfErr result (λ fault. fault ≡ PartsFault.Unsound → AreUnsound (parts_in rates.now bonds.now day last tickets.now batches.now)) }
 {
     if !serials_rise(bonds) {
         return Err(PartsFault::Unsound);
     }
     let rows = held_rows(alloc, bonds, tickets)?;
-    let held = SortedBonds::unmarked(rows);
-    checked_bonds(alloc, rates, held, day, last, tickets, batches)
+    match checked(alloc, rates, rows.as_slice(), day, last, tickets, batches) {
+        Ok(indexes) => Ok(Checked { rows, indexes }),
+        Err(fault) => Err(fault),
+    }
 }
 
 /// What is made of these parts while they are checked. Fails if no sound books have these parts, or if memory
 /// is refused.
-pub fn checked(alloc: Global, parts: &Parts) -> Result<Indexes, PartsFault>
-    ensures ok { IfOk result (IsMadeOf (as_lists parts.now)) }
+pub fn checked_parts(alloc: Global, parts: &Parts) -> Result<Checked, PartsFault>
+    ensures rows { IfOk result (λ own. own.rows.items ≡ map (held_bond parts.now.tickets) parts.now.bonds) }
+    ensures ok { IfOk result (λ own. IsMadeOf (as_lists parts.now) own.indexes) }
     ensures unsound { IfErr result (λ fault. fault ≡ PartsFault.Unsound → AreUnsound (as_lists parts.now)) }
 {
     checked_lists(

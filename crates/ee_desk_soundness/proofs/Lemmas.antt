@@ -1,51 +1,25 @@
 -- Lemmas that the proofs of crates above use.
-use Rattle.std.proofs.Common.{Bool, List, None, Option, Some, [], drop, get_or, length, map, take, ℕ, ◌+◌, ◌++◌, ◌<◌, ◌∷◌, ◌≡◌, ◌↔◌}
+use Rattle.std.proofs.Common.{List, Option, Some, drop, get_or, length, map, take, ℕ, ◌+◌, ◌<◌, ◌∷◌, ◌≡◌, ◌↔◌}
 use Rattle.std.specs.BTreeMap.{insert_entry}
 use Rattle.std.specs.Cmp.{IsTotalOrder}
 use Rattle.std.specs.Prelude.{T}
 use Rattle.std.specs.FinMap.{FinMap}
 use Rattle.std.specs.FinMap.Entries.{is_sorted}
-use Rattle.std.specs.List.{AllByRecursion, list_any}
-use Rattle.std.specs.Option.{IfSome, option_map}
+use Rattle.std.specs.List.{AllByRecursion}
+use Rattle.std.specs.Option.{IfSome}
 use Rattle.std.specs.declared.cmp.Ordering.{Ordering}
 use Rattle.std.specs.declared.cmp.Ordering.TheVariants.{Less}
 use Rattle.std.proofs.lemmas.Map.Lookups.{CmpEqualImpliesEq}
-use Rattle.ee_calculator.specs.declared.bonds.Bond.{Bond}
-use Rattle.ee_desk_model.specs.PlainBooks.{PlainBooks, ticket_of}
-use Rattle.ee_desk_model.specs.Serials.{same_serial}
-use Rattle.ee_desk_model.specs.declared.changes.Held.{Held}
-use Rattle.ee_desk_model.specs.declared.replies.Ticket.{Ticket}
-use Rattle.ee_desk_soundness.specs.Checks.{HaveRisingMonths, HaveRisingSerials, InOrder, IsAfter, IsBefore, bonds_in, books_of, entry_of_row}
-use Rattle.ee_desk_soundness.specs.Marks.{AreMarked, bonds_held, bonds_listed, held_at, marked, unpaid}
+use Rattle.ee_desk_soundness.specs.Checks.{HaveRisingMonths, HaveRisingSerials, InOrder, IsAfter, IsBefore, books_of}
 use Rattle.ee_desk_soundness.specs.Parts.{AreUnsound, Parts, parts_of}
 use Rattle.ee_units.specs.Spelling.{SerialNumber}
-use Rattle.ee_value.specs.declared.rates.Rates.{Rates}
 use Rattle.std.specs.FinMap as finite
-use Rattle.ee_desk_soundness.proofs.BondPlaces
 use Rattle.ee_desk_soundness.proofs.Entries
 use Rattle.ee_desk_soundness.proofs.InOrder
 use Rattle.ee_desk_soundness.proofs.Making
-use Rattle.ee_desk_soundness.proofs.PaidMarks
 use Rattle.ee_desk_soundness.proofs.SortedRows
 use Rattle.ee_desk_soundness.proofs.SoundParts
 pub use Rattle.ee_desk_soundness.proofs.InOrder.{Follows}
-
--- ---- bonds and their tickets
--- the bond of a serial number is that which is held of it
-pub get_held_bond : (es : List (SerialNumber × Held)) (q : SerialNumber) → finite.get (bonds_held es) q ≡ option_map (λ h. h.bond) (held_at es q)
-get_held_bond = PaidMarks.get_bond
-
--- the same bonds, those of some serial numbers marked
-pub same_bonds : (es fs : List (SerialNumber × Held)) (pays : SerialNumber → Bool) (n : ℕ)
-    → ((q : SerialNumber) → held_at fs q ≡ option_map (marked (pays q) n) (held_at es q)) → bonds_held fs ≡ bonds_held es
-same_bonds = PaidMarks.same_bonds
-
--- marks stay right if a ticket of unpaid bonds is appended and marked on them
-pub marked_with_ticket : (bonds new : List (SerialNumber × Held)) (tickets pushed : List Ticket) (t : Ticket)
-    → AreMarked bonds tickets → AllByRecursion (λ line. ticket_of tickets line.serial ≡ None) t.lines → pushed ≡ tickets ++ t ∷ []
-    → ((q : SerialNumber) → held_at new q ≡ option_map (marked (list_any (λ line. same_serial q line.serial) t.lines) t.ticket) (held_at bonds q))
-    → AreMarked new pushed
-marked_with_ticket = PaidMarks.ticket_kept
 
 -- ---- books and their parts
 -- parts whose keys rise are those of the books that they represent
@@ -55,13 +29,6 @@ parts_of-books_of = SoundParts.parts_kept
 -- no sound books have parts whose serial numbers don't rise
 pub not_rising : (parts : Parts) → (HaveRisingSerials parts.bonds → ⊥) → AreUnsound parts
 not_rising parts never = Making.not_register parts (λ register. never register.serials)
-
--- what is made of parts in memory represents their books
-pub books_of-made : (parts : Parts) (terms : List (ℕ × Rates)) (held : List (SerialNumber × Held)) → terms ≡ map entry_of_row parts.rates
-    → bonds_held held ≡ bonds_in parts.bonds
-    → ◌≡◌ {A = PlainBooks}
-    (record { rates = finite.from_entries terms; bonds = bonds_held held; day = parts.day; last_day = parts.last_day; tickets = parts.tickets; batches = parts.batches }) (books_of parts)
-books_of-made = SoundParts.books_made
 
 -- ---- finite maps
 -- what each entry has, each value has that is found
@@ -100,7 +67,3 @@ pub entries_more : {X K V : Type 0} (R : K → K → Ordering) (o : IsTotalOrder
     → InOrder (λ a b. R a b ≡ Less) (map key xs) → i < length xs → x ≡ get_or xs i x
     → es ≡ map (λ x. (key x, value x)) (take i xs) → insert_entry R es (key x) (value x) ≡ map (λ x. (key x, value x)) (take (i + 1) xs)
 entries_more = Entries.entries_more
-
--- bonds that are listed unpaid are these bonds
-pub listed_unpaid : (bonds : List Bond) → bonds_listed (map unpaid bonds) ≡ bonds
-listed_unpaid = BondPlaces.listed_unpaid

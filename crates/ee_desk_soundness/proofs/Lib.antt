@@ -1,12 +1,12 @@
 mod Walks
 mod InOrder
 mod Entries
-mod PaidMarks
-mod BondPlaces
-mod Payable
 mod Counts
 mod SortedRows
 mod LinePays
+mod Keys
+mod PaidRows
+mod Places
 mod SoundParts
 mod Making
 pub mod Lemmas

@@ -8,10 +8,8 @@ use Rattle.ee_value.specs.declared.rates.Rates.{Rates}
 use Rattle.ee_calculator.specs.declared.bonds.Bond.{Bond}
 use Rattle.ee_desk_model.specs.declared.replies.Line.{Line}
 use Rattle.ee_desk_model.specs.declared.replies.Ticket.{Ticket}
-use Rattle.ee_desk_model.specs.Serials.{serial_cmp}
 use Rattle.ee_desk_model.specs.Values.{value_of}
 use Rattle.ee_calculator.specs.Bonds.{is_payee}
-use Rattle.ee_desk_model.specs.Sound.{IsRightLine}
 use Rattle.ee_desk_soundness.specs.Checks.{PaysBond}
 
 module _ (rates : FinMap nat_cmp Rates) (bond : Bond) (ticket : Ticket) (line : Line) where
@@ -29,13 +27,3 @@ module _ (rates : FinMap nat_cmp Rates) (bond : Bond) (ticket : Ticket) (line : 
 
   pub no_terms : finite.get rates (period_start bond.issued) ≡ None → PaysBond rates bond ticket line → ⊥
   no_terms none p = let has = p.1 in absurd (cc)
-
-module _ (rates : FinMap nat_cmp Rates) (bonds : FinMap serial_cmp Bond) (ticket : Ticket) (line : Line) where
-  pub right_if : (bond : Bond) (r : Bool) → finite.get bonds line.serial ≡ Some bond → ((r ≡ true) ↔ PaysBond rates bond ticket line) → ((r ≡ true) ↔ IsRightLine rates bonds ticket line)
-  right_if bond r has pays = (
-    λ e. let p = pays.0 e in (bond, p.0, has, p.1, p.2, p.3, p.4),
-    λ l. let own = l.2 in let same : l.0 ≡ bond = cc in pays.1 (subst (λ b. PaysBond rates b ticket line) same (l.1, l.3, l.4, l.5, l.6)),
-  )
-
-  pub no_bond : finite.get bonds line.serial ≡ None → IsRightLine rates bonds ticket line → ⊥
-  no_bond none l = let has = l.2 in absurd (cc)

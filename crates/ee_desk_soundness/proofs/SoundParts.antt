@@ -1,9 +1,7 @@
 -- Parts that pass the checks are those of sound books, and the other way round.
 use Rattle.std.proofs.Common.{◌≡◌, ◌==◌, ℕ, ◌*◌, ◌<◌, ◌≤◌, Bool, true, false, cond, ◌||◌, List, [], ◌∷◌, ◌++◌, map, length, Option, Some, None, arith, refl, sym, ap, ◌∙◌, subst}
-use Rattle.std.specs.Option.{option_map, option_and_then, unwrap_or, IfSome}
+use Rattle.std.specs.Option.{option_and_then, unwrap_or, IfSome}
 use Rattle.std.specs.List.{AllByRecursion, list_any, sum_by}
-use Rattle.std.specs.Map.{lookup}
-use Rattle.std.specs.BTreeMap.{is_at}
 use Rattle.std.specs.FinMap as finite
 use Rattle.std.specs.FinMap.{FinMap, nat_cmp-IsAntisymmetric}
 use Rattle.std.specs.Ordering.{nat_cmp}
@@ -22,15 +20,15 @@ use Rattle.ee_desk_model.specs.declared.replies.Ticket.{Ticket}
 use Rattle.ee_desk_model.specs.declared.replies.Batch.{Batch}
 use Rattle.ee_desk_model.specs.Serials.{serial_cmp}
 use Rattle.ee_desk_model.specs.Lists.{Rising, NeverFalling}
-use Rattle.ee_desk_model.specs.Paid.{paid_lines}
 use Rattle.ee_desk_model.specs.PlainBooks.{PlainBooks, batch_of, batch_so_far, cents_of}
 use Rattle.ee_desk_model.specs.Sound.{IsSound, IsDay, IsRightRate, IsRightBond, IsRightLine, IsRightTicket, day_of, day_of_batch, days}
-use Rattle.ee_desk_model.proofs.Lemmas.Maps.{serials_total, serials_exact, get_lookup, all_weaker, all_append}
+use Rattle.ee_desk_model.proofs.Lemmas.Maps.{serials_total, serials_exact, all_weaker}
 use Rattle.ee_desk_model.proofs.Lemmas.Books.{value_le, sound_keyed}
 use Rattle.ee_desk_decide.specs.declared.views.DayCounts.{DayCounts}
 use Rattle.ee_desk_soundness.specs.Parts.{Parts, parts_of, row_of_entry, AreUnsound}
-use Rattle.ee_desk_soundness.specs.Checks.{InOrder, IsBefore, HaveRisingMonths, HaveRisingSerials, IsRightRow, IsRightOwn, entry_of_row, entry_of_bond, rates_in, bonds_in, books_of, AreSound, IsRegister, CanBePaid, AreClosed}
-use Rattle.ee_desk_soundness.specs.Marks.{bonds_held, held_at, unpaid, IsFree, AreMarked}
+use Rattle.ee_desk_soundness.specs.Checks.{InOrder, IsBefore, HaveRisingMonths, HaveRisingSerials, IsRightRow, IsRightOwn, entry_of_row, entry_of_bond, rates_in, bonds_in, books_of, AreSound, IsRegister, IsWhole, ArePaid, AreClosed, parts_in}
+use Rattle.ee_desk_soundness.specs.Marks.{bond_of, AreMarked}
+use Rattle.ee_desk_soundness.proofs.PaidRows.{right_tickets, paid_once, rows_paid, as_many}
 use Rattle.ee_desk_soundness.specs.Days.{days_of, counts_at, counts_on, counts_in, no_counts, AreCounted, IsCounted, IsSmall}
 use Rattle.ee_desk_soundness.proofs.InOrder.{in_order_map}
 use Rattle.ee_desk_soundness.proofs.Entries.{less_is}
@@ -149,43 +147,6 @@ rates_right rows h = get_all nat_cmp_total nat_cmp-IsAntisymmetric IsRightRate (
 bonds_right : (rates : FinMap nat_cmp Rates) (bonds : List Bond) → AllByRecursion (IsRightOwn rates) bonds → (serial : SerialNumber) → IfSome (finite.get (bonds_in bonds) serial) (IsRightBond rates serial)
 bonds_right rates bonds h = get_all serials_total serials_exact (IsRightBond rates) (map entry_of_bond bonds) (bond_rows rates bonds h)
 
--- the bonds, each unpaid
-lookup_unpaid : (bonds : List Bond) (test : SerialNumber → Bool) → lookup test (map unpaid bonds) ≡ option_map (λ (b : Bond). (unpaid b).1) (lookup test (map entry_of_bond bonds))
-lookup_unpaid [] test = refl
-lookup_unpaid (b ∷ bonds) test = ap (cond (test b.serial) (Some (unpaid b).1)) (lookup_unpaid bonds test) ∙ by_case (test b.serial)
-  where
-    by_case : (t : Bool) → cond t (Some (unpaid b).1) (option_map (λ (b : Bond). (unpaid b).1) (lookup test (map entry_of_bond bonds))) ≡ option_map (λ (b : Bond). (unpaid b).1) (cond t (Some b) (lookup test (map entry_of_bond bonds)))
-    by_case true = refl
-    by_case false = refl
-
-pub unpaid_bonds : (bonds : List Bond) → bonds_held (map unpaid bonds) ≡ bonds_in bonds
-unpaid_bonds bonds = ap finite.from_entries (same bonds)
-  where
-    same : (bs : List Bond) → map (λ (e : SerialNumber × Held). (e.0, e.1.bond)) (map unpaid bs) ≡ map entry_of_bond bs
-    same [] = refl
-    same (b ∷ bs) = ap (λ es. entry_of_bond b ∷ es) (same bs)
-
-held_unpaid : (bonds : List Bond) (serial : SerialNumber) → held_at (map unpaid bonds) serial ≡ option_map (λ (b : Bond). (unpaid b).1) (finite.get (bonds_in bonds) serial)
-held_unpaid bonds serial = lookup_unpaid bonds (is_at (serial_cmp serial)) ∙ ap (option_map (λ (b : Bond). (unpaid b).1)) (sym (get_lookup serials_total (map entry_of_bond bonds) serial))
-
-pub none_marked : (bonds : List Bond) → AreMarked (map unpaid bonds) []
-none_marked bonds serial = subst (λ (o : Option Held). IfSome o (λ held. held.ticket ≡ None)) (sym (held_unpaid bonds serial)) (by_case (finite.get (bonds_in bonds) serial))
-  where
-    by_case : (o : Option Bond) → IfSome (option_map (λ (b : Bond). (unpaid b).1) o) (λ held. held.ticket ≡ None)
-    by_case None = tt
-    by_case (Some b) = refl
-
-free_line : (rates : FinMap nat_cmp Rates) (bonds : List Bond) (ticket : Ticket) (line : Line) → IsRightLine rates (bonds_in bonds) ticket line → IsFree (held_at (map unpaid bonds) line.serial)
-free_line rates bonds ticket line h = subst IsFree (sym (held_unpaid bonds line.serial ∙ ap (option_map (λ (b : Bond). (unpaid b).1)) h.2)) refl
-
-free_lines : (rates : FinMap nat_cmp Rates) (bonds : List Bond) (tickets : List Ticket) → AllByRecursion (IsRightTicket rates (bonds_in bonds)) tickets
-    → AllByRecursion (λ line. IsFree (held_at (map unpaid bonds) line.serial)) (paid_lines tickets)
-free_lines rates bonds [] h = tt
-free_lines rates bonds (t ∷ tickets) h =
-    all_append (λ (line : Line). IsFree (held_at (map unpaid bonds) line.serial)) t.lines (paid_lines tickets)
-    (all_weaker (IsRightLine rates (bonds_in bonds) t) (λ (line : Line). IsFree (held_at (map unpaid bonds) line.serial)) (free_line rates bonds t) t.lines h.0.lines)
-    (free_lines rates bonds tickets h.1)
-
 -- ---- order
 never_falls : (ks : List ℕ) → InOrder ◌≤◌ ks → NeverFalling ks
 never_falls [] h = tt
@@ -204,25 +165,38 @@ rising_is [] h = tt
 rising_is (k ∷ ks) h = (h.0, rising_is ks h.1)
 
 -- ---- all together
-pub passed : (parts : Parts) → IsRegister parts.rates parts.bonds → CanBePaid (rates_in parts.rates) (map unpaid parts.bonds) parts.tickets → AreClosed parts.tickets parts.batches parts.day parts.last_day → AllByRecursion IsDay (days_of parts.batches parts.day) → AreSound parts
-passed parts register paid closed range = record {
-  months = register.months;
-  serials = register.serials;
-  books = record {
-    rates = rates_right parts.rates register.right;
-    bonds = bonds_right (rates_in parts.rates) parts.bonds register.owned;
-    numbered = paid.numbered;
-    tickets = subst (λ bs. AllByRecursion (IsRightTicket (rates_in parts.rates) bs) parts.tickets) (unpaid_bonds parts.bonds) paid.right;
-    once = paid.once.1;
-    in_order = never_falls (map day_of parts.tickets) paid.in_order;
-    few = closed.right.fit.1;
-    dated = closed.right.fit.0;
-    rising = rises (days_of parts.batches parts.day) closed.rising;
-    in_range = range;
-    last = closed.latest;
-    batches = closed.right.batches;
-  };
-}
+module _ (rates : List RateRow) (rows : List Held) (day last : Option ℕ) (tickets : List Ticket) (batches : List Batch) where
+  abbrev pub made_parts : Parts
+  made_parts = parts_in rates (map bond_of rows) day last tickets batches
+
+  pub passed : IsRegister rates (map bond_of rows) → ArePaid (rates_in rates) rows tickets → AreClosed tickets batches day last → AllByRecursion IsDay (days_of batches day) → AreSound made_parts
+  passed register paid closed range = record {
+    months = register.months;
+    serials = register.serials;
+    books = record {
+      rates = rates_right rates register.right;
+      bonds = bonds_right (rates_in rates) (map bond_of rows) register.owned;
+      numbered = paid.numbered;
+      tickets = right_tickets (rates_in rates) rows tickets register.serials paid;
+      once = paid_once (rates_in rates) rows tickets register.serials paid;
+      in_order = never_falls (map day_of tickets) paid.in_order;
+      few = closed.right.fit.1;
+      dated = closed.right.fit.0;
+      rising = rises (days_of batches day) closed.rising;
+      in_range = range;
+      last = closed.latest;
+      batches = closed.right.batches;
+    };
+  }
+
+  pub paid_is : AreSound made_parts → AreMarked tickets rows → ArePaid (rates_in rates) rows tickets
+  paid_is sound marked = record {
+    numbered = sound.books.numbered;
+    in_order = falls_never (map day_of tickets) sound.books.in_order;
+    whole = all_weaker (IsRightTicket (rates_in rates) (bonds_in (map bond_of rows))) IsWhole (λ t h. record { some = h.some; few = h.few; total = h.total }) tickets sound.books.tickets;
+    paid = rows_paid (rates_in rates) rows tickets sound.serials sound.books.numbered sound.books.tickets sound.books.once marked;
+    as_many = as_many (rates_in rates) rows tickets sound.serials sound.books.numbered sound.books.tickets sound.books.once marked;
+  }
 
 module _ (parts : Parts) (sound : AreSound parts) where
   pub register_is : IsRegister parts.rates parts.bonds
@@ -231,14 +205,6 @@ module _ (parts : Parts) (sound : AreSound parts) where
     serials = sound.serials;
     right = row_rates parts.rates (all_rows nat_cmp_total nat_cmp-IsAntisymmetric IsRightRate (map entry_of_row parts.rates) (rows_rise parts.rates sound.months) sound.books.rates);
     owned = row_bonds (rates_in parts.rates) parts.bonds (all_rows serials_total serials_exact (IsRightBond (rates_in parts.rates)) (map entry_of_bond parts.bonds) (bonds_rise parts.bonds sound.serials) sound.books.bonds);
-  }
-
-  pub paid_is : CanBePaid (rates_in parts.rates) (map unpaid parts.bonds) parts.tickets
-  paid_is = record {
-    numbered = sound.books.numbered;
-    in_order = falls_never (map day_of parts.tickets) sound.books.in_order;
-    right = subst (λ bs. AllByRecursion (IsRightTicket (rates_in parts.rates) bs) parts.tickets) (sym (unpaid_bonds parts.bonds)) sound.books.tickets;
-    once = (free_lines (rates_in parts.rates) parts.bonds parts.tickets sound.books.tickets, sound.books.once);
   }
 
   pub closed_is : AreClosed parts.tickets parts.batches parts.day parts.last_day
@@ -324,16 +290,3 @@ pub open_is : (counts : List (ℕ × DayCounts)) (batches : List Batch) (day : O
     → unwrap_or (option_and_then (counts_at counts) day) no_counts ≡ counts_in (batch_so_far day tickets)
 open_is counts batches None tickets are = refl
 open_is counts batches (Some d) tickets are = ap (λ o. unwrap_or o no_counts) (counted_at counts (map day_of_batch batches) [] d tickets are)
-
--- ---- books in memory
--- what is made of parts in memory represents their books
-pub books_made : (parts : Parts) (terms : List (ℕ × Rates)) (held : List (SerialNumber × Held)) → terms ≡ map entry_of_row parts.rates → bonds_held held ≡ bonds_in parts.bonds
-    → ◌≡◌ {A = PlainBooks} (record { rates = finite.from_entries terms; bonds = bonds_held held; day = parts.day; last_day = parts.last_day; tickets = parts.tickets; batches = parts.batches }) (books_of parts)
-books_made parts terms held rates bonds = λ i. record {
-  rates = finite.from_entries (rates i);
-  bonds = bonds i;
-  day = parts.day;
-  last_day = parts.last_day;
-  tickets = parts.tickets;
-  batches = parts.batches;
-}

@@ -1,6 +1,7 @@
 -- What is checked about parts.
-use Rattle.std.specs.Prelude.{◌≡◌, ℕ, ◌+◌, ◌<◌, ◌≤◌, true, List, [], ◌∷◌, map, Option, Some, IfSome, ⊤}
+use Rattle.std.specs.Prelude.{◌≡◌, ℕ, ◌+◌, ◌<◌, ◌≤◌, ◌==◌, true, List, [], ◌∷◌, map, length, find, sum_by, count_by, Option, Some, IfSome, ⊤}
 use Rattle.std.specs.List.{AllByRecursion}
+use Rattle.std.specs.Option.{IsSomeAnd}
 use Rattle.std.specs.declared.cmp.Ordering.TheVariants.{Less}
 use Rattle.std.specs.FinMap as finite
 use Rattle.std.specs.FinMap.{FinMap}
@@ -9,7 +10,7 @@ use Rattle.ee_units.specs.Spelling.{SerialNumber}
 use Rattle.ee_value.specs.declared.rates.Rates.{Rates}
 use Rattle.ee_value.specs.declared.rates.RateRow.{RateRow}
 use Rattle.ee_calculator.specs.declared.bonds.Bond.{Bond}
-use Rattle.ee_desk_model.specs.Serials.{serial_cmp}
+use Rattle.ee_desk_model.specs.Serials.{serial_cmp, same_serial}
 use Rattle.ee_units.specs.Calendar.{month_of_day, period_start}
 use Rattle.ee_desk_model.specs.declared.changes.Held.{Held}
 use Rattle.ee_desk_model.specs.declared.replies.Batch.{Batch}
@@ -17,10 +18,10 @@ use Rattle.ee_desk_model.specs.declared.replies.Line.{Line}
 use Rattle.ee_desk_model.specs.declared.replies.Ticket.{Ticket}
 use Rattle.ee_desk_model.specs.Values.{value_of}
 use Rattle.ee_calculator.specs.Bonds.{is_payee}
-use Rattle.ee_desk_model.specs.PlainBooks.{PlainBooks, batch_of}
+use Rattle.ee_desk_model.specs.PlainBooks.{PlainBooks, batch_of, cents_of}
 use Rattle.ee_desk_model.specs.Paid.{paid_lines}
-use Rattle.ee_desk_model.specs.Sound.{IsSound, IsRightRate, IsRightBond, IsRightTicket, NumberedFrom, day_of, last_of}
-use Rattle.ee_desk_soundness.specs.Marks.{bonds_held, ArePayable}
+use Rattle.ee_desk_model.specs.Sound.{IsSound, IsRightRate, IsRightBond, NumberedFrom, day_of, last_of}
+use Rattle.ee_desk_soundness.specs.Marks.{is_marked}
 use Rattle.ee_desk_soundness.specs.Days.{days_of, FitDays}
 use Rattle.ee_desk_soundness.specs.Parts.{Parts}
 
@@ -57,10 +58,6 @@ HaveRisingMonths rows = InOrder ◌<◌ (map (λ row. row.from) rows)
 -- each serial number is before those after it in the list
 abbrev pub HaveRisingSerials : List Bond → Type 0
 HaveRisingSerials bonds = InOrder IsBefore (map (λ bond. bond.serial) bonds)
-
--- the same, for bonds by their serial numbers
-abbrev pub RiseBySerial : List (SerialNumber × Held) → Type 0
-RiseBySerial bonds = InOrder IsBefore (map (λ e. e.0) bonds)
 
 -- the books that parts represent
 abbrev pub books_of : Parts → PlainBooks
@@ -102,12 +99,32 @@ pub record IsRegister (rows : List RateRow) (own : List Bond) : Type 0 where
   pub right : AllByRecursion IsRightRow rows
   pub owned : AllByRecursion (IsRightOwn (rates_in rows)) own
 
--- tickets that pay registered bonds, each once, their value at these rates
-pub record CanBePaid (rates : FinMap nat_cmp Rates) (held : List (SerialNumber × Held)) (tickets : List Ticket) : Type 0 where
+-- a ticket has a line for the bond, and the first such line pays it
+abbrev pub IsOn : FinMap nat_cmp Rates → Bond → Ticket → Type 0
+IsOn rates bond ticket = IsSomeAnd (find (λ line. same_serial bond.serial line.serial) ticket.lines) (PaysBond rates bond ticket)
+
+-- the ticket of this number pays the bond
+abbrev pub IsPaidBy : FinMap nat_cmp Rates → List Ticket → Bond → ℕ → Type 0
+IsPaidBy rates tickets bond number = IsSomeAnd (find (λ ticket. ticket.ticket == number) tickets) (IsOn rates bond)
+
+-- a row that names no ticket, or one that pays its bond
+abbrev pub IsRightlyPaid : FinMap nat_cmp Rates → List Ticket → Held → Type 0
+IsRightlyPaid rates tickets held = IfSome held.ticket (IsPaidBy rates tickets held.bond)
+
+-- a ticket with 1 to 100 lines, and their sum
+pub record IsWhole (ticket : Ticket) : Type 0 where
+  pub some : 1 ≤ length ticket.lines
+  pub few : length ticket.lines ≤ 100
+  pub total : ticket.total.0 ≡ sum_by cents_of ticket.lines
+
+-- tickets that pay the bonds of these rows, each once, their value at these rates, and rows that each name the ticket that
+-- pays their bond: as many rows name a ticket as the tickets have lines
+pub record ArePaid (rates : FinMap nat_cmp Rates) (rows : List Held) (tickets : List Ticket) : Type 0 where
   pub numbered : NumberedFrom 1 tickets
   pub in_order : InOrder ◌≤◌ (map day_of tickets)
-  pub right : AllByRecursion (IsRightTicket rates (bonds_held held)) tickets
-  pub once : ArePayable held (paid_lines tickets)
+  pub whole : AllByRecursion IsWhole tickets
+  pub paid : AllByRecursion (IsRightlyPaid rates tickets) rows
+  pub as_many : count_by is_marked rows ≡ length (paid_lines tickets)
 
 -- batches that sound books with these tickets may have
 pub record AreRightBatches (tickets : List Ticket) (closed : List Batch) (day : Option ℕ) : Type 0 where

@@ -1,35 +1,33 @@
 //! Checking whether parts are those of sound books.
 
-ghost use Rattle.std.specs.Prelude.{◌≡◌, ◌↔◌, true, [], map, IfOk, IfErr};
+ghost use Rattle.std.specs.Prelude.{◌≡◌, ◌↔◌, true, map, IfOk, IfErr};
 ghost use Rattle.std.specs.List.{AllByRecursion};
 ghost use Rattle.std.specs.FinMap as finite;
 ghost use Rattle.ee_desk_model.specs.PlainBooks.{batch_so_far};
 ghost use Rattle.ee_desk_soundness.specs.Parts.{AreUnsound};
-ghost use Rattle.ee_desk_soundness.specs.Checks.{entry_of_row, parts_in, IsRegister, AreClosed, CanBePaid, AreRightBatches};
+ghost use Rattle.ee_desk_soundness.specs.Checks.{entry_of_row, parts_in, HaveRisingSerials, IsRegister, AreClosed, ArePaid, AreRightBatches};
 ghost use Rattle.ee_desk_soundness.specs.Made.{IsMadeOf};
-ghost use Rattle.ee_desk_soundness.specs.Marks.{bonds_held, bonds_listed, unpaid, AreMarked};
+ghost use Rattle.ee_desk_soundness.specs.Marks.{bond_of, AreMarked};
 ghost use Rattle.ee_desk_soundness.specs.Days.{counts_in, days_of, AreCounted, FitDays, IsSmall};
 
 use crate::days::{are_counted, counts_of, days_rise, in_range, last_day, open_counts};
 use crate::faults::PartsFault;
-use crate::lines::{are_numbered, are_right_tickets};
-use crate::marks::mark_paid;
+use crate::lines::{are_numbered, are_whole};
 use crate::order::{days_never_fall, months_rise};
 use crate::register::{are_right_bonds, terms_by_month};
-use crate::sorted::SortedBonds;
+use crate::rows::{are_as_many, are_rightly_paid};
 use ee_desk_decide::DayCounts;
-use ee_desk_model::{Batch, RateRow, Terms, Ticket, UnitTables};
+use ee_desk_model::{Batch, Held, RateRow, Terms, Ticket, UnitTables};
 use ee_units::{Day, IssueMonth};
 use std::alloc::Global;
 use std::collections::BTreeMap;
 
 /// What is made of the parts of books while they are checked: the tables of their rates, terms by month,
-/// bonds by serial number, each marked with the ticket that pays it, and the counts of the open day.
+/// and the counts of the open day.
 #[derive(Drop)]
 pub struct Indexes {
     pub tables: UnitTables,
     pub terms: BTreeMap<IssueMonth, Terms>,
-    pub bonds: SortedBonds,
     pub counts: DayCounts,
 }
 
@@ -41,32 +39,26 @@ struct RegisterTerms {
 }
 
 /// The terms of rates, if sound books may have these rates and bonds.
-fn registered(
-    alloc: Global,
-    rates: &[RateRow],
-    bonds: &SortedBonds,
-) -> Result<RegisterTerms, PartsFault>
+fn registered(alloc: Global, rates: &[RateRow], bonds: &[Held]) -> Result<RegisterTerms, PartsFault>
+    requires { HaveRisingSerials (map bond_of bonds.now) }
     ensures terms { IfOk result (λ own. own.terms.entries ≡ map entry_of_row rates.now) }
-    ensures right { IfOk result (λ _. IsRegister rates.now (bonds_listed bonds.now)) }
-    ensures unsound { IfErr result (λ fault. fault ≡ PartsFault.Unsound → IsRegister rates.now (bonds_listed bonds.now) → ⊥) }
+    ensures right { IfOk result (λ _. IsRegister rates.now (map bond_of bonds.now)) }
+    ensures unsound { IfErr result (λ fault. fault ≡ PartsFault.Unsound → IsRegister rates.now (map bond_of bonds.now) → ⊥) }
 {
     if !months_rise(rates) {
         return Err(PartsFault::Unsound);
     }
     let mut tables = UnitTables::new(alloc);
     let terms = terms_by_month(alloc, &mut tables, rates)?;
-    if !are_right_bonds(&terms, bonds.held()) {
+    if !are_right_bonds(&terms, bonds) {
         return Err(PartsFault::Unsound);
     }
     Ok(RegisterTerms { tables, terms })
 }
 
-/// Marks the bonds that tickets pay, if sound books may have these tickets.
-fn pay(terms: &BTreeMap<IssueMonth, Terms>, bonds: &mut SortedBonds, tickets: &[Ticket]) -> bool
-    requires { AreMarked bonds.old [] }
-    ensures paid { (result ≡ true) ↔ CanBePaid (finite.from_entries terms.now.entries) bonds.old tickets.now }
-    ensures marked { result ≡ true → AreMarked bonds.new tickets.now }
-    ensures bonds { result ≡ true → bonds_held bonds.new ≡ bonds_held bonds.old }
+/// Whether tickets pay the bonds of these rows, each once, and each row names the ticket that pays its bond.
+fn are_paid(terms: &BTreeMap<IssueMonth, Terms>, bonds: &[Held], tickets: &[Ticket]) -> bool
+    ensures { (result ≡ true) ↔ ArePaid (finite.from_entries terms.now.entries) bonds.now tickets.now }
 {
     if !are_numbered(tickets) {
         return false;
@@ -74,10 +66,13 @@ fn pay(terms: &BTreeMap<IssueMonth, Terms>, bonds: &mut SortedBonds, tickets: &[
     if !days_never_fall(tickets) {
         return false;
     }
-    if !are_right_tickets(terms, bonds, tickets) {
+    if !are_whole(tickets) {
         return false;
     }
-    mark_paid(bonds, tickets)
+    if !are_rightly_paid(terms, tickets, bonds) {
+        return false;
+    }
+    are_as_many(bonds, tickets)
 }
 
 /// The counts of each day, if each ticket is of one of these days and no day has too many.
@@ -141,25 +136,27 @@ fn closed(
     counted(alloc, tickets, batches, day)
 }
 
-/// What is made of parts with these bonds, which are unpaid, while they are checked. Fails if no sound books have
-/// these parts, or if memory is refused.
-pub fn checked_bonds(
+/// What is made of parts while they are checked, with the bonds as rows that each name the ticket that pays the bond.
+/// The rows are sorted by serial number. `Unsound` if a row names another ticket than that, or if no sound books have
+/// these parts. Fails also if memory is refused.
+pub fn checked(
     alloc: Global,
     rates: &[RateRow],
-    bonds: SortedBonds,
+    bonds: &[Held],
     day: Option<Day>,
     last: Option<Day>,
     tickets: &[Ticket],
     batches: &[Batch],
 ) -> Result<Indexes, PartsFault>
-    requires { bonds ≡ map unpaid (bonds_listed bonds) }
-    ensures ok { IfOk result (IsMadeOf (parts_in rates.now (bonds_listed bonds) day last tickets.now batches.now)) }
-    ensures unsound { IfErr result (λ fault. fault ≡ PartsFault.Unsound → AreUnsound (parts_in rates.now (bonds_listed bonds) day last tickets.now batches.now)) }
+    requires { HaveRisingSerials (map bond_of bonds.now) }
+    ensures ok { IfOk result (IsMadeOf (parts_in rates.now (map bond_of bonds.now) day last tickets.now batches.now)) }
+    ensures marked { IfOk result (λ _. AreMarked tickets.now bonds.now) }
+    ensures unsound { IfErr result (λ fault. fault ≡ PartsFault.Unsound
+        → AreMarked tickets.now bonds.now → AreUnsound (parts_in rates.now (map bond_of bonds.now) day last tickets.now batches.now)) }
 {
-    let own = registered(alloc, rates, &bonds)?;
+    let own = registered(alloc, rates, bonds)?;
     let RegisterTerms { tables, terms } = own;
-    let mut held = bonds;
-    if !pay(&terms, &mut held, tickets) {
+    if !are_paid(&terms, bonds, tickets) {
         return Err(PartsFault::Unsound);
     }
     let open = day;
@@ -168,7 +165,6 @@ pub fn checked_bonds(
     Ok(Indexes {
         tables,
         terms,
-        bonds: held,
         counts,
     })
 }

@@ -5,11 +5,9 @@ ghost use Rattle.std.specs.List.{AllByRecursion};
 ghost use Rattle.std.specs.FinMap as finite;
 ghost use Rattle.ee_desk_model.specs.Values.{value_of};
 ghost use Rattle.ee_desk_model.specs.PlainBooks.{cents_of};
-ghost use Rattle.ee_desk_model.specs.Sound.{IsRightLine, IsRightTicket, NumberedFrom};
-ghost use Rattle.ee_desk_soundness.specs.Checks.{PaysBond};
-ghost use Rattle.ee_desk_soundness.specs.Marks.{bonds_held};
+ghost use Rattle.ee_desk_model.specs.Sound.{NumberedFrom};
+ghost use Rattle.ee_desk_soundness.specs.Checks.{PaysBond, IsWhole};
 
-use crate::sorted::SortedBonds;
 use ee_calculator::Bond;
 use ee_desk_model::{Line, MOST_SERIALS, Terms, Ticket};
 use ee_units::calendar::{month_of, period_of};
@@ -36,7 +34,12 @@ fn is_worth(terms: &Terms, bond: &Bond, month: Month, cents: Cents) -> bool
 }
 
 /// Whether a ticket's line pays a bond correctly.
-fn pays_bond(rates: &BTreeMap<IssueMonth, Terms>, bond: &Bond, ticket: &Ticket, line: &Line) -> bool
+pub fn pays_bond(
+    rates: &BTreeMap<IssueMonth, Terms>,
+    bond: &Bond,
+    ticket: &Ticket,
+    line: &Line,
+) -> bool
     ensures { (result ≡ true) ↔ PaysBond (finite.from_entries rates.now.entries) bond.now ticket.now line.now }
 {
     match rates.get(&period_of(bond.issued)) {
@@ -44,37 +47,6 @@ fn pays_bond(rates: &BTreeMap<IssueMonth, Terms>, bond: &Bond, ticket: &Ticket, 
             && is_worth(terms, bond, month_of(ticket.day), line.cents),
         None => false,
     }
-}
-
-/// Whether a ticket's line pays a registered bond correctly.
-fn is_right_line(
-    rates: &BTreeMap<IssueMonth, Terms>,
-    bonds: &SortedBonds,
-    ticket: &Ticket,
-    line: &Line,
-) -> bool
-    ensures { (result ≡ true) ↔ IsRightLine (finite.from_entries rates.now.entries) (bonds_held bonds.now) ticket.now line.now }
-{
-    match bonds.get(line.serial) {
-        Some(held) => pays_bond(rates, &held.bond, ticket, line),
-        None => false,
-    }
-}
-
-fn are_right_lines(
-    rates: &BTreeMap<IssueMonth, Terms>,
-    bonds: &SortedBonds,
-    ticket: &Ticket,
-    lines: &[Line],
-) -> bool
-    ensures { (result ≡ true) ↔ AllByRecursion (IsRightLine (finite.from_entries rates.now.entries) (bonds_held bonds.now) ticket.now) lines.now }
-{
-    for line in lines {
-        if !is_right_line(rates, bonds, ticket, line) {
-            return false;
-        }
-    }
-    true
 }
 
 /// Whether lines add up to this total.
@@ -91,31 +63,20 @@ fn sums_to(lines: &[Line], total: Cents) -> bool
     left == 0
 }
 
-/// Whether a ticket has 1 to 100 lines, all of them correct, and their sum.
-fn is_right_ticket(
-    rates: &BTreeMap<IssueMonth, Terms>,
-    bonds: &SortedBonds,
-    ticket: &Ticket,
-) -> bool
-    ensures { (result ≡ true) ↔ IsRightTicket (finite.from_entries rates.now.entries) (bonds_held bonds.now) ticket.now }
+/// Whether a ticket has 1 to 100 lines, and their sum.
+fn is_whole(ticket: &Ticket) -> bool
+    ensures { (result ≡ true) ↔ IsWhole ticket.now }
 {
     let lines = ticket.lines.as_slice();
-    !lines.is_empty()
-        && lines.len() <= MOST_SERIALS
-        && are_right_lines(rates, bonds, ticket, lines)
-        && sums_to(lines, ticket.total)
+    !lines.is_empty() && lines.len() <= MOST_SERIALS && sums_to(lines, ticket.total)
 }
 
-/// Whether books with these rates and bonds may have each of the tickets.
-pub fn are_right_tickets(
-    rates: &BTreeMap<IssueMonth, Terms>,
-    bonds: &SortedBonds,
-    tickets: &[Ticket],
-) -> bool
-    ensures { (result ≡ true) ↔ AllByRecursion (IsRightTicket (finite.from_entries rates.now.entries) (bonds_held bonds.now)) tickets.now }
+/// Whether each ticket has 1 to 100 lines, and their sum.
+pub fn are_whole(tickets: &[Ticket]) -> bool
+    ensures { (result ≡ true) ↔ AllByRecursion IsWhole tickets.now }
 {
     for ticket in tickets {
-        if !is_right_ticket(rates, bonds, ticket) {
+        if !is_whole(ticket) {
             return false;
         }
     }

@@ -9,6 +9,7 @@ use Rattle.ee_desk_model.specs.Sound.{IsSound}
 use Rattle.ee_desk_model.specs.Repeats.{Content}
 use Rattle.ee_desk_model.specs.UnitTables.{tables_in}
 use Rattle.ee_desk_soundness.specs.Parts.{Parts, parts_of, AreUnsound}
+use Rattle.ee_desk_soundness.specs.Marks.{AreMarked}
 use Rattle.ee_desk_soundness.specs.Checks.{books_of, entry_of_row, AreSound}
 use Rattle.ee_desk_soundness.proofs.Lemmas.{parts_of-books_of}
 use Rattle.ee_store_tables.specs.Rows.{Rows}
@@ -20,7 +21,7 @@ use Rattle.ee_store_load.specs.Whole.{AreInOrder, AreRead, rows_with}
 use Rattle.ee_store_contents.specs.Contents.{PartsFit, KeepsAnswer, tables_for}
 use Rattle.ee_store_contents.specs.Reading.{parts_in}
 use Rattle.ee_store_contents.proofs.KeptTables.{own, tables_made}
-use Rattle.ee_store_contents.proofs.RowsOfBooks.{rows_of_parts, parts_in_range, parts_read, parts_are, answers_kept, content_stands}
+use Rattle.ee_store_contents.proofs.RowsOfBooks.{rows_of_parts, parts_in_range, parts_read, rows_marked, parts_are, answers_kept, content_stands}
 
 -- the kept replies are no part of the books
 pub same_parts : (stored rest : AllRows) → rest ≡ record stored { replies = rest.replies } → parts_in rest ≡ parts_in stored
@@ -46,20 +47,27 @@ module _ (stored : AllRows) (rows : Rows) (order : AreInOrder stored) (read : Ar
   not_kept failed content stands =
       false≢true (sym failed ∙ read.tested.pass.1 (answers_kept stored read.kept content read.tested.in_order (these_stand content stands)))
 
-  pub not_sound : (parts : Parts) → Some parts ≡ parts_in stored → AreUnsound parts → (content : Content) → StandAt (version_of stored.form) rows content → ⊥
-  not_sound parts found unsound content stands =
-      unsound content.books stands.right.sound (sym (same_Some parts (parts_of content.books) (found ∙ read_as content stands)))
+  -- the rows of the bonds of a content name the tickets that pay them
+  marked_as : (content : Content) → StandAt (version_of stored.form) rows content → AreMarked content.books.tickets stored.bonds.items
+  marked_as content stands =
+      subst (AreMarked content.books.tickets) (sym (rows_of_parts stored (answer_map read.kept) content order (these_stand content stands)).bonds)
+      (rows_marked content.books.tickets (parts_of content.books).bonds)
 
-  founded : (parts : Parts) (books : PlainBooks) → Some parts ≡ parts_in stored → PartsFit parts → parts_of books ≡ parts → IsSound books
+  pub not_sound : (parts : Parts) → Some parts ≡ parts_in stored → (AreMarked parts.tickets stored.bonds.items → AreUnsound parts) → (content : Content) → StandAt (version_of stored.form) rows content → ⊥
+  not_sound parts found unsound content stands =
+      let same = same_Some parts (parts_of content.books) (found ∙ read_as content stands) in
+      unsound (subst (λ (p : Parts). AreMarked p.tickets stored.bonds.items) (sym same) (marked_as content stands)) content.books stands.right.sound (sym same)
+
+  founded : (parts : Parts) (books : PlainBooks) → Some parts ≡ parts_in stored → PartsFit parts → AreMarked parts.tickets stored.bonds.items → parts_of books ≡ parts → IsSound books
       → stored.replies.pass ≡ true → (content : Content) × (content.books ≡ books) × StandAt (version_of stored.form) rows content
-  founded parts books found fit is sound pass =
-      let it = content_stands stored read.kept books order read.tested.in_order (parts_are (parts_of books) stored (sym found ∙ ap Some (sym is))) (subst PartsFit (sym is) fit) sound (read.tested.pass.0 pass) in
+  founded parts books found fit marked is sound pass =
+      let it = content_stands stored read.kept books order read.tested.in_order (parts_are (parts_of books) stored (sym found ∙ ap Some (sym is)) (subst (λ (p : Parts). AreMarked p.tickets stored.bonds.items) (sym is) marked)) (subst PartsFit (sym is) fit) sound (read.tested.pass.0 pass) in
       (it.0, it.1, subst (λ rows. StandAt (version_of stored.form) rows it.0) (sym read.are) it.2)
 
-  pub tables_founded : (parts : Parts) (terms : List (ℕ × Rates)) → Some parts ≡ parts_in stored → PartsFit parts
+  pub tables_founded : (parts : Parts) (terms : List (ℕ × Rates)) → Some parts ≡ parts_in stored → PartsFit parts → AreMarked parts.tickets stored.bonds.items
       → stored.replies.pass ≡ true → AreSound parts → terms ≡ map entry_of_row parts.rates
       → (content : Content) × (tables_in (map own (map (λ e. e.1) terms)) ≡ tables_for content.books.rates) × StandAt (version_of stored.form) rows content
-  tables_founded parts terms found fit pass sound made =
+  tables_founded parts terms found fit marked pass sound made =
       let is = parts_of-books_of parts sound.months sound.serials in
-      let it = founded parts (books_of parts) found fit is sound.books pass in
+      let it = founded parts (books_of parts) found fit marked is sound.books pass in
       (it.0, tables_made parts it.0.books terms (ap parts_of it.1 ∙ is) made, it.2)

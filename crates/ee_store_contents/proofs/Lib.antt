@@ -1,7 +1,6 @@
 mod ReadBack
 mod RatesBack
 mod RowsOfBooks
-mod NotedMarks
 mod KeptRows
 mod Founded
 mod KeptTables

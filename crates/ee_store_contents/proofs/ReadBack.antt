@@ -1,22 +1,17 @@
 -- Rows are read as the values that they were made of, and as no others.
 use Rattle.std.proofs.Common.{◌≡◌, ◌==◌, ℕ, suc, ◌+◌, ◌≤◌, Bool, true, false, cond, ◌&&◌, List, [], ◌∷◌, ◌++◌, map, length, take, drop, arith, refl, sym, ap, ◌∙◌, subst}
-use Rattle.std.specs.Prelude.{if◌then◌else◌, nat_le, nat_eq, flat_map, Option, Some, None, IfSome, option_map}
-use Rattle.std.specs.Option.{option_eq}
+use Rattle.std.specs.Prelude.{if◌then◌else◌, nat_le, flat_map, Option, Some, None, IfSome, option_map}
 use Rattle.std.specs.List.{AllByRecursion}
 use Rattle.std.proofs.lemmas.Bool.{eqb-true, eq-eqb, leb-true, le-leb, and_parts}
 use Rattle.std.proofs.lemmas.List.{take-append-drop, length-take-le}
 use Rattle.std.proofs.lemmas.Option.{same_Some}
 use Rattle.ee_units.specs.Spelling.{serial_at, ◌>>=◌}
 use Rattle.ee_units.proofs.Lemmas.{in_range-is, in_range_back}
-use Rattle.ee_calculator.specs.declared.bonds.Bond.{Bond}
-use Rattle.ee_desk_model.specs.declared.changes.Held.{Held}
 use Rattle.ee_desk_model.specs.declared.replies.Line.{Line}
 use Rattle.ee_desk_model.specs.declared.replies.Ticket.{Ticket}
 use Rattle.ee_desk_model.specs.declared.replies.Batch.{Batch}
 use Rattle.ee_desk_model.specs.Sound.{IsDay}
-use Rattle.ee_desk_model.specs.PlainBooks.{ticket_of}
-use Rattle.ee_desk_model.proofs.Lemmas.Books.{option_eq-is}
-use Rattle.ee_desk_texts.specs.Ranges.{IsSerial, IsCustomer, BondFits, LineFits, TicketFits, BatchFits}
+use Rattle.ee_desk_texts.specs.Ranges.{IsSerial, IsCustomer, LineFits, TicketFits, BatchFits}
 use Rattle.ee_store_contents.specs.declared.reading.Days.{Days}
 use Rattle.ee_store_load.specs.declared.entries.StoredDesk.{StoredDesk}
 use Rattle.ee_store_load.specs.declared.entries.StoredTicket.{StoredTicket}
@@ -24,8 +19,8 @@ use Rattle.ee_store_load.specs.declared.entries.StoredLine.{StoredLine}
 use Rattle.ee_store_load.specs.declared.entries.StoredBatch.{StoredBatch}
 use Rattle.ee_store_books.proofs.Lemmas.Contents.{some_from_bind}
 use Rattle.ee_store_load.proofs.Lemmas.{bind_some, serial_read, serial_is}
-use Rattle.ee_store_contents.specs.Contents.{stored_desk, held_bond, stored_ticket, stored_line, placed_lines, stored_lines, stored_batch}
-use Rattle.ee_store_contents.specs.Reading.{each, optional_in, issue_in, day_in, customer_in, days_of, days_in, bond_in, line_at, lines_at, ticket_with, ticket_in, tickets_in, batch_in}
+use Rattle.ee_store_contents.specs.Contents.{stored_desk, stored_ticket, stored_line, placed_lines, stored_lines, stored_batch}
+use Rattle.ee_store_contents.specs.Reading.{each, optional_in, issue_in, day_in, customer_in, days_of, days_in, line_at, lines_at, ticket_with, ticket_in, tickets_in, batch_in}
 use Rattle.ee_store_books.specs.Lines.{line_with}
 
 -- ---- what may be absent
@@ -44,10 +39,6 @@ map_is (Some m) p e = (m, refl, sym (same_Some (Some m) p e))
 optional_is : (read : ℕ → Option ℕ) → ((n m : ℕ) → read n ≡ Some m → n ≡ m) → (o p : Option ℕ) → optional_in read o ≡ Some p → o ≡ p
 optional_is read h None p e = same_Some None p e
 optional_is read h (Some n) p e = let m = map_is (read n) p e in ap Some (h n m.0 m.1) ∙ sym m.2
-
-option_eq_same : (a : Option ℕ) → option_eq nat_eq a a ≡ true
-option_eq_same None = refl
-option_eq_same (Some n) = eq-eqb n n refl
 
 -- ---- lists
 module _ {A B : Type 0} (read : A → Option B) (row : B → A) where
@@ -106,16 +97,6 @@ days_is version (row ∷ []) days e =
     let first = and_parts (row.id == 1) (row.version == version) open_row.0 in
     let both = days_of_is row days open_row.1 in
     λ i. record { id = eqb-true row.id 1 first.0 i; version = eqb-true row.version version first.1 i; day = both.0 i; last_day = both.1 i } ∷ []
-
--- ---- bonds
-pub bond_read : (tickets : List Ticket) (bond : Bond) → BondFits bond → bond_in (ticket_of tickets) (held_bond tickets bond) ≡ Some bond
-bond_read tickets bond h = ap (λ b. cond b (Some bond) None) (option_eq_same (ticket_of tickets bond.serial))
-
-pub bond_is : (tickets : List Ticket) (held : Held) (bond : Bond) → bond_in (ticket_of tickets) held ≡ Some bond → held ≡ held_bond tickets bond
-bond_is tickets held bond e =
-    let right = cond_is (option_eq nat_eq held.ticket (ticket_of tickets held.bond.serial)) bond (Some held.bond) bond e in
-    (λ i. record { bond = held.bond; ticket = option_eq-is held.ticket (ticket_of tickets held.bond.serial) right.0 i })
-    ∙ ap (held_bond tickets) (same_Some held.bond bond right.1)
 
 -- ---- lines
 line_read : (ticket place : ℕ) (line : Line) → IsSerial line.serial → line_at ticket place (stored_line ticket place line) ≡ Some line

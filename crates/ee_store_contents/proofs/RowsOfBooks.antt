@@ -25,14 +25,14 @@ use Rattle.ee_desk_model.specs.declared.replies.Ticket.{Ticket}
 use Rattle.ee_desk_model.specs.declared.replies.Batch.{Batch}
 use Rattle.ee_desk_model.specs.Serials.{serial_cmp}
 use Rattle.ee_desk_model.specs.Numbers.{number_cmp}
-use Rattle.ee_desk_model.specs.PlainBooks.{PlainBooks, ticket_of}
+use Rattle.ee_desk_model.specs.PlainBooks.{PlainBooks}
 use Rattle.ee_desk_model.specs.Seen.{held_as}
 use Rattle.ee_desk_model.specs.Sound.{IsSound, IsRightRate, day_of_batch, open_days}
 use Rattle.ee_desk_model.specs.Repeats.{Content}
 use Rattle.ee_desk_model.proofs.Lemmas.Maps.{serials_total, serials_exact, all_weaker, numbers_total, all_mapped, all_unmapped}
 use Rattle.ee_desk_decide.proofs.Lemmas.{all_entries}
-use Rattle.ee_desk_soundness.specs.Checks.{RiseBySerial}
-use Rattle.ee_desk_soundness.specs.Marks.{by_serial}
+use Rattle.ee_desk_soundness.specs.Checks.{HaveRisingSerials, InOrder, IsBefore}
+use Rattle.ee_desk_soundness.specs.Marks.{bond_of, AreMarked}
 use Rattle.ee_desk_soundness.proofs.Lemmas.{get_all, map_of_entries, rising_of_sorted}
 use Rattle.ee_desk_soundness.specs.Parts.{Parts, parts_of, row_of_entry}
 use Rattle.ee_desk_texts.specs.Ranges.{RateRowFits, BondFits, BatchFits}
@@ -51,13 +51,13 @@ use Rattle.ee_store_books.specs.Standing.{rate_rows, extension_entry, extension_
 use Rattle.ee_store_load.specs.Shown.{answer_map, desk_entry, rate_entry, bond_entry, ticket_entry, line_entry, batch_entry}
 use Rattle.ee_store_load.specs.Whole.{AreInOrder, rows_with}
 use Rattle.ee_store_contents.specs.Contents.{stored_desk, stored_rate, extension_row, stored_extension, held_bond, stored_ticket, placed_lines, stored_lines, stored_batch, AreRowsOf, PartsFit, KeepsAnswer}
-use Rattle.ee_store_contents.specs.Reading.{each, days_in, rates_in, bond_in, tickets_in, batch_in, parts_in}
+use Rattle.ee_store_contents.specs.Reading.{each, days_in, rates_in, tickets_in, batch_in, parts_in}
 use Rattle.ee_store_tables.proofs.Lemmas.Rows.{pair_total, pair_same}
 use Rattle.ee_store_books.proofs.Lemmas.Contents as contents
 use Rattle.ee_store_books.proofs.Lemmas.Contents.{sorted_entries, extension_entries, ticket_entries, ticket_lines, paid_entries, batch_entries, rising_front, days_in_range, right_bond_is_keyed, head_of, tail_of, some_from_bind}
 use Rattle.ee_store_contents.proofs.RatesBack.{rates_read, rates_is}
 use Rattle.ee_store_load.proofs.Lemmas.{bind_some}
-use Rattle.ee_store_contents.proofs.ReadBack.{each_read, each_is, days_read, days_is, bond_read, bond_is, tickets_read, tickets_is, batch_read, batch_is}
+use Rattle.ee_store_contents.proofs.ReadBack.{each_read, each_is, days_read, days_is, tickets_read, tickets_is, batch_read, batch_is}
 
 -- ---- lists
 pub fuse : {A B C : Type 0} (f : B → C) (g : A → B) (h : A → C) → ((x : A) → f (g x) ≡ h x) → (xs : List A) → map f (map g xs) ≡ map h xs
@@ -90,11 +90,12 @@ module _ {K L X Y : Type 0} (R : K → K → Ordering) (S : L → L → Ordering
   image_entries o exact m = sorted_entries o exact _ (subst T (sym (same_sorted (entries m))) (entries_sorted m))
 
 -- the serial numbers of bonds rise if their entries are sorted
-pub rows_rise : (rows : List Held) → T (is_sorted pair_cmp (map bond_entry rows)) → RiseBySerial (by_serial rows)
+pub rows_rise : (rows : List Held) → T (is_sorted pair_cmp (map bond_entry rows)) → HaveRisingSerials (map bond_of rows)
 rows_rise rows sorted =
-    rising_of_sorted serial_cmp (by_serial rows)
+    subst (InOrder IsBefore) (fuse (λ (e : SerialNumber × Held). e.0) (λ held. (held.bond.serial, held)) (λ held. held.bond.serial) (λ held. refl) rows ∙ sym (fuse (λ (bond : Bond). bond.serial) bond_of (λ held. held.bond.serial) (λ held. refl) rows))
+    (rising_of_sorted serial_cmp (map (λ (held : Held). (held.bond.serial, held)) rows)
     (subst T (sym (ap (is_sorted pair_cmp) (fuse (λ (e : SerialNumber × Held). (key_of e.0, bond_row e.1)) (λ held. (held.bond.serial, held)) bond_entry (λ held. refl) rows))
-    ∙ same_sorted serial_cmp pair_cmp key_of (λ k (held : Held). bond_row held) (λ q k. refl) (by_serial rows)) sorted)
+    ∙ same_sorted serial_cmp pair_cmp key_of (λ k (held : Held). bond_row held) (λ q k. refl) (map (λ (held : Held). (held.bond.serial, held)) rows)) sorted))
 
 rate_entries : (rates : FinMap nat_cmp Rates) → entries (rate_rows rates) ≡ map (λ e. (e.0, e.1.fixed)) (entries rates)
 rate_entries rates = image_entries nat_cmp nat_cmp (λ k. k) (λ k (rates : Rates). rates.fixed) (λ q k. refl) nat_cmp_total nat_cmp-IsAntisymmetric rates
@@ -229,25 +230,33 @@ parts_read parts stored are fit rising =
     (bind_some (rates_in stored.rates.items stored.extensions.items) parts.rates _ _
     ((λ i. rates_in (are.rates i) (are.extensions i)) ∙ rates_read parts.rates fit.rates (subst (λ rows. T (is_sorted nat_cmp (map rate_entry rows))) are.rates rising))
     (bind_some (tickets_in stored.tickets.items stored.lines.items) parts.tickets _ _ ((λ i. tickets_in (are.tickets i) (are.lines i)) ∙ tickets_read parts.tickets fit.tickets)
-    (bind_some (each (bond_in (ticket_of parts.tickets)) stored.bonds.items) parts.bonds _ _
-    (ap (each (bond_in (ticket_of parts.tickets))) are.bonds ∙ each_read (bond_in (ticket_of parts.tickets)) (held_bond parts.tickets) BondFits (bond_read parts.tickets) parts.bonds fit.bonds)
-    (bind_some (each batch_in stored.batches.items) parts.batches _ _ (ap (each batch_in) are.batches ∙ each_read batch_in stored_batch BatchFits batch_read parts.batches fit.batches) refl))))
+    (bind_some (each batch_in stored.batches.items) parts.batches _ _ (ap (each batch_in) are.batches ∙ each_read batch_in stored_batch BatchFits batch_read parts.batches fit.batches)
+    (λ i. Some (record parts { bonds = (ap (map bond_of) are.bonds ∙ undone (held_bond parts.tickets) bond_of (λ bond. refl) parts.bonds) i })))))
 
-pub parts_are : (parts : Parts) (stored : AllRows) → parts_in stored ≡ Some parts → AreRowsOf parts stored
+-- rows that name the tickets that pay their bonds are those of the bonds
+marked_rows : (tickets : List Ticket) (rows : List Held) → AreMarked tickets rows → rows ≡ map (held_bond tickets) (map bond_of rows)
+marked_rows tickets [] h = refl
+marked_rows tickets (x ∷ rows) h = λ i. record { bond = x.bond; ticket = h.0 i } ∷ marked_rows tickets rows h.1 i
+
+pub rows_marked : (tickets : List Ticket) (bonds : List Bond) → AreMarked tickets (map (held_bond tickets) bonds)
+rows_marked tickets [] = tt
+rows_marked tickets (b ∷ bonds) = (refl, rows_marked tickets bonds)
+
+pub parts_are : (parts : Parts) (stored : AllRows) → parts_in stored ≡ Some parts → AreMarked parts.tickets stored.bonds.items → AreRowsOf parts stored
 unfolding parts_in
-parts_are parts stored e =
+parts_are parts stored e marked =
     let days = some_from_bind (days_in (version_of stored.form) stored.desk.items) _ parts e in
     let rates = some_from_bind (rates_in stored.rates.items stored.extensions.items) _ parts days.2 in
     let tickets = some_from_bind (tickets_in stored.tickets.items stored.lines.items) _ parts rates.2 in
-    let bonds = some_from_bind (each (bond_in (ticket_of tickets.0)) stored.bonds.items) _ parts tickets.2 in
-    let batches = some_from_bind (each batch_in stored.batches.items) _ parts bonds.2 in
+    let batches = some_from_bind (each batch_in stored.batches.items) _ parts tickets.2 in
+    let is = same_Some _ parts batches.2 in
     let terms = rates_is stored.rates.items stored.extensions.items rates.0 rates.1 in
     let paid = tickets_is stored.tickets.items stored.lines.items tickets.0 tickets.1 in
-    subst (λ p. AreRowsOf p stored) (same_Some _ parts batches.2) (record {
+    subst (λ p. AreRowsOf p stored) is (record {
       desk = days_is (version_of stored.form) stored.desk.items days.0 days.1;
       rates = terms.0;
       extensions = terms.1;
-      bonds = each_is (bond_in (ticket_of tickets.0)) (held_bond tickets.0) (bond_is tickets.0) stored.bonds.items bonds.0 bonds.1;
+      bonds = marked_rows tickets.0 stored.bonds.items (subst (λ ts. AreMarked ts stored.bonds.items) (sym (ap (λ (p : Parts). p.tickets) is)) marked);
       tickets = paid.0;
       lines = paid.1;
       batches = each_is batch_in stored_batch batch_is stored.batches.items batches.0 batches.1;

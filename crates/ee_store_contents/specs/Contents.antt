@@ -16,7 +16,7 @@ use Rattle.ee_desk_model.specs.Seen.{held_as}
 use Rattle.ee_desk_model.specs.Sound.{IsDay}
 use Rattle.ee_desk_model.specs.UnitTables.{rates_cmp}
 use Rattle.ee_desk_soundness.specs.Parts.{Parts}
-use Rattle.ee_desk_soundness.specs.Marks.{bonds_listed}
+use Rattle.ee_desk_soundness.specs.Marks.{bond_of}
 use Rattle.ee_store_contents.specs.declared.parts.ReadParts.{ReadParts}
 use Rattle.ee_desk_texts.specs.Texts.{act_text, reply_text}
 use Rattle.ee_desk_texts.specs.Ranges.{RateRowFits, BondFits, TicketFits, BatchFits}
@@ -79,7 +79,7 @@ pub record AreRowsOf (parts : Parts) (stored : AllRows) : Type 0 where
 abbrev pub parts_of_read : ReadParts → Parts
 parts_of_read read = record {
   rates = read.rates.items;
-  bonds = bonds_listed read.bonds;
+  bonds = map bond_of read.bonds.items;
   day = read.day;
   last_day = read.last_day;
   tickets = read.tickets.items;

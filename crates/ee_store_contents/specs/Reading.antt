@@ -1,18 +1,13 @@
 -- The values that the rows of the tables represent.
-use Rattle.std.specs.Prelude.{ℕ, ◌+◌, nat_le, ◌&&◌, ◌==◌, nat_eq, List, [], ◌∷◌, length, take, drop, Option, Some, None, if◌then◌else◌}
-use Rattle.std.specs.Option.{option_map, option_eq}
-use Rattle.std.specs.Map.{lookup}
-use Rattle.std.specs.BTreeMap.{is_at}
-use Rattle.ee_units.specs.Spelling.{SerialNumber, in_range, ◌>>=◌}
+use Rattle.std.specs.Prelude.{ℕ, ◌+◌, nat_le, ◌&&◌, ◌==◌, List, [], ◌∷◌, length, map, take, drop, Option, Some, None, if◌then◌else◌}
+use Rattle.std.specs.Option.{option_map}
+use Rattle.ee_units.specs.Spelling.{in_range, ◌>>=◌}
 use Rattle.ee_value.specs.declared.rates.RateRow.{RateRow}
 use Rattle.ee_value.specs.Chain.{rates_with}
-use Rattle.ee_calculator.specs.declared.bonds.Bond.{Bond}
-use Rattle.ee_desk_model.specs.declared.changes.Held.{Held}
 use Rattle.ee_desk_model.specs.declared.replies.Line.{Line}
 use Rattle.ee_desk_model.specs.declared.replies.Ticket.{Ticket}
 use Rattle.ee_desk_model.specs.declared.replies.Batch.{Batch}
-use Rattle.ee_desk_model.specs.PlainBooks.{ticket_of}
-use Rattle.ee_desk_model.specs.Serials.{serial_cmp}
+use Rattle.ee_desk_soundness.specs.Marks.{bond_of}
 use Rattle.ee_desk_soundness.specs.Parts.{Parts}
 use Rattle.ee_store_contents.specs.declared.reading.Days.{Days}
 use Rattle.ee_store_books.specs.Lines.{line_with}
@@ -88,10 +83,6 @@ rates_in [] (extension ∷ extensions) = None
 rates_in (row ∷ rows) extensions =
     rate_in (extension_of row.period extensions) row >>= λ rate. rates_in rows (after_extension row.period extensions) >>= λ rates. Some (rate ∷ rates)
 
--- a bond whose row names the ticket that pays it
-abbrev pub bond_in : (SerialNumber → Option ℕ) → Held → Option Bond
-bond_in paid held = if option_eq nat_eq held.ticket (paid held.bond.serial) then Some held.bond else None
-
 -- the line at this place of a ticket
 abbrev pub line_at : ℕ → ℕ → StoredLine → Option Line
 line_at ticket place row = if (row.ticket == ticket) && (row.place == place) then line_with row.letter row.number row.cents else None
@@ -125,16 +116,11 @@ batch_in row = do
   day ← day_in row.day
   Some (record { day = day; tickets = row.tickets; bonds = row.bonds; total = record { 0 = row.total } })
 
--- the ticket that pays a serial number
-abbrev pub mark_at : List (SerialNumber × ℕ) → SerialNumber → Option ℕ
-mark_at marks serial = lookup (is_at (serial_cmp serial)) marks
-
 -- the parts of the books with these rows, if there are such books
 unfoldable pub parts_in : AllRows → Option Parts
 parts_in stored = do
   days ← days_in (version_of stored.form) stored.desk.items
   rates ← rates_in stored.rates.items stored.extensions.items
   tickets ← tickets_in stored.tickets.items stored.lines.items
-  bonds ← each (bond_in (ticket_of tickets)) stored.bonds.items
   batches ← each batch_in stored.batches.items
-  Some (record { rates = rates; bonds = bonds; day = days.day; last_day = days.last_day; tickets = tickets; batches = batches })
+  Some (record { rates = rates; bonds = map bond_of stored.bonds.items; day = days.day; last_day = days.last_day; tickets = tickets; batches = batches })

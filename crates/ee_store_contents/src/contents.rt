@@ -1,13 +1,12 @@
 //! The books that the rows of a store represent.
 
 ghost use Rattle.std.specs.Prelude.{◌≡◌, ◌↔◌, Some, None, IfOk, IfErr, IfSome, map, option_map};
-ghost use Rattle.ee_desk_model.specs.PlainBooks.{ticket_of};
 ghost use Rattle.ee_desk_model.specs.Repeats.{Content};
 ghost use Rattle.ee_desk_soundness.specs.Parts.{AreUnsound};
-ghost use Rattle.ee_desk_soundness.specs.Checks.{RiseBySerial};
-ghost use Rattle.ee_desk_soundness.specs.Marks.{bonds_listed, by_serial, unpaid};
+ghost use Rattle.ee_desk_soundness.specs.Checks.{HaveRisingSerials};
+ghost use Rattle.ee_desk_soundness.specs.Marks.{bond_of, AreMarked};
 ghost use Rattle.ee_desk_soundness.specs.Made.{IsMadeOf};
-ghost use Rattle.ee_store_contents.specs.Reading.{each, bond_in, tickets_in, parts_in};
+ghost use Rattle.ee_store_contents.specs.Reading.{tickets_in, parts_in};
 ghost use Rattle.ee_store_tables.specs.Rows.{Rows as TableRows};
 ghost use Rattle.ee_store_load.specs.Whole.{AreInOrder, AreRead};
 ghost use Rattle.ee_store_books.specs.Standing.{StandAt};
@@ -15,14 +14,13 @@ ghost use Rattle.ee_store_schema.specs.Forms.{version_of};
 ghost use Rattle.ee_store_contents.specs.Contents.{PartsFit, parts_of_read, KeepsAnswer, tables_for};
 
 use crate::invariants::parts_fit;
-use crate::marks::marks_of;
 use crate::parts::ReadParts;
 use crate::rates::rates_in;
-use crate::reading::{batches_in, bonds_in, days_in};
+use crate::reading::{batches_in, days_in};
 use crate::tickets::tickets_in;
 use crate::unit_tables::kept_tables;
-use ee_desk_model::{Held, Ticket, UnitTables};
-use ee_desk_soundness::{Indexes, PartsFault, SortedBonds, checked_bonds};
+use ee_desk_model::{Ticket, UnitTables};
+use ee_desk_soundness::{Indexes, PartsFault, checked};
 use ee_store_load::{AllRows, StoredLine, StoredTicket};
 use ee_store_schema::StoredAnswer;
 use std::alloc::{AllocError, Global};
@@ -62,27 +60,12 @@ fn own_tickets(
     tickets_in(alloc, &rows, &lines)
 }
 
-/// The bonds of rows that these tickets pay, as `bonds_in`.
-fn own_bonds(
-    alloc: Global,
-    tickets: &[Ticket],
-    rows: Vec<Held>,
-) -> Result<Option<SortedBonds>, AllocError>
-    requires { RiseBySerial (by_serial rows.items) }
-    ensures value { IfOk result (λ o. option_map bonds_listed o ≡ each (bond_in (ticket_of tickets.now)) rows.items) }
-    ensures unpaid { IfOk result (λ o. IfSome o (λ bonds. bonds ≡ map unpaid (bonds_listed bonds))) }
-{
-    let marks = marks_of(alloc, tickets)?;
-    Ok(bonds_in(&marks, rows))
-}
-
 /// The parts of the books with these rows. Drops the rows of each table as soon as their parts are made.
 #[tactic(auto, unfolding(crate::specs::Reading::parts_in))]
 fn parts_in(alloc: Global, stored: AllRows) -> Result<Option<ReadParts>, AllocError>
-    requires { RiseBySerial (by_serial stored.bonds.items) }
     ensures value { IfOk result (λ o. option_map parts_of_read o ≡ parts_in stored) }
     ensures fits { IfOk result (λ o. IfSome o (λ found. PartsFit (parts_of_read found))) }
-    ensures unpaid { IfOk result (λ o. IfSome o (λ found. found.bonds ≡ map unpaid (bonds_listed found.bonds))) }
+    ensures rows { IfOk result (λ o. IfSome o (λ found. found.bonds.items ≡ stored.bonds.items)) }
 {
     let AllRows {
         form,
@@ -104,9 +87,6 @@ fn parts_in(alloc: Global, stored: AllRows) -> Result<Option<ReadParts>, AllocEr
     let Some(tickets) = own_tickets(alloc, tickets, lines)? else {
         return Ok(None);
     };
-    let Some(bonds) = own_bonds(alloc, &tickets, bonds)? else {
-        return Ok(None);
-    };
     let Some(batches) = batches_in(alloc, &batches)? else {
         return Ok(None);
     };
@@ -124,10 +104,9 @@ fn parts_in(alloc: Global, stored: AllRows) -> Result<Option<ReadParts>, AllocEr
 
 /// The parts of the books with these rows. Drops the rows.
 fn right_parts(alloc: Global, stored: AllRows) -> Result<ReadParts, ContentFault>
-    requires { RiseBySerial (by_serial stored.bonds.items) }
     ensures found { IfOk result (λ parts. Some (parts_of_read parts) ≡ parts_in stored) }
     ensures fits { IfOk result (λ parts. PartsFit (parts_of_read parts)) }
-    ensures unpaid { IfOk result (λ parts. parts.bonds ≡ map unpaid (bonds_listed parts.bonds)) }
+    ensures rows { IfOk result (λ parts. parts.bonds.items ≡ stored.bonds.items) }
     ensures none { IfErr result (λ fault. fault ≡ ContentFault.Unusable → None ≡ parts_in stored) }
 {
     match parts_in(alloc, stored)? {
@@ -154,11 +133,13 @@ fn fault_of(fault: PartsFault) -> ContentFault
     }
 }
 
-/// What is made of these parts while they are checked; `Unusable` if no sound books have them. Drops the parts.
+/// What is made of these parts while they are checked; `Unusable` if no sound books have them, or if a row names
+/// another ticket than the one that pays its bond. Drops the parts.
 fn indexes_of(alloc: Global, parts: ReadParts) -> Result<Indexes, ContentFault>
-    requires { parts.bonds ≡ map unpaid (bonds_listed parts.bonds) }
+    requires { HaveRisingSerials (map bond_of parts.bonds.items) }
     ensures ok { IfOk result (IsMadeOf (parts_of_read parts)) }
-    ensures unusable { IfErr result (λ fault. fault ≡ ContentFault.Unusable → AreUnsound (parts_of_read parts)) }
+    ensures marked { IfOk result (λ _. AreMarked parts.tickets.items parts.bonds.items) }
+    ensures unusable { IfErr result (λ fault. fault ≡ ContentFault.Unusable → AreMarked parts.tickets.items parts.bonds.items → AreUnsound (parts_of_read parts)) }
 {
     let ReadParts {
         rates,
@@ -168,7 +149,7 @@ fn indexes_of(alloc: Global, parts: ReadParts) -> Result<Indexes, ContentFault>
         tickets,
         batches,
     } = parts;
-    match checked_bonds(alloc, &rates, bonds, day, last_day, &tickets, &batches) {
+    match checked(alloc, &rates, &bonds, day, last_day, &tickets, &batches) {
         Ok(indexes) => Ok(indexes),
         Err(fault) => Err(fault_of(fault)),
     }

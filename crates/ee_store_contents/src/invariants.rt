@@ -52,7 +52,7 @@ pub fn parts_fit(parts: &ReadParts)
     optional_day_fits(parts.day);
     optional_day_fits(parts.last_day);
     rate_rows_fit(&parts.rates);
-    held_fit(parts.bonds.held());
+    held_fit(&parts.bonds);
     tickets_fit(&parts.tickets);
     batches_fit(&parts.batches);
 }

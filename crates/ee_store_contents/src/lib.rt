@@ -9,7 +9,6 @@
 mod answers;
 mod contents;
 mod invariants;
-mod marks;
 mod parts;
 mod rates;
 mod reading;

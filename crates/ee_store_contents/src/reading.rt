@@ -1,17 +1,12 @@
 //! The values that the rows of one table represent.
 
-ghost use Rattle.std.specs.Prelude.{◌≡◌, Some, None, IfOk, IfSome, map, option_map, if◌then◌else◌};
-ghost use Rattle.ee_desk_soundness.specs.Checks.{RiseBySerial};
-ghost use Rattle.ee_desk_soundness.specs.Marks.{bond_of, bonds_listed, by_serial, unpaid};
-ghost use Rattle.ee_store_contents.specs.Reading.{each, optional_in, day_in, days_of, days_in, bond_in, batch_in, mark_at};
+ghost use Rattle.std.specs.Prelude.{◌≡◌, IfOk, option_map};
+ghost use Rattle.ee_store_contents.specs.Reading.{each, optional_in, day_in, days_of, days_in, batch_in};
 
-use ee_calculator::Bond;
-use ee_desk_model::{Batch, Held};
-use ee_desk_soundness::SortedBonds;
+use ee_desk_model::Batch;
 use ee_store_load::{StoredBatch, StoredDesk};
-use ee_units::{Cents, Day, Serial};
+use ee_units::{Cents, Day};
 use std::alloc::{AllocError, Global};
-use std::collections::BTreeMap;
 
 /// The open day and the last closed day.
 #[derive(Clone, Copy)]
@@ -53,39 +48,6 @@ pub fn days_in(version: u64, rows: &[StoredDesk]) -> Option<Days>
     }
     if row.id == 1 && row.version == version {
         days_of(row)
-    } else {
-        None
-    }
-}
-
-/// The ticket that pays a bond.
-fn mark_of(marks: &BTreeMap<Serial, u64>, bond: &Bond) -> Option<u64>
-    ensures { result ≡ mark_at marks.now.entries bond.now.serial }
-{
-    marks.get(&bond.serial).copied()
-}
-
-/// Whether each row names the ticket that pays its bond.
-fn are_marked(marks: &BTreeMap<Serial, u64>, rows: &[Held]) -> bool
-    ensures { (if result then Some (map bond_of rows.now) else None) ≡ each (bond_in (mark_at marks.now.entries)) rows.now }
-{
-    for held in rows {
-        if held.ticket != mark_of(marks, &held.bond) {
-            return false;
-        }
-    }
-    true
-}
-
-/// The bonds of rows, all unpaid, if each row names the ticket that pays its bond. The rows are sorted by serial
-/// number. Takes no memory.
-pub fn bonds_in(marks: &BTreeMap<Serial, u64>, rows: Vec<Held>) -> Option<SortedBonds>
-    requires { RiseBySerial (by_serial rows.items) }
-    ensures value { option_map bonds_listed result ≡ each (bond_in (mark_at marks.now.entries)) rows.items }
-    ensures unpaid { IfSome result (λ bonds. bonds ≡ map unpaid (bonds_listed bonds)) }
-{
-    if are_marked(marks, &rows) {
-        Some(SortedBonds::unmarked(rows))
     } else {
         None
     }

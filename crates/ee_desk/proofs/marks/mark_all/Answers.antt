@@ -1,7 +1,7 @@
 use Rattle.std.proofs.Common.{take}
 use Rattle.std.specs.List.{list_any}
 use Rattle.ee_desk_model.specs.Serials.{same_serial}
-use Rattle.ee_desk_soundness.proofs.Lemmas.{same_bonds}
+use Rattle.ee_desk.proofs.PaidMarks.{same_bonds}
 use Rattle.ee_desk.proofs.marks.mark_all.Goals as goal
 
 pub returns-clause-bonds : goal.returns-clause-bonds

@@ -1,7 +1,5 @@
 use Rattle.std.proofs.Common.{rules, ◌≡◌, Some}
-use Rattle.ee_desk_model.specs.PlainBooks.{ticket_of}
-use Rattle.ee_desk_soundness.specs.Marks.{bonds_listed}
-use Rattle.ee_store_contents.specs.Reading.{each, days_in, rates_in, bond_in, tickets_in, batch_in}
+use Rattle.ee_store_contents.specs.Reading.{each, days_in, rates_in, tickets_in, batch_in}
 use Rattle.ee_store_schema.specs.Forms.{version_of}
 use Rattle.ee_store_contents.proofs.FoundParts.{parts_found}
 use Rattle.ee_store_contents.proofs.contents.parts_in.Goals as goal
@@ -12,9 +10,8 @@ returns-clause-value c =
     let days : days_in (version_of stored.form) stored.desk.items ≡ Some c.in-Some.days = search rules in
     let rates : rates_in stored.rates.items stored.extensions.items ≡ Some c.in-Some-2.rates.items = search rules in
     let tickets : tickets_in stored.tickets.items stored.lines.items ≡ Some c.in-Some-3.tickets.items = search rules in
-    let bonds : each (bond_in (ticket_of c.in-Some-3.tickets.items)) stored.bonds.items ≡ Some (bonds_listed c.in-Some-4.bonds) = search rules in
-    let batches : each batch_in stored.batches.items ≡ Some c.in-Some-5.batches.items = search rules in
-    parts_found stored c.in-Some.days c.in-Some-2.rates.items c.in-Some-3.tickets.items (bonds_listed c.in-Some-4.bonds) c.in-Some-5.batches.items days rates tickets bonds batches
+    let batches : each batch_in stored.batches.items ≡ Some c.in-Some-4.batches.items = search rules in
+    parts_found stored c.in-Some.days c.in-Some-2.rates.items c.in-Some-3.tickets.items c.in-Some-4.batches.items days rates tickets batches
 
 pub returns-clause-fits : goal.returns-clause-fits
 returns-clause-fits c = search rules
@@ -28,9 +25,6 @@ returns-in_default-3-clause-fits c = search rules
 pub returns-in_default-4-clause-fits : goal.returns-in_default-4-clause-fits
 returns-in_default-4-clause-fits c = search rules
 
-pub returns-in_default-5-clause-fits : goal.returns-in_default-5-clause-fits
-returns-in_default-5-clause-fits c = search rules
-
 pub returns-in_default-clause-fits : goal.returns-in_default-clause-fits
 returns-in_default-clause-fits c = search rules
 
@@ -39,12 +33,6 @@ returns-in_err-batches-clause-fits c = search rules
 
 pub returns-in_err-batches-clause-value : goal.returns-in_err-batches-clause-value
 returns-in_err-batches-clause-value c = search rules
-
-pub returns-in_err-bonds-clause-fits : goal.returns-in_err-bonds-clause-fits
-returns-in_err-bonds-clause-fits c = search rules
-
-pub returns-in_err-bonds-clause-value : goal.returns-in_err-bonds-clause-value
-returns-in_err-bonds-clause-value c = search rules
 
 pub returns-in_err-rates-clause-fits : goal.returns-in_err-rates-clause-fits
 returns-in_err-rates-clause-fits c = search rules

@@ -1,11 +1,11 @@
-use Rattle.std.proofs.Common.{◌≡◌, map, sym, ◌∙◌, subst}
-use Rattle.std.specs.Prelude.{Result, Ok, Err, IfErr, IsErrAnd, T}
-use Rattle.std.specs.FinMap.{is_sorted}
+use Rattle.std.proofs.Common.{◌≡◌, List, map, sym, ap, ◌∙◌, subst}
+use Rattle.std.specs.Prelude.{Result, Ok, Err, IfErr, IsErrAnd}
 use Rattle.std.proofs.lemmas.Bool.{not-true, not-false}
+use Rattle.ee_desk_model.specs.declared.changes.Held.{Held}
 use Rattle.ee_desk_model.specs.Repeats.{Content}
-use Rattle.ee_store_tables.specs.Keyed.{pair_cmp}
+use Rattle.ee_desk_soundness.specs.Checks.{HaveRisingSerials}
+use Rattle.ee_desk_soundness.specs.Marks.{bond_of, AreMarked}
 use Rattle.ee_store_tables.specs.Rows.{Rows}
-use Rattle.ee_store_load.specs.Shown.{bond_entry}
 use Rattle.ee_store_load.specs.Whole.{AreRead}
 use Rattle.ee_store_load.specs.declared.whole.AllRows.{AllRows}
 use Rattle.ee_store_books.specs.Standing.{StandAt}
@@ -38,7 +38,8 @@ returns-in_err-indexes-clause-unusable c =
     let rest = c.take_earlier-answers.new.stored in
     handed_on (λ fault. fault ≡ Unusable → (rows : Rows) → AreRead KeepsAnswer stored rows → (content : Content) → StandAt (version_of stored.form) rows content → ⊥) c.from_residual-in_err-indexes.result c.in_err-indexes.field-0.0
     c.from_residual-in_err-indexes.ensures.1
-    (λ is rows read content stands. not_sound stored rows c.requires read (parts_of_read c.in_ok-parts.parts) (c.in_ok-parts.ensures.found ∙ same_parts stored rest c.take_earlier-answers.ensures.rest) (c.in_err-indexes.ensures.unusable is) content stands)
+    (λ is rows read content stands. not_sound stored rows c.requires read (parts_of_read c.in_ok-parts.parts) (c.in_ok-parts.ensures.found ∙ same_parts stored rest c.take_earlier-answers.ensures.rest)
+    (λ marked. c.in_err-indexes.ensures.unusable is (subst (AreMarked c.in_ok-parts.parts.tickets.items) (sym (c.in_ok-parts.ensures.rows ∙ ap (λ (r : AllRows). r.bonds.items) c.take_earlier-answers.ensures.rest)) marked)) content stands)
 
 pub returns-clause-ok : goal.returns-clause-ok
 returns-clause-ok c rows read =
@@ -46,9 +47,11 @@ returns-clause-ok c rows read =
     let rest = c.take_earlier-answers.new.stored in
     let made = c.in_ok-indexes.ensures.ok in
     let found = tables_founded stored rows c.requires read (parts_of_read c.in_ok-parts.parts) c.in_ok-indexes.indexes.terms.entries
-    (c.in_ok-parts.ensures.found ∙ same_parts stored rest c.take_earlier-answers.ensures.rest) c.in_ok-parts.ensures.fits (not-false stored.replies.pass c.if-not-stored.false) made.sound made.rates in
+    (c.in_ok-parts.ensures.found ∙ same_parts stored rest c.take_earlier-answers.ensures.rest) c.in_ok-parts.ensures.fits
+    (subst (AreMarked c.in_ok-parts.parts.tickets.items) (c.in_ok-parts.ensures.rows ∙ ap (λ (r : AllRows). r.bonds.items) c.take_earlier-answers.ensures.rest) c.in_ok-indexes.ensures.marked) (not-false stored.replies.pass c.if-not-stored.false) made.sound made.rates in
     (found.0, c.in_ok-tables.ensures ∙ found.1, found.2)
 
-pub right_parts-requires : goal.right_parts-requires
-right_parts-requires c =
-    rows_rise _ (subst (λ (rows : AllRows). T (is_sorted pair_cmp (map bond_entry rows.bonds.items))) (sym c.take_earlier-answers.ensures.rest) c.requires.bonds)
+pub indexes_of-requires : goal.indexes_of-requires
+indexes_of-requires c =
+    subst (λ (rows : List Held). HaveRisingSerials (map bond_of rows)) (sym (c.in_ok-parts.ensures.rows ∙ ap (λ (r : AllRows). r.bonds.items) c.take_earlier-answers.ensures.rest))
+    (rows_rise c.args.stored.bonds.items c.requires.bonds)

@@ -2,7 +2,7 @@ use Rattle.std.proofs.Common.{sym, ap, ◌∙◌, subst}
 use Rattle.std.specs.List.{AllByRecursion}
 use Rattle.std.proofs.lemmas.Result.{on_ok_weaker, on_err_weaker}
 use Rattle.ee_desk_model.specs.PlainBooks.{PlainBooks}
-use Rattle.ee_desk_soundness.specs.Marks.{AreMarked}
+use Rattle.ee_desk.specs.Marks.{AreMarked}
 use Rattle.ee_desk.specs.Kept.{books_of}
 use Rattle.ee_desk_decide.specs.NewRows.{bond_row, AreNew}
 use Rattle.ee_desk.specs.Added.{with_changes}

@@ -3,16 +3,16 @@ use Rattle.std.specs.List.{list_any}
 use Rattle.std.specs.Option.{option_map}
 use Rattle.ee_desk_model.specs.Serials.{same_serial}
 use Rattle.ee_desk_model.specs.PlainBooks.{PlainBooks}
-use Rattle.ee_desk_soundness.specs.Marks.{held_at, marked}
+use Rattle.ee_desk.specs.Marks.{held_at, marked}
 use Rattle.ee_desk_decide.specs.Applicable.{IsNextTicket}
-use Rattle.ee_desk_soundness.proofs.Lemmas.{marked_with_ticket}
+use Rattle.ee_desk.proofs.PaidMarks.{ticket_kept}
 use Rattle.ee_desk.proofs.Counts.{counts_more}
 use Rattle.ee_desk.proofs.ledger.Ledger.add_ticket.Goals as goal
 
 pub invariant_of-self-2 : goal.invariant_of-self-2
 invariant_of-self-2 c =
     let next = subst (λ (b : PlainBooks). IsNextTicket b c.args.ticket.now) (sym c.self.view_is) c.requires in (
-      marked_with_ticket c.self.inside.bonds.entries c.mark_all.new.bonds.entries c.self.inside.tickets.items c.push.new.self.items c.args.ticket.now c.self.invariant.0
+      ticket_kept c.self.inside.bonds.entries c.mark_all.new.bonds.entries c.self.inside.tickets.items c.push.new.self.items c.args.ticket.now c.self.invariant.0
           next.0 (search rules) (λ q. c.mark_all.ensures.marked q
           ∙ ap (λ ls. option_map (marked (list_any (λ line. same_serial q line.serial) ls) c.args.ticket.now.ticket) (held_at c.self.inside.bonds.entries q)) c.as_slice.ensures),
       counts_more c.self.inside.day c.self.inside.tickets.items c.push.new.self.items c.args.ticket.now c.self.inside.counts
