@@ -11,7 +11,9 @@ from tests.conftest import TOP
 
 BANK, RUNNING, CODE = "specs/Bank.antt", "specs/Running.antt", "src/running.rt"
 STOPPED = "src/stopping.rt"
-TEXTS = {it: (TOP / "crates/ee_cli_stores" / it).read_text() for it in (BANK, RUNNING, CODE, STOPPED)}
+TEXTS = {
+    it: (TOP / "crates/ee_cli_stores" / it).read_text() for it in (BANK, RUNNING, CODE, STOPPED)
+}
 
 
 def names(statement: str) -> set[str]:
