@@ -25,7 +25,7 @@ use std::alloc::Global;
 use std::io::Write;
 
 /// The store in two files, which is opened as `StoreFiles` opens one, and is never closed. The files are of any kind: also
-/// of one that passes so many calls on, and then fails every call and changes nothing (`Fuse` of `sqlite_disk`).
+/// of one that passes on so many calls, fails each later one, and then changes nothing (`Fuse` of `sqlite_disk`).
 #[derive(Drop)]
 pub struct StoppingFiles<D: Disk> {
     pub alloc: Global,
