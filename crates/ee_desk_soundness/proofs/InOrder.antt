@@ -39,17 +39,6 @@ module _ {K : Type 0} (R : K → K → Type 0) (trans : (a b c : K) → R a b �
       let here = subst (λ ks. Follows R last ks ↔ H) (ap g (left_is xs i x h is) ∙ e x (drop (i + 1) xs)) inv in
       (λ p. here.0 (on.1 p), λ p. on.0 (here.1 p))
 
-  -- one that isn't in order
-  pub disordered : {X : Type 0} (f : X → K) (g : List X → List K) → ((x : X) (xs : List X) → g (x ∷ xs) ≡ f x ∷ g xs)
-      → (xs : List X) (i : ℕ) (x : X) (last : Option K) (H : Type 0) → i < length xs → x ≡ get_or xs i x → (IsAfter R last (f x) → ⊥)
-      → (Follows R last (g (drop i xs)) ↔ H) → H → ⊥
-  disordered f g e xs i x last H h is apart inv p =
-      by_case last apart (subst (λ ks. Follows R last ks) (ap g (left_is xs i x h is) ∙ e x (drop (i + 1) xs)) (inv.1 p))
-    where
-      by_case : (o : Option K) → (IsAfter R o (f x) → ⊥) → Follows R o (f x ∷ g (drop (i + 1) xs)) → ⊥
-      by_case None apart q = apart tt
-      by_case (Some j) apart q = apart q.0.0
-
 -- the open day, after the closed ones
 pub open_follows : (R : ℕ → ℕ → Type 0) (last day : Option ℕ) → IfSome day (IsAfter R last) ↔ Follows R last (open_days day)
 open_follows R None None = (λ h. (tt, tt), λ h. tt)
