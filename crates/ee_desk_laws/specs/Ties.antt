@@ -11,10 +11,6 @@ use Rattle.ee_desk_laws.specs.Events.Event.{Stop_between, Reopen}
 abbrev pub Leaves : {Disk : Type 0} → (Disk → Content → Type 0) → (Disk → Type 0) → World → Type 0
 Leaves Stands may_leave w = (disk : _) → may_leave disk → (left : Content) × Contains w.may left × Stands disk left
 
--- a keeper has the world's content, and a crash leaves what the world may leave
-abbrev pub Follows : {Disk Keeper : Type 0} → (Disk → Content → Type 0) → (Keeper → Content → Type 0) → (Keeper → Disk → Type 0) → Keeper → World → Type 0
-Follows Stands has may_leave keeper w = has keeper w.now × Leaves Stands (may_leave keeper) w
-
 -- a reply to a number that wasn't kept: a crash leaves only the new content
 abbrev pub LeavesNew : {Disk Store : Type 0} → (Disk → Content → Type 0) → (Store → Disk → Type 0) → Type 0
 LeavesNew Stands may_leave = (store : _) (w : World) (q : Request) (told : List Told)

@@ -136,7 +136,3 @@ pub record IsRight (content : Content) : Type 0 where
 pub record StandAt (version : ℕ) (rows : Rows) (content : Content) : Type 0 where
   pub are : rows ≡ rows_at version content
   pub right : IsRight content
-
--- the rows are those of the content, in version 2
-abbrev pub StandFor : Rows → Content → Type 0
-StandFor rows content = StandAt 2 rows content

@@ -29,7 +29,7 @@ use Rattle.sqlite.specs.declared.error.Error.{Error}
 use Rattle.sqlite.specs.declared.error.Error.TheVariants.{SqliteFailure}
 use Rattle.sqlite.specs.declared.error.ErrorCode.TheVariants as code
 use Rattle.ee_store_files.specs.Damage.{BeginsAsLog}
-use Rattle.ee_store_files.specs.Opening.{error_of_probe, Fails, FailsToRead, IsToOpen, Refuses, IsLongFor, IsLongLog, IsForeign}
+use Rattle.ee_store_files.specs.Opening.{error_of_probe, Fails, FailsToRead, IsToOpen, Refuses, IsLongFor, IsForeign}
 use Rattle.ee_store_files.proofs.Frames.{AreOpen}
 use Rattle.ee_store_files.proofs.Stops.{named_size}
 
@@ -148,9 +148,6 @@ long_by page_size from to log all are within = elim (cases_lt from 0xffff_ffff) 
 
 pub too_long : (page_size : ℕ) (image : Image) → IsLogFor page_size image.log → IsLongFor page_size image.log → IsTooLong image
 too_long page_size image named long = (page_size, (λ _. sym named.1, λ ignored. absurd (named.0 ignored)), inl long)
-
-pub log_too_long : (image : Image) → IsLongLog image.log → IsTooLong image
-log_too_long image it = too_long it.0 image it.1 it.2
 
 -- a log that recovery refuses
 pub foreign_if : (page_size : ℕ) (log : List ℕ) → IsLogFor page_size log → ((k : ℕ) → ¬ Replays page_size log k) → IsForeign log

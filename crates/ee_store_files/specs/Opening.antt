@@ -6,7 +6,7 @@ use Rattle.sqlite_disk.specs.Disk.{MoreFaults}
 use Rattle.sqlite_wal.specs.declared.error.Error as log_error
 use Rattle.sqlite_wal.specs.declared.error.Error.TheVariants as log
 use Rattle.sqlite_wal.specs.PageSize.{IsPageSize}
-use Rattle.sqlite_wal.specs.Recovery.{Image, frame_at, IsLogFor, Replays}
+use Rattle.sqlite_wal.specs.Recovery.{Image, frame_at, Replays}
 use Rattle.sqlite.specs.Tree.{Trees}
 use Rattle.sqlite.specs.State.{is_disk_error}
 use Rattle.sqlite.specs.Files.{image_of, faults_of, faults_left, HoldsDatabase, IsNothing, IsTooLong, IsFullLeft}
@@ -30,9 +30,6 @@ Fails old new AtLimit e =
 -- 32 bits don't number the frames of the log
 abbrev pub IsLongFor : ℕ → List ℕ → Type 0
 IsLongFor page_size log = frame_at page_size 0xffff_fffe ≤ length log
-
-abbrev pub IsLongLog : List ℕ → Type 0
-IsLongLog log = (page_size : ℕ) × IsLogFor page_size log × IsLongFor page_size log
 
 -- the error for a log that couldn't be examined, or that recovery refuses
 abbrev pub error_of_probe : log_error.Error → Error
