@@ -1,3 +1,4 @@
+mod StoredRows
 mod ReadBack
 mod RatesBack
 mod RowsOfBooks

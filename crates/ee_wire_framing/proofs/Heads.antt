@@ -7,11 +7,21 @@ use Rattle.std.proofs.lemmas.List.Elements.{All-head, All-tail}
 use Rattle.httparse.specs.declared.Error.{Error}
 use Rattle.httparse.specs.declared.Error.TheVariants.{HeaderName, HeaderValue, NewLine, Status, Token, TooManyHeaders, Version}
 use Rattle.httparse.specs.declared.spans.Span.{Span}
-use Rattle.httparse.specs.Grammar.{LineEnd, crlf, lf, print_end, print_blank, print_version, Field, print_field, IsField, RequestHead, print_request, NeverHasRequest}
+use Rattle.httparse.specs.Ascii.{line_feed}
+use Rattle.httparse.specs.Grammar.{LineEnd, crlf, lf, print_end, print_blank, print_version, Field, print_field, IsField, RequestHead, print_request, HasNoRequest, NeverHasRequest}
 use Rattle.httparse.specs.Spans.{RequestExceeds, IsWithin, span_bytes}
 use Rattle.ee_wire_framing.specs.declared.head.Head.{Head}
 use Rattle.ee_wire_framing.specs.Framing.{IsUndecided, HasBadHead}
-use Rattle.ee_wire_framing.specs.Heads.{IsLines, IsHeadAt, AreOpen}
+use Rattle.ee_wire_framing.specs.Heads.{IsLines, IsHeadAt}
+
+-- the lines begin no head, and more bytes may change that
+pub record IsOpen (lines : List ℕ) : Type 0 where
+  pub no_head : HasNoRequest lines
+  pub not_bad : ¬ (NeverHasRequest lines)
+
+-- at each line feed among the first n bytes, the lines so far are open
+abbrev pub AreOpen : List ℕ → ℕ → Type 0
+AreOpen bytes n = (k : ℕ) → k < n → get_or bytes k 0 ≡ line_feed → IsOpen (take (k + 1) bytes)
 
 -- ---- room for the fields
 

@@ -11,9 +11,9 @@ use Rattle.ee_wire_framing.specs.declared.head.Verdict.TheVariants.{Found, Bad, 
 use Rattle.ee_wire_framing.specs.declared.front.Progress.{Progress}
 use Rattle.ee_wire_framing.specs.declared.front.Progress.TheVariants as progress
 use Rattle.ee_wire_framing.specs.Framing.{IsUndecided}
-use Rattle.ee_wire_framing.specs.Heads.{IsOpen, AreOpen, AreEmptyLines, AreFieldLines, IsHeadAt, IsLastLineFeed, length_of, BeginsLines, AreLinesUpTo, Judges, Finds, Knows}
+use Rattle.ee_wire_framing.specs.Heads.{AreEmptyLines, AreFieldLines, IsHeadAt, IsLastLineFeed, length_of, BeginsLines, AreLinesUpTo, Judges, Finds, Knows}
 use Rattle.ee_wire_framing.proofs.WholeLines.{open_empty_lines, open_field_lines}
-use Rattle.ee_wire_framing.proofs.Heads.{undecided, bad_in, head_in}
+use Rattle.ee_wire_framing.proofs.Heads.{IsOpen, AreOpen, undecided, bad_in, head_in}
 
 -- a front of lines that leave it open leaves it open
 pub open_front : (front rest : List ℕ) → IsOpen (front ++ rest) → IsOpen front

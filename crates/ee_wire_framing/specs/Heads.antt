@@ -1,7 +1,7 @@
 -- What is known about the front of some bytes.
 use Rattle.std.specs.Prelude.{◌≡◌, ◌≢◌, ℕ, ◌+◌, ◌<◌, ◌≤◌, min, List, [], ◌∷◌, ◌++◌, length, take, drop, get_or, Option, Some, None}
 use Rattle.httparse.specs.Ascii.{line_feed}
-use Rattle.httparse.specs.Grammar.{LineEnd, lf, print_blank, RequestHead, ReadsRequest, HasNoRequest, NeverHasRequest, print_request}
+use Rattle.httparse.specs.Grammar.{LineEnd, lf, print_blank, RequestHead, ReadsRequest, NeverHasRequest, print_request}
 use Rattle.httparse.specs.Spans.{IsWithin, span_bytes}
 use Rattle.httparse.specs.declared.spans.Span.{Span}
 use Rattle.ee_wire_framing.specs.declared.fields.Values.{Values}
@@ -31,11 +31,6 @@ pub record IsHeadAt (bytes : List ℕ) (found : Head) (h : RequestHead) : Type 0
   pub body : found.body ≡ body_length_of h
   pub closes : found.closes ≡ asks_to_close h
 
--- the lines begin no head, and more bytes may change that
-pub record IsOpen (lines : List ℕ) : Type 0 where
-  pub no_head : HasNoRequest lines
-  pub not_bad : ¬ (NeverHasRequest lines)
-
 -- the bytes are empty lines, or none
 abbrev pub AreEmptyLines : List ℕ → Type 0
 AreEmptyLines lines = (ends : List LineEnd) × (lines ≡ print_blank ends)
@@ -43,10 +38,6 @@ AreEmptyLines lines = (ends : List LineEnd) × (lines ≡ print_blank ends)
 -- the bytes are all lines of a head except the last, which is empty
 abbrev pub AreFieldLines : List ℕ → Type 0
 AreFieldLines lines = (h : RequestHead) × ReadsRequest (lines ++ line_feed ∷ []) h [] × (h.last ≡ lf)
-
--- at each line feed among the first n bytes, the lines so far are open
-abbrev pub AreOpen : List ℕ → ℕ → Type 0
-AreOpen bytes n = (k : ℕ) → k < n → get_or bytes k 0 ≡ line_feed → IsOpen (take (k + 1) bytes)
 
 -- the last line feed at or after start and before end, if there is one
 abbrev pub IsLastLineFeed : List ℕ → ℕ → ℕ → Option ℕ → Type 0
