@@ -30,7 +30,8 @@ use Rattle.ee_desk_model.specs.declared.refusals.Refusal.TheVariants as refusal
 use Rattle.ee_desk_texts.specs.declared.refusals.Named.{Named}
 use Rattle.ee_desk_texts.specs.declared.refusals.Named.TheVariants as named
 use Rattle.ee_desk_texts.specs.Data.{number_data, month_data, rate_data, serial_data, with_extension, with_coowner, rate_row_data, bond_data, act_data, line_data, ticket_data, batch_data, names, refused_data, reply_data}
-use Rattle.ee_desk_texts.specs.Ranges.{IsCustomer, IsSerial, RateRowFits, BondFits, ActFits, LineFits, TicketFits, BatchFits, NamedFits, ReplyFits}
+use Rattle.ee_desk_model.specs.Ranges.{IsCustomer, IsSerial, BondFits}
+use Rattle.ee_desk_texts.specs.Ranges.{RateRowFits, ActFits, LineFits, TicketFits, BatchFits, NamedFits, ReplyFits}
 use Rattle.ee_units.proofs.Lemmas.{dollars_small}
 
 -- what reads back at some depth

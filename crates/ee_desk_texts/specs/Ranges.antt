@@ -1,9 +1,8 @@
 -- Acts and replies whose plain numbers are in the ranges of their types, as in every program.
-use Rattle.std.specs.Prelude.{ℕ, ◌^◌, ◌<◌, ◌≤◌, IfSome, ⊤}
+use Rattle.std.specs.Prelude.{ℕ, ◌^◌, ◌<◌, ◌≤◌, ⊤}
 use Rattle.std.specs.List.{AllByRecursion}
-use Rattle.ee_units.specs.Spelling.{SerialNumber}
 use Rattle.ee_value.specs.Chain.{InRange}
-use Rattle.ee_calculator.specs.declared.bonds.Bond.{Bond}
+use Rattle.ee_desk_model.specs.Ranges.{IsCustomer, IsSerial, BondFits}
 use Rattle.ee_desk_model.specs.Sound.{IsDay, IsIssueMonth}
 use Rattle.ee_value.specs.declared.rates.RateRow.{RateRow}
 use Rattle.ee_desk_model.specs.declared.acts.Act.{Act}
@@ -16,26 +15,14 @@ use Rattle.ee_desk_model.specs.declared.replies.Reply.TheVariants as reply
 use Rattle.ee_desk_texts.specs.Data.{names}
 use Rattle.ee_desk_texts.specs.declared.refusals.Named.{Named}
 use Rattle.ee_desk_texts.specs.declared.refusals.Named.TheVariants as named
-use Rattle.ee_units.specs.Limits.{highest_customer, highest_serial, latest_month}
+use Rattle.ee_units.specs.Limits.{latest_month}
 
 -- a count, or an amount of cents
 abbrev pub IsCount : ℕ → Type 0
 IsCount n = n < 2 ^ 64
 
-abbrev pub IsCustomer : ℕ → Type 0
-IsCustomer customer = (1 ≤ customer) × (customer ≤ highest_customer)
-
-abbrev pub IsSerial : SerialNumber → Type 0
-IsSerial serial = (1 ≤ serial.letter) × (serial.letter ≤ 26) × (1 ≤ serial.number) × (serial.number ≤ highest_serial)
-
 abbrev pub RateRowFits : RateRow → Type 0
 RateRowFits row = IsIssueMonth row.from × InRange row.rates
-
-pub record BondFits (bond : Bond) : Type 0 where
-  pub serial : IsSerial bond.serial
-  pub issued : IsIssueMonth bond.issued
-  pub owner : IsCustomer bond.owner
-  pub coowner : IfSome bond.coowner IsCustomer
 
 abbrev pub ActFits : Act → Type 0
 ActFits (act.AddRates rows) = AllByRecursion RateRowFits rows

@@ -5,7 +5,8 @@ ghost use Rattle.std.specs.Prelude.{IfSome};
 ghost use Rattle.std.specs.List.{AllByRecursion};
 ghost use Rattle.ee_desk_model.specs.Sound.{IsDay};
 ghost use Rattle.ee_desk_texts.specs.Data.{names};
-ghost use Rattle.ee_desk_texts.specs.Ranges.{IsSerial, IsCustomer, RateRowFits, BondFits, ActFits, LineFits, TicketFits, BatchFits, NamedFits, ReplyFits};
+ghost use Rattle.ee_desk_model.specs.Ranges.{IsSerial, IsCustomer, BondFits};
+ghost use Rattle.ee_desk_texts.specs.Ranges.{RateRowFits, ActFits, LineFits, TicketFits, BatchFits, NamedFits, ReplyFits};
 
 use crate::refusals::{Named, names};
 use ee_calculator::Bond;

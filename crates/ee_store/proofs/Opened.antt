@@ -17,7 +17,7 @@ use Rattle.ee_desk_model.specs.Seen.{held_as}
 use Rattle.ee_desk_model.specs.Repeats.{Content, nothing}
 use Rattle.ee_desk_model.proofs.Lemmas.Books.{empty_is_sound}
 use Rattle.ee_store_contents.proofs.Lemmas.{is_at}
-use Rattle.ee_desk_texts.specs.Ranges.{BondFits}
+use Rattle.ee_desk_model.specs.Ranges.{BondFits}
 use Rattle.ee_store_tables.specs.Keyed.{pair_cmp}
 use Rattle.ee_store_tables.specs.Rows.{Rows, Has, Stores}
 use Rattle.ee_store_schema.specs.declared.forms.Form.{Form}

@@ -8,7 +8,7 @@ use Rattle.ee_units.specs.declared.denoms.Denom.{Denom}
 use Rattle.ee_units.specs.declared.denoms.Denom.TheVariants as denom
 use Rattle.ee_units.proofs.Lemmas.{in_range-is, in_range_back}
 use Rattle.std.proofs.lemmas.Option.{same_Some}
-use Rattle.ee_desk_texts.specs.Ranges.{IsSerial}
+use Rattle.ee_desk_model.specs.Ranges.{IsSerial}
 
 pub bind_is : {A B : Type 0} (o : Option A) (f : A → Option B) (y : B) → (o >>= f) ≡ Some y → (x : A) × (o ≡ Some x) × (f x ≡ Some y)
 bind_is None f y e = absurd (cc)

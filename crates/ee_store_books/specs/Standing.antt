@@ -24,7 +24,8 @@ use Rattle.ee_desk_model.specs.Seen.{held_as}
 use Rattle.ee_desk_model.specs.Sound.{IsSound}
 use Rattle.ee_desk_model.specs.Repeats.{Content}
 use Rattle.ee_desk_texts.specs.Texts.{act_text, reply_text}
-use Rattle.ee_desk_texts.specs.Ranges.{ActFits, ReplyFits, BondFits, TicketFits, BatchFits}
+use Rattle.ee_desk_model.specs.Ranges.{BondFits}
+use Rattle.ee_desk_texts.specs.Ranges.{ActFits, ReplyFits, TicketFits, BatchFits}
 use Rattle.ee_store_tables.specs.Keyed.{pair_cmp}
 use Rattle.ee_store_tables.specs.Rows.{Rows, DeskRow, BondRow, TicketRow, PaidRow, BatchRow, ReplyRow}
 

@@ -8,7 +8,7 @@ ghost use Rattle.sqlite.specs.Held.{state};
 ghost use Rattle.ee_desk_model.specs.declared.changes.Held.{Held};
 ghost use Rattle.ee_desk_model.specs.Seen.{held_of};
 ghost use Rattle.ee_desk_model.specs.Views.{picked};
-ghost use Rattle.ee_desk_texts.specs.Ranges.{IsCustomer, BondFits};
+ghost use Rattle.ee_desk_model.specs.Ranges.{IsCustomer, BondFits};
 ghost use Rattle.ee_store_tables.specs.AsRows.{row_of_bond};
 ghost use Rattle.ee_store_books.specs.Standing.{bond_row};
 ghost use Rattle.ee_store_books.specs.Causes.{FailsByCause};

@@ -1,7 +1,7 @@
 //! The lines of tickets.
 
 ghost use Rattle.std.specs.Prelude.{◌≡◌, IfSome, IsSome};
-ghost use Rattle.ee_desk_texts.specs.Ranges.{IsSerial};
+ghost use Rattle.ee_desk_model.specs.Ranges.{IsSerial};
 ghost use Rattle.ee_store_books.specs.Lines.{line_with};
 ghost use Rattle.ee_store_books.specs.Standing.{paid_row};
 

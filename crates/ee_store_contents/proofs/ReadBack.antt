@@ -11,7 +11,8 @@ use Rattle.ee_desk_model.specs.declared.replies.Line.{Line}
 use Rattle.ee_desk_model.specs.declared.replies.Ticket.{Ticket}
 use Rattle.ee_desk_model.specs.declared.replies.Batch.{Batch}
 use Rattle.ee_desk_model.specs.Sound.{IsDay}
-use Rattle.ee_desk_texts.specs.Ranges.{IsSerial, IsCustomer, LineFits, TicketFits, BatchFits}
+use Rattle.ee_desk_model.specs.Ranges.{IsSerial, IsCustomer}
+use Rattle.ee_desk_texts.specs.Ranges.{LineFits, TicketFits, BatchFits}
 use Rattle.ee_store_contents.specs.declared.reading.Days.{Days}
 use Rattle.ee_store_load.specs.declared.entries.StoredDesk.{StoredDesk}
 use Rattle.ee_store_load.specs.declared.entries.StoredTicket.{StoredTicket}

@@ -11,7 +11,7 @@ use Rattle.ee_desk_model.specs.Seen.{held_as}
 use Rattle.ee_desk_model.proofs.Lemmas.Maps.{serials_total, serials_exact, all_weaker, all_mapped}
 use Rattle.ee_desk_decide.proofs.Lemmas.{all_entries}
 use Rattle.ee_desk_soundness.proofs.Lemmas.{get_all}
-use Rattle.ee_desk_texts.specs.Ranges.{BondFits}
+use Rattle.ee_desk_model.specs.Ranges.{BondFits}
 use Rattle.ee_store_tables.specs.Rows.{BondRow}
 use Rattle.ee_store_tables.proofs.Lemmas.Rows.{pair_total, pair_same}
 use Rattle.ee_store_load.specs.Opening.{AreReadable}

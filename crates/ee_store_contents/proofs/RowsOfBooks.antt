@@ -35,7 +35,8 @@ use Rattle.ee_desk_soundness.specs.Checks.{HaveRisingSerials, InOrder, IsBefore}
 use Rattle.ee_desk_soundness.specs.Marks.{bond_of, AreMarked}
 use Rattle.ee_desk_soundness.proofs.Lemmas.{get_all, map_of_entries, rising_of_sorted}
 use Rattle.ee_desk_soundness.specs.Parts.{Parts, parts_of, row_of_entry}
-use Rattle.ee_desk_texts.specs.Ranges.{RateRowFits, BondFits, BatchFits}
+use Rattle.ee_desk_model.specs.Ranges.{BondFits}
+use Rattle.ee_desk_texts.specs.Ranges.{RateRowFits, BatchFits}
 use Rattle.ee_store_tables.specs.Keyed.{pair_cmp}
 use Rattle.ee_store_tables.specs.Rows.{Rows, DeskRow, BondRow, TicketRow, PaidRow, BatchRow, ReplyRow}
 use Rattle.ee_store_load.specs.declared.entries.StoredDesk.{StoredDesk}

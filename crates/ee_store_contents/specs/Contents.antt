@@ -11,7 +11,8 @@ use Rattle.ee_desk_soundness.specs.Parts.{Parts}
 use Rattle.ee_desk_soundness.specs.Marks.{bond_of}
 use Rattle.ee_store_contents.specs.declared.parts.ReadParts.{ReadParts}
 use Rattle.ee_desk_texts.specs.Texts.{act_text, reply_text}
-use Rattle.ee_desk_texts.specs.Ranges.{RateRowFits, BondFits, TicketFits, BatchFits}
+use Rattle.ee_desk_model.specs.Ranges.{BondFits}
+use Rattle.ee_desk_texts.specs.Ranges.{RateRowFits, TicketFits, BatchFits}
 use Rattle.ee_store_books.specs.Standing.{IsKept}
 use Rattle.ee_store_schema.specs.declared.answers.StoredAnswer.{StoredAnswer}
 

@@ -4,7 +4,8 @@
 ghost use Rattle.std.specs.Prelude.{IfSome, map};
 ghost use Rattle.std.specs.List.{AllByRecursion};
 ghost use Rattle.ee_desk_model.specs.Sound.{IsDay};
-ghost use Rattle.ee_desk_texts.specs.Ranges.{BondFits, TicketFits, BatchFits};
+ghost use Rattle.ee_desk_model.specs.Ranges.{BondFits};
+ghost use Rattle.ee_desk_texts.specs.Ranges.{TicketFits, BatchFits};
 ghost use Rattle.ee_desk_soundness.specs.Marks.{bond_of};
 ghost use Rattle.ee_store_contents.specs.Contents.{PartsFit, parts_of_read};
 

@@ -31,7 +31,8 @@ use Rattle.std.proofs.lemmas.Map.Views.{tells_apart}
 use Rattle.ee_desk_model.proofs.Lemmas.Requests.{content_after-new}
 use Rattle.ee_desk_model.proofs.Lemmas.Books.{seen_enough, applied_are_books_after, act_keeps_sound, never_reused}
 use Rattle.ee_desk_decide.proofs.Lemmas.{decided_are_applicable}
-use Rattle.ee_desk_texts.specs.Ranges.{ActFits, ReplyFits, RateRowFits, BondFits, TicketFits, BatchFits}
+use Rattle.ee_desk_model.specs.Ranges.{BondFits}
+use Rattle.ee_desk_texts.specs.Ranges.{ActFits, ReplyFits, RateRowFits, TicketFits, BatchFits}
 use Rattle.ee_store_tables.specs.Rows.{with_answer}
 use Rattle.ee_store_books.specs.Standing.{rows_of, reply_row, AreInRange, IsKept, IsRight}
 use Rattle.ee_store_delivery.specs.Written.{applied_rows}

@@ -5,7 +5,7 @@ use Rattle.std.proofs.lemmas.Option.{same_Some}
 use Rattle.ee_units.specs.Spelling.{SerialNumber, in_range, serial_at, ◌>>=◌}
 use Rattle.ee_units.proofs.Lemmas.{in_range-is, in_range_back}
 use Rattle.ee_desk_model.specs.declared.changes.Held.{Held}
-use Rattle.ee_desk_texts.specs.Ranges.{IsSerial}
+use Rattle.ee_desk_model.specs.Ranges.{IsSerial}
 use Rattle.ee_store_books.proofs.Lemmas.Contents.{some_from_bind}
 use Rattle.ee_store_books.specs.Standing.{bond_row, key_of}
 use Rattle.ee_store_tables.specs.Rows.{BondRow}

@@ -3,7 +3,7 @@
 use Rattle.std.proofs.Common.{ℕ, ◌≡◌}
 use Rattle.std.specs.Prelude.{Option, Some}
 use Rattle.ee_units.specs.Spelling.{SerialNumber, serial_at, ◌>>=◌}
-use Rattle.ee_desk_texts.specs.Ranges.{IsSerial}
+use Rattle.ee_desk_model.specs.Ranges.{IsSerial}
 use Rattle.sqlite.specs.State.{State}
 use Rattle.sqlite.specs.Tree.{Trees}
 use Rattle.ee_store_schema.specs.Forms.{IsOurs, HoldsIn}

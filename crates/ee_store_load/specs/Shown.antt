@@ -8,7 +8,7 @@ use Rattle.sqlite.specs.Order.{Row}
 use Rattle.ee_store_tables.specs.Rows.{DeskRow, BondRow, TicketRow, PaidRow, BatchRow, ReplyRow, number, optional, bond_columns, reply_columns}
 use Rattle.ee_units.specs.Denoms.{dollars}
 use Rattle.ee_desk_model.specs.declared.changes.Held.{Held}
-use Rattle.ee_desk_texts.specs.Ranges.{BondFits}
+use Rattle.ee_desk_model.specs.Ranges.{BondFits}
 use Rattle.ee_store_books.specs.Standing.{bond_row, key_of}
 use Rattle.ee_store_load.specs.declared.entries.StoredDesk.{StoredDesk}
 use Rattle.ee_store_load.specs.declared.entries.StoredRate.{StoredRate}

@@ -16,7 +16,8 @@ use Rattle.ee_desk_model.specs.Repeats.{Content}
 use Rattle.ee_desk_model.specs.Sound.{IsDay}
 use Rattle.ee_desk_model.proofs.Lemmas.Maps.{serials_total, serials_exact, all_filter, all_mapped}
 use Rattle.ee_desk_decide.proofs.Lemmas.{all_entries}
-use Rattle.ee_desk_texts.specs.Ranges.{IsCustomer, IsSerial, BondFits, LineFits, TicketFits}
+use Rattle.ee_desk_model.specs.Ranges.{IsCustomer, IsSerial, BondFits}
+use Rattle.ee_desk_texts.specs.Ranges.{LineFits, TicketFits}
 use Rattle.ee_store_tables.specs.declared.records.PlacedLine.{PlacedLine}
 use Rattle.ee_store_tables.specs.declared.records.UnpaidBond.{UnpaidBond}
 use Rattle.ee_store_tables.specs.AsRows.{placed_of}

@@ -5,7 +5,7 @@ ghost use Rattle.std.specs.List.{AllByRecursion};
 ghost use Rattle.std.specs.Option.{option_map};
 ghost use Rattle.ee_calculator.specs.declared.bonds.Bond.{Bond};
 ghost use Rattle.ee_desk_model.specs.Sound.{IsDay};
-ghost use Rattle.ee_desk_texts.specs.Ranges.{IsCustomer, IsSerial, BondFits};
+ghost use Rattle.ee_desk_model.specs.Ranges.{IsCustomer, IsSerial, BondFits};
 ghost use Rattle.ee_store_tables.specs.AsRows.{row_of_batch};
 ghost use Rattle.ee_store_books.specs.Standing.{batch_row, paid_row};
 ghost use Rattle.ee_store_queries.specs.Asking.{row_of_placed, unpaid_row};

@@ -24,7 +24,7 @@ use Rattle.ee_units.specs.declared.denoms.Denom.{Denom}
 use Rattle.ee_value.specs.Chain.{rates_with, named_extension}
 use Rattle.ee_value.specs.declared.rates.Rates.{Rates}
 use Rattle.std.specs.FinMap as finite
-use Rattle.ee_desk_texts.specs.Ranges.{IsSerial}
+use Rattle.ee_desk_model.specs.Ranges.{IsSerial}
 use Rattle.ee_store_tables.specs.Rows.{ReplyRow, Rows, IsText}
 use Rattle.ee_store_books.proofs.DaysInRange
 use Rattle.ee_store_books.proofs.Images
