@@ -27,7 +27,8 @@ use Rattle.ee_store_schema.specs.Making.{IsBlank, first_rows}
 use Rattle.ee_store_load.specs.Opening.{HasTables, IsOtherVersion}
 use Rattle.ee_store_load.proofs.Lemmas.{ours_tables, one_version}
 use Rattle.ee_store_schema.proofs.Lemmas.Forms.{no_entries, not_blank}
-use Rattle.ee_store_books.specs.Standing.{rows_at, rows_of, extension_entry, bond_row, reply_row, key_of, IsRight, IsKept}
+use Rattle.ee_store_rows.specs.Rows.{bond_row, key_of}
+use Rattle.ee_store_books.specs.Standing.{rows_at, rows_of, extension_entry, reply_row, IsRight, IsKept}
 use Rattle.ee_store_books.specs.Seen.{StandsFor, HasContent}
 use Rattle.ee_store.specs.Adopted.{StoodFor, HadContent, HasSome}
 

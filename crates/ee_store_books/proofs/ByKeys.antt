@@ -18,7 +18,8 @@ use Rattle.ee_desk_model.proofs.Lemmas.Books.{sound_keyed}
 use Rattle.ee_desk_decide.proofs.Lemmas.{found_for_next}
 use Rattle.ee_desk_model.specs.Repeats.{Content}
 use Rattle.ee_desk_model.specs.Ranges.{BondFits}
-use Rattle.ee_store_books.specs.Standing.{rows_of, bond_row, key_of, IsRight}
+use Rattle.ee_store_rows.specs.Rows.{bond_row, key_of}
+use Rattle.ee_store_books.specs.Standing.{rows_of, IsRight}
 use Rattle.ee_store_books.specs.Found.{with_found}
 use Rattle.ee_value.specs.declared.rates.Rates.{Rates}
 use Rattle.ee_value.specs.Chain.{rates_with, named_extension}

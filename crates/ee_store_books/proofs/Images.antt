@@ -25,7 +25,8 @@ use Rattle.ee_desk_model.proofs.Lemmas.Maps.{serials_total, serials_exact, numbe
 use Rattle.std.proofs.lemmas.Map.Views.{tells_apart}
 use Rattle.ee_desk_decide.proofs.Lemmas.{none_below}
 use Rattle.ee_store_tables.specs.Keyed.{pair_cmp}
-use Rattle.ee_store_books.specs.Standing.{desk_rows, rate_rows, extension_entry, extension_rows, bond_rows, bond_row, key_of, reply_rows, reply_row}
+use Rattle.ee_store_rows.specs.Rows.{bond_row, key_of}
+use Rattle.ee_store_books.specs.Standing.{desk_rows, rate_rows, extension_entry, extension_rows, bond_rows, reply_rows, reply_row}
 
 pub pair_total : IsTotalOrder pair_cmp
 pair_total = then_total (on_total (λ (p : ℕ × ℕ). p.0) nat_cmp_total) (on_total (λ (p : ℕ × ℕ). p.1) nat_cmp_total)

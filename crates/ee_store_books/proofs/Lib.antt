@@ -1,7 +1,6 @@
 mod Images
 mod Orders
 mod OneContent
-mod ReadValues
 mod KeptTexts
 mod DaysInRange
 mod ByKeys

@@ -24,7 +24,8 @@ use Rattle.ee_desk_model.specs.Repeats.{Content}
 use Rattle.ee_desk_model.proofs.Lemmas.Maps.{serials_total, serials_exact, numbers_total, numbers_exact}
 use Rattle.ee_desk_texts.proofs.Lemmas.{one_act, one_reply}
 use Rattle.ee_store_tables.specs.Rows.{Rows, DeskRow, PaidRow, BatchRow}
-use Rattle.ee_store_books.specs.Standing.{rate_rows, extension_rows, bond_rows, bond_row, key_of, placed, reply_rows, reply_row, desk_rows, IsKept, StandAt}
+use Rattle.ee_store_rows.specs.Rows.{bond_row, key_of}
+use Rattle.ee_store_books.specs.Standing.{rate_rows, extension_rows, bond_rows, placed, reply_rows, reply_row, desk_rows, IsKept, StandAt}
 use Rattle.ee_store_books.proofs.Images.{get_rate, get_extension, get_reply, get_bond, get_desk}
 use Rattle.ee_store_books.proofs.Orders.{ticket_entry, ticket_entries, ticket_lines, paid_entries, batch_entry, batch_entries, rising_front}
 

@@ -14,7 +14,8 @@ use Rattle.ee_desk_model.specs.Lists.{Rising}
 use Rattle.ee_desk_model.specs.Sound.{NumberedFrom, day_of_batch}
 use Rattle.ee_store_tables.specs.Keyed.{pair_cmp}
 use Rattle.ee_store_tables.specs.Rows.{TicketRow, PaidRow, BatchRow}
-use Rattle.ee_store_books.specs.Standing.{ticket_rows, ticket_row, paid_rows, placed, batch_rows, batch_row}
+use Rattle.ee_store_rows.specs.Rows.{ticket_row, batch_row}
+use Rattle.ee_store_books.specs.Standing.{ticket_rows, paid_rows, placed, batch_rows}
 use Rattle.ee_store_books.proofs.Images.{pair_total, pair_same, sorted_entries}
 
 less : (x y : ℕ) → x < y → T (is_lt (nat_cmp x y))

@@ -1,15 +1,13 @@
 -- The books and kept replies that the rows of the store's tables represent (this project's rule: version 2 of the tables, and version 1 before it).
-use Rattle.std.specs.Prelude.{◌≡◌, ◌≢◌, ℕ, ◌+◌, ◌≤◌, Option, List, [], ◌∷◌, map, length, IfSome, flat_map, filter_map, option_map}
+use Rattle.std.specs.Prelude.{◌≡◌, ◌≢◌, ℕ, ◌+◌, ◌≤◌, Option, List, [], ◌∷◌, map, IfSome, flat_map, filter_map, option_map}
 use Rattle.std.specs.List.{AllByRecursion}
 use Rattle.std.specs.FinMap as finite
 use Rattle.std.specs.FinMap.{FinMap, entries, from_entries}
 use Rattle.std.specs.Ordering.{nat_cmp}
 use Rattle.ee_units.specs.Spelling.{SerialNumber}
-use Rattle.ee_units.specs.Denoms.{dollars}
 use Rattle.ee_value.specs.declared.rates.Rates.{Rates}
 use Rattle.ee_value.specs.Chain.{named_extension}
 use Rattle.ee_calculator.specs.declared.bonds.Bond.{Bond}
-use Rattle.ee_desk_model.specs.declared.changes.Held.{Held}
 use Rattle.ee_desk_model.specs.declared.changes.Kept.{Kept}
 use Rattle.ee_desk_model.specs.declared.replies.Line.{Line}
 use Rattle.ee_desk_model.specs.declared.replies.Ticket.{Ticket}
@@ -26,6 +24,7 @@ use Rattle.ee_desk_model.specs.Repeats.{Content}
 use Rattle.ee_desk_texts.specs.Texts.{act_text, reply_text}
 use Rattle.ee_desk_model.specs.Ranges.{BondFits}
 use Rattle.ee_desk_texts.specs.Ranges.{ActFits, ReplyFits, TicketFits, BatchFits}
+use Rattle.ee_store_rows.specs.Rows.{key_of, bond_row, ticket_row, paid_row, batch_row}
 use Rattle.ee_store_tables.specs.Keyed.{pair_cmp}
 use Rattle.ee_store_tables.specs.Rows.{Rows, DeskRow, BondRow, TicketRow, PaidRow, BatchRow, ReplyRow}
 
@@ -46,30 +45,12 @@ extension_entry e = option_map (λ extension. (e.0, extension)) (named_extension
 abbrev pub extension_rows : FinMap nat_cmp Rates → FinMap nat_cmp ℕ
 extension_rows rates = from_entries (filter_map extension_entry (entries rates))
 
-abbrev pub key_of : SerialNumber → ℕ × ℕ
-key_of serial = (serial.letter, serial.number)
-
-abbrev pub bond_row : Held → BondRow
-bond_row held = record {
-  denom = dollars held.bond.denom;
-  issued = held.bond.issued;
-  owner = held.bond.owner;
-  coowner = held.bond.coowner;
-  ticket = held.ticket;
-}
-
 -- bonds by serial number, each with the ticket that pays it
 abbrev pub bond_rows : FinMap serial_cmp Bond → List Ticket → FinMap pair_cmp BondRow
 bond_rows bonds tickets = from_entries (map (λ e. (key_of e.0, bond_row (held_as tickets e.0 e.1))) (entries bonds))
 
-abbrev pub ticket_row : Ticket → TicketRow
-ticket_row ticket = record { day = ticket.day; payee = ticket.payee; bonds = length ticket.lines; total = ticket.total.0 }
-
 abbrev pub ticket_rows : List Ticket → FinMap nat_cmp TicketRow
 ticket_rows tickets = from_entries (map (λ ticket. (ticket.ticket, ticket_row ticket)) tickets)
-
-abbrev pub paid_row : Line → PaidRow
-paid_row line = record { letter = line.serial.letter; number = line.serial.number; cents = line.cents.0 }
 
 -- the lines of a ticket, numbered from this place
 abbrev pub placed : ℕ → ℕ → List Line → List ((ℕ × ℕ) × PaidRow)
@@ -79,9 +60,6 @@ placed ticket place (line ∷ lines) = ((ticket, place), paid_row line) ∷ plac
 -- the lines of all tickets, by ticket and place
 abbrev pub paid_rows : List Ticket → FinMap pair_cmp PaidRow
 paid_rows tickets = from_entries (flat_map (λ ticket. placed ticket.ticket 1 ticket.lines) tickets)
-
-abbrev pub batch_row : Batch → BatchRow
-batch_row batch = record { tickets = batch.tickets; bonds = batch.bonds; total = batch.total.0 }
 
 -- batches by day
 abbrev pub batch_rows : List Batch → FinMap nat_cmp BatchRow

@@ -1,6 +1,6 @@
 //! Look-ups of bonds in a transaction.
 
-ghost use Rattle.std.specs.Prelude.{◌≡◌, Option, IfSome, IsSome, IfOk, OnOk, ⊤};
+ghost use Rattle.std.specs.Prelude.{◌≡◌, Option, IfSome, IfOk, OnOk, ⊤};
 ghost use Rattle.std.specs.Result.{IsOk};
 ghost use Rattle.std.specs.Option.{option_map};
 ghost use Rattle.std.specs.FinMap as finite;
@@ -8,54 +8,22 @@ ghost use Rattle.sqlite.specs.Held.{state};
 ghost use Rattle.ee_desk_model.specs.declared.changes.Held.{Held};
 ghost use Rattle.ee_desk_model.specs.Seen.{held_of};
 ghost use Rattle.ee_desk_model.specs.Views.{picked};
-ghost use Rattle.ee_desk_model.specs.Ranges.{IsCustomer, BondFits};
+ghost use Rattle.ee_desk_model.specs.Ranges.{BondFits};
 ghost use Rattle.ee_store_tables.specs.AsRows.{row_of_bond};
-ghost use Rattle.ee_store_books.specs.Standing.{bond_row};
+ghost use Rattle.ee_store_rows.specs.Rows.{bond_row};
 ghost use Rattle.ee_store_books.specs.Causes.{FailsByCause};
 ghost use Rattle.ee_store_books.specs.Found.{bonds_found, with_found};
 ghost use Rattle.ee_store_books.specs.Seen.{FindsIn, OnlyReads};
 
-use ee_calculator::Bond;
 use ee_desk_decide::note_bond;
 use ee_desk_model::Held;
+use ee_store_rows::held_from;
 use ee_store_tables as tables;
 use ee_store_tables::{BondRow, Failure, find_bond};
-use ee_units::{Customer, Denom, IssueMonth, Serial};
+use ee_units::Serial;
 use sqlite::{Alter, Transaction};
 use std::alloc::{AllocError, Global};
 use std::collections::BTreeMap;
-
-fn coowner_of(number: Option<u64>) -> Option<Option<Customer>>
-    ensures value { IfSome result (λ coowner. coowner ≡ number) }
-    ensures read { IfSome number IsCustomer → IsSome result }
-{
-    match number {
-        None => Some(None),
-        Some(number) => Some(Some(Customer::new(number)?)),
-    }
-}
-
-/// The bond of a row, and the ticket that paid it; `None` if no registered bond has this row.
-pub fn held_from(serial: Serial, row: BondRow) -> Option<Held>
-    ensures shown { IfSome result (λ held. (bond_row held ≡ row_of_bond row) × (held.bond.serial ≡ serial)) }
-    ensures read { (held : Held) → row_of_bond row ≡ bond_row held → BondFits held.bond → IsSome result }
-{
-    let denom = Denom::with_dollars(row.denom)?;
-    let issued = IssueMonth::new(row.issued)?;
-    let owner = Customer::new(row.owner)?;
-    let coowner = coowner_of(row.coowner)?;
-    let bond = Bond {
-        serial,
-        denom,
-        issued,
-        owner,
-        coowner,
-    };
-    Some(Held {
-        bond,
-        ticket: row.ticket,
-    })
-}
 
 /// The result of a look-up of a serial number.
 fn held_shown(serial: Serial, found: Option<BondRow>) -> Result<Option<Held>, Failure>

@@ -9,12 +9,10 @@
 
 mod held_bonds;
 mod laws;
-mod lines;
 mod terms;
 mod ticket_counts;
 
-pub use held_bonds::{held_from, held_in};
+pub use held_bonds::held_in;
 pub use laws::one_content_law;
-pub use lines::line_with;
 pub use terms::{find_terms, no_terms, note_terms, terms_in};
 pub use ticket_counts::{counted_in, tickets_in};

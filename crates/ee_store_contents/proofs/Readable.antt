@@ -16,7 +16,8 @@ use Rattle.ee_store_tables.specs.Rows.{BondRow}
 use Rattle.ee_store_tables.proofs.Lemmas.Rows.{pair_total, pair_same}
 use Rattle.ee_store_load.specs.Opening.{AreReadable}
 use Rattle.ee_store_load.specs.Shown.{AreBonds, IsBond}
-use Rattle.ee_store_books.specs.Standing.{rows_at, bond_rows, bond_row, key_of, IsRight}
+use Rattle.ee_store_rows.specs.Rows.{bond_row, key_of}
+use Rattle.ee_store_books.specs.Standing.{rows_at, bond_rows, IsRight}
 use Rattle.ee_store_books.proofs.Lemmas.Contents.{get_desk_row, reply_texts, right_bond_is_keyed}
 use Rattle.ee_store_schema.specs.declared.forms.Form.{Form}
 use Rattle.ee_store_schema.specs.Forms.{version_of}

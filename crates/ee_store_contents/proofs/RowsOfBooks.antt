@@ -48,7 +48,8 @@ use Rattle.ee_store_schema.specs.declared.answers.StoredAnswer.{StoredAnswer}
 use Rattle.ee_store_schema.specs.Forms.{version_of}
 use Rattle.ee_store_schema.specs.Migrating.{answer_entry}
 use Rattle.ee_store_load.specs.declared.whole.AllRows.{AllRows}
-use Rattle.ee_store_books.specs.Standing.{rate_rows, extension_entry, extension_rows, bond_rows, bond_row, key_of, ticket_rows, paid_rows, paid_row, placed, batch_rows, reply_rows, reply_row, desk_rows, IsKept, IsRight, StandAt}
+use Rattle.ee_store_rows.specs.Rows.{bond_row, key_of, paid_row}
+use Rattle.ee_store_books.specs.Standing.{rate_rows, extension_entry, extension_rows, bond_rows, ticket_rows, paid_rows, placed, batch_rows, reply_rows, reply_row, desk_rows, IsKept, IsRight, StandAt}
 use Rattle.ee_store_load.specs.Shown.{answer_map, desk_entry, rate_entry, bond_entry, ticket_entry, line_entry, batch_entry}
 use Rattle.ee_store_load.specs.Whole.{AreInOrder, rows_with}
 use Rattle.ee_store_contents.specs.Contents.{PartsFit, KeepsAnswer}
@@ -56,7 +57,8 @@ use Rattle.ee_store_contents.proofs.StoredRows.{stored_desk, stored_rate, extens
 use Rattle.ee_store_contents.specs.Reading.{each, days_in, rates_in, tickets_in, batch_in, parts_in}
 use Rattle.ee_store_tables.proofs.Lemmas.Rows.{pair_total, pair_same}
 use Rattle.ee_store_books.proofs.Lemmas.Contents as contents
-use Rattle.ee_store_books.proofs.Lemmas.Contents.{sorted_entries, extension_entries, ticket_entries, ticket_lines, paid_entries, batch_entries, rising_front, days_in_range, right_bond_is_keyed, head_of, tail_of, some_from_bind}
+use Rattle.ee_store_rows.proofs.Lemmas.{some_from_bind}
+use Rattle.ee_store_books.proofs.Lemmas.Contents.{sorted_entries, extension_entries, ticket_entries, ticket_lines, paid_entries, batch_entries, rising_front, days_in_range, right_bond_is_keyed, head_of, tail_of}
 use Rattle.ee_store_contents.proofs.RatesBack.{rates_read, rates_is}
 use Rattle.ee_store_load.proofs.Lemmas.{bind_some}
 use Rattle.ee_store_contents.proofs.ReadBack.{each_read, each_is, days_read, days_is, tickets_read, tickets_is, batch_read, batch_is}

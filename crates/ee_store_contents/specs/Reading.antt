@@ -10,7 +10,7 @@ use Rattle.ee_desk_model.specs.declared.replies.Batch.{Batch}
 use Rattle.ee_desk_soundness.specs.Marks.{bond_of}
 use Rattle.ee_desk_soundness.specs.Parts.{Parts}
 use Rattle.ee_store_contents.specs.declared.reading.Days.{Days}
-use Rattle.ee_store_books.specs.Lines.{line_with}
+use Rattle.ee_store_rows.specs.Lines.{line_with}
 use Rattle.ee_store_load.specs.declared.entries.StoredDesk.{StoredDesk}
 use Rattle.ee_store_load.specs.declared.entries.StoredRate.{StoredRate}
 use Rattle.ee_store_load.specs.declared.entries.StoredTicket.{StoredTicket}

@@ -4,8 +4,8 @@ ghost use Rattle.std.specs.Prelude.{◌≡◌, ◌+◌, ◌<◌, IfOk, option_ma
 ghost use Rattle.ee_store_contents.specs.Reading.{line_at, lines_at, ticket_with, ticket_in, tickets_in};
 
 use ee_desk_model::{Line, Rows, Ticket};
-use ee_store_books::line_with;
 use ee_store_load::{StoredLine, StoredTicket};
+use ee_store_rows::line_with;
 use ee_units::{Cents, Customer, Day};
 use std::alloc::{AllocError, Global};
 

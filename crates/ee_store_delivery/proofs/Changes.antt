@@ -31,7 +31,8 @@ use Rattle.ee_store_tables.proofs.Lemmas.Rows.{pair_total, pair_same}
 use Rattle.ee_store_books.proofs.Lemmas.Contents.{get_rate_row, get_extension_row, get_reply_row, get_bond_row, ticket_entry, ticket_lines, batch_entry}
 use Rattle.ee_store_tables.specs.Keyed.{pair_cmp}
 use Rattle.ee_store_tables.specs.Rows.{Rows, BondRow, PaidRow, DeskRow, with_lines, marked_as}
-use Rattle.ee_store_books.specs.Standing.{rate_rows, extension_rows, bond_rows, bond_row, key_of, ticket_rows, ticket_row, paid_rows, paid_row, placed, batch_rows, batch_row, reply_rows, reply_row, desk_rows}
+use Rattle.ee_store_rows.specs.Rows.{bond_row, key_of, ticket_row, paid_row, batch_row}
+use Rattle.ee_store_books.specs.Standing.{rate_rows, extension_rows, bond_rows, ticket_rows, paid_rows, placed, batch_rows, reply_rows, reply_row, desk_rows}
 
 -- ---- rates
 rate_case : (b : Bool) (r : Rates) (o : Option Rates) → option_map (λ (r : Rates). r.fixed) (cond b (Some r) o) ≡ cond b (Some r.fixed) (option_map (λ r. r.fixed) o)

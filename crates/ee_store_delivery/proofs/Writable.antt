@@ -50,7 +50,8 @@ use Rattle.ee_store_tables.specs.AsRows.{Fits}
 use Rattle.ee_store_tables.specs.Keyed.{pair_cmp}
 use Rattle.ee_store_tables.specs.Rows.{Rows, DeskRow, BondRow, PaidRow, day_set, marked_as, insert_new, with_bond, with_batch, with_ticket, with_paid, with_line, with_lines, IsUnpaid, CanPayAll, with_rate}
 use Rattle.ee_store_tables.proofs.Lemmas.Rows.{pair_total, pair_same}
-use Rattle.ee_store_books.specs.Standing.{rows_of, key_of, bond_row, ticket_row, paid_row, placed, batch_row, IsRight}
+use Rattle.ee_store_rows.specs.Rows.{key_of, bond_row, ticket_row, paid_row, batch_row}
+use Rattle.ee_store_books.specs.Standing.{rows_of, placed, IsRight}
 use Rattle.ee_store_books.proofs.Lemmas.Contents.{get_bond_row, ticket_entry, ticket_lines, batch_entry, paid_entries}
 use Rattle.ee_store_delivery.specs.Written.{with_named, changed_rows, applied_rows, CanPayTicket, CanClose, CanWriteAll, all_added_rows, new_entry}
 use Rattle.ee_store_delivery.proofs.Delivered.{changes_fit}

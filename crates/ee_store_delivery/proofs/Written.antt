@@ -30,7 +30,8 @@ use Rattle.ee_desk_decide.specs.NewRows as added
 use Rattle.ee_desk_decide.specs.NewRows.{AreNew}
 use Rattle.ee_desk_decide.specs.Applicable.{IsRate, IsBond, IsUnpaid, AreApplicable}
 use Rattle.ee_store_tables.specs.Rows.{Rows, DeskRow, insert_new, day_set, with_rate, with_batch, with_ticket}
-use Rattle.ee_store_books.specs.Standing.{rate_rows, extension_rows, bond_rows, bond_row, key_of, ticket_row, batch_row, desk_rows, rows_of}
+use Rattle.ee_store_rows.specs.Rows.{bond_row, key_of, ticket_row, batch_row}
+use Rattle.ee_store_books.specs.Standing.{rate_rows, extension_rows, bond_rows, desk_rows, rows_of}
 use Rattle.ee_store_delivery.specs.Written.{with_named, applied_rows}
 use Rattle.ee_store_delivery.proofs.Changes.{with_new_rate, with_no_extension, with_new_extension, with_new_bond, with_other_days, with_new_ticket, with_new_lines, with_new_marks, with_new_batch, lines_parts}
 

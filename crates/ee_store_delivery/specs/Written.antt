@@ -11,7 +11,7 @@ use Rattle.ee_calculator.specs.declared.bonds.Bond.{Bond}
 use Rattle.ee_store_tables.specs.declared.records.UnpaidBond.{UnpaidBond}
 use Rattle.ee_store_tables.specs.AsRows.{Fits, entry_of_unpaid}
 use Rattle.ee_store_tables.specs.Rows.{Rows, BondRow, with_rate, with_extension, with_bond, with_day, with_batch, with_ticket, with_lines, CanPayAll}
-use Rattle.ee_store_books.specs.Standing.{key_of, bond_row, ticket_row, paid_row, batch_row}
+use Rattle.ee_store_rows.specs.Rows.{key_of, bond_row, ticket_row, paid_row, batch_row}
 
 -- the rows with the extension of a period, if there is one
 abbrev pub with_named : Rows → ℕ → Option ℕ → Rows

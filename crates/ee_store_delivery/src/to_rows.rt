@@ -15,7 +15,7 @@ ghost use Rattle.ee_store_tables.specs.AsRows.{
   key_of_unpaid,
   row_of_unpaid,
 };
-ghost use Rattle.ee_store_books.specs.Standing as standing;
+ghost use Rattle.ee_store_rows.specs.Rows as standing;
 
 use ee_calculator::Bond;
 use ee_desk_model::{Batch, Line, Ticket};

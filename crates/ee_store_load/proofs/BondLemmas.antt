@@ -6,8 +6,8 @@ use Rattle.ee_units.specs.Spelling.{SerialNumber, in_range, serial_at, ◌>>=◌
 use Rattle.ee_units.proofs.Lemmas.{in_range-is, in_range_back}
 use Rattle.ee_desk_model.specs.declared.changes.Held.{Held}
 use Rattle.ee_desk_model.specs.Ranges.{IsSerial}
-use Rattle.ee_store_books.proofs.Lemmas.Contents.{some_from_bind}
-use Rattle.ee_store_books.specs.Standing.{bond_row, key_of}
+use Rattle.ee_store_rows.proofs.Lemmas.{some_from_bind}
+use Rattle.ee_store_rows.specs.Rows.{bond_row, key_of}
 use Rattle.ee_store_tables.specs.Rows.{BondRow}
 use Rattle.ee_store_load.specs.Shown.{bond_entry, IsBond}
 

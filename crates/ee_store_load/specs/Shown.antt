@@ -9,7 +9,7 @@ use Rattle.ee_store_tables.specs.Rows.{DeskRow, BondRow, TicketRow, PaidRow, Bat
 use Rattle.ee_units.specs.Denoms.{dollars}
 use Rattle.ee_desk_model.specs.declared.changes.Held.{Held}
 use Rattle.ee_desk_model.specs.Ranges.{BondFits}
-use Rattle.ee_store_books.specs.Standing.{bond_row, key_of}
+use Rattle.ee_store_rows.specs.Rows.{bond_row, key_of}
 use Rattle.ee_store_load.specs.declared.entries.StoredDesk.{StoredDesk}
 use Rattle.ee_store_load.specs.declared.entries.StoredRate.{StoredRate}
 use Rattle.ee_store_load.specs.declared.entries.StoredTicket.{StoredTicket}

@@ -3,12 +3,12 @@
 ghost use Rattle.std.specs.Prelude.{◌≡◌, ◌≢◌, IfOk, IfErr, IfSome, IsSome};
 ghost use Rattle.ee_store_tables.specs.AsRows.{key_of as key_in, row_of_bond};
 ghost use Rattle.ee_store_tables.specs.Rows.{bond_columns};
-ghost use Rattle.ee_store_books.specs.Standing.{key_of};
+ghost use Rattle.ee_store_rows.specs.Rows.{key_of};
 ghost use Rattle.ee_store_load.specs.Shown as spec;
 
 use crate::reading::StoredRow;
 use ee_desk_model::Held;
-use ee_store_books::held_from;
+use ee_store_rows::held_from;
 use ee_store_schema::OpenFault;
 use ee_store_tables::{BondRow, SerialKey};
 use ee_units::Serial;

@@ -22,7 +22,8 @@ use Rattle.ee_store_tables.specs.declared.records.UnpaidBond.{UnpaidBond}
 use Rattle.ee_store_tables.specs.AsRows.{unpaid_bond_of}
 use Rattle.ee_store_tables.specs.Keyed.{pair_cmp}
 use Rattle.ee_store_tables.specs.Rows.{BondRow, unpaid_of}
-use Rattle.ee_store_books.specs.Standing.{rows_of, bond_rows, bond_row, key_of, IsRight}
+use Rattle.ee_store_rows.specs.Rows.{bond_row, key_of}
+use Rattle.ee_store_books.specs.Standing.{rows_of, bond_rows, IsRight}
 use Rattle.ee_store_queries.specs.Asking.{unpaid_row}
 
 -- ---- the rows of bonds, in order

@@ -18,7 +18,8 @@ use Rattle.ee_desk_model.specs.Repeats.{Content}
 use Rattle.ee_store_tables.specs.declared.records.PlacedLine.{PlacedLine}
 use Rattle.ee_store_tables.specs.AsRows.{placed_of}
 use Rattle.ee_store_tables.specs.Rows.{PaidRow, TicketRow, lines_on}
-use Rattle.ee_store_books.specs.Standing.{rows_of, batch_row, ticket_row, paid_row, placed, IsRight}
+use Rattle.ee_store_rows.specs.Rows.{batch_row, ticket_row, paid_row}
+use Rattle.ee_store_books.specs.Standing.{rows_of, placed, IsRight}
 use Rattle.ee_store_books.proofs.Lemmas.Contents.{ticket_lines, paid_entries}
 use Rattle.ee_store_queries.specs.Asking.{row_of_placed}
 

@@ -23,7 +23,8 @@ use Rattle.ee_store_tables.specs.declared.records.UnpaidBond.{UnpaidBond}
 use Rattle.ee_store_tables.specs.AsRows.{placed_of}
 use Rattle.ee_store_tables.specs.Rows.{TicketRow, lines_on, HasRoomIn}
 use Rattle.ee_store_tables.proofs.Lemmas.Transactions.{clean_before, begun, rolled_keeps}
-use Rattle.ee_store_books.specs.Standing.{rows_of, paid_row, IsRight}
+use Rattle.ee_store_rows.specs.Rows.{paid_row}
+use Rattle.ee_store_books.specs.Standing.{rows_of, IsRight}
 use Rattle.ee_store_tables.specs.declared.failures.Failure.{Failure}
 use Rattle.ee_store_tables.specs.Statements.{LeavesNoMore, IsExcused, CommitsNothing}
 use Rattle.ee_store_books.specs.Causes.{FailsByCause, IsReady}

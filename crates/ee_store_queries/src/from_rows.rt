@@ -7,12 +7,12 @@ ghost use Rattle.ee_calculator.specs.declared.bonds.Bond.{Bond};
 ghost use Rattle.ee_desk_model.specs.Sound.{IsDay};
 ghost use Rattle.ee_desk_model.specs.Ranges.{IsCustomer, IsSerial, BondFits};
 ghost use Rattle.ee_store_tables.specs.AsRows.{row_of_batch};
-ghost use Rattle.ee_store_books.specs.Standing.{batch_row, paid_row};
+ghost use Rattle.ee_store_rows.specs.Rows.{batch_row, paid_row};
 ghost use Rattle.ee_store_queries.specs.Asking.{row_of_placed, unpaid_row};
 
 use ee_calculator::Bond;
 use ee_desk_model::{Batch, Line, Rows, Ticket};
-use ee_store_books::{held_from, line_with};
+use ee_store_rows::{held_from, line_with};
 use ee_store_tables::{BatchRow, BondRow, Failure, PlacedLine, TicketRow, UnpaidBond};
 use ee_units::{Cents, Customer, Day, Serial};
 use std::alloc::Global;

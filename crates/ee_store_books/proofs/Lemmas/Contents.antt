@@ -1,10 +1,10 @@
 -- Lemmas that the proofs of crates above use: the rows of contents.
-use Rattle.std.proofs.Common.{List, Option, Some, filter_map, map, ℕ, ◌++◌, ◌≡◌, ◌≤◌, IfSome}
+use Rattle.std.proofs.Common.{List, Option, Some, filter_map, map, ℕ, ◌++◌, ◌≡◌, IfSome}
 use Rattle.std.specs.Cmp.{IsTotalOrder}
 use Rattle.std.specs.FinMap.{FinMap, IsAntisymmetric, entries, from_entries, is_sorted}
 use Rattle.std.specs.Option.{option_and_then, option_map}
 use Rattle.std.specs.Ordering.{nat_cmp}
-use Rattle.std.specs.Prelude.{T, flat_map, IsSome}
+use Rattle.std.specs.Prelude.{T, flat_map}
 use Rattle.std.specs.declared.cmp.Ordering.{Ordering}
 use Rattle.ee_desk_model.specs.Numbers.{number_cmp, RequestKey}
 use Rattle.ee_desk_model.specs.Seen.{held_as}
@@ -17,21 +17,18 @@ use Rattle.ee_desk_model.specs.declared.replies.Batch.{Batch}
 use Rattle.ee_desk_model.specs.declared.replies.Ticket.{Ticket}
 use Rattle.ee_calculator.specs.declared.bonds.Bond.{Bond}
 use Rattle.ee_desk_model.specs.Repeats.{Content}
-use Rattle.ee_store_books.specs.Standing.{batch_rows, bond_row, bond_rows, desk_rows, extension_entry, extension_rows, key_of, paid_rows, rate_rows, reply_row, reply_rows, ticket_rows, IsRight, StandAt, rows_of}
-use Rattle.ee_units.specs.Denoms.{dollars, denom_with}
-use Rattle.ee_units.specs.Spelling.{SerialNumber, ◌>>=◌, in_range, serial_at}
-use Rattle.ee_units.specs.declared.denoms.Denom.{Denom}
+use Rattle.ee_store_rows.specs.Rows.{bond_row, key_of}
+use Rattle.ee_store_books.specs.Standing.{batch_rows, bond_rows, desk_rows, extension_entry, extension_rows, paid_rows, rate_rows, reply_row, reply_rows, ticket_rows, IsRight, StandAt, rows_of}
+use Rattle.ee_units.specs.Spelling.{SerialNumber}
 use Rattle.ee_value.specs.Chain.{rates_with, named_extension}
 use Rattle.ee_value.specs.declared.rates.Rates.{Rates}
 use Rattle.std.specs.FinMap as finite
-use Rattle.ee_desk_model.specs.Ranges.{IsSerial}
 use Rattle.ee_store_tables.specs.Rows.{ReplyRow, Rows, IsText}
 use Rattle.ee_store_books.proofs.DaysInRange
 use Rattle.ee_store_books.proofs.Images
 use Rattle.ee_store_books.proofs.KeptTexts
 use Rattle.ee_store_books.proofs.OneContent
 use Rattle.ee_store_books.proofs.Orders
-use Rattle.ee_store_books.proofs.ReadValues
 pub use Rattle.ee_store_books.proofs.Orders.{ticket_entry, ticket_lines, batch_entry}
 pub use Rattle.ee_store_books.proofs.OneContent.{head_of, tail_of}
 pub use Rattle.ee_units.proofs.Lemmas.{same_denom}
@@ -100,35 +97,6 @@ days_in_range = DaysInRange.days_in_range
 pub right_bond_is_keyed : (rates : FinMap nat_cmp Rates) (s : SerialNumber) (o : Option Bond) → IfSome o (IsRightBond rates s)
     → IfSome o (λ bond. bond.serial ≡ s)
 right_bond_is_keyed = OneContent.keyed
-
--- if one step after another gave a value, each step gave one
-pub some_from_bind : {A B : Type 0} (o : Option A) (f : A → Option B) (y : B) → (o >>= f) ≡ Some y → (x : A) × (o ≡ Some x) × (f x ≡ Some y)
-some_from_bind = ReadValues.bind_is
-
--- ---- plain numbers of rows are read
--- a number that is read in a range is that number
-pub number_read : (low high n : ℕ) (o : Option ℕ) → o ≡ in_range low high n → IfSome o (λ m. m ≡ n)
-number_read = ReadValues.number_read
-
--- a number in the range is read
-pub number_fits : (low high n : ℕ) (o : Option ℕ) → o ≡ in_range low high n → low ≤ n → n ≤ high → IsSome o
-number_fits = ReadValues.number_fits
-
--- a serial number that is read has that letter and that number
-pub serial_read : (letter number : ℕ) (o : Option SerialNumber) → o ≡ serial_at letter number → IfSome o (λ s. (s.letter ≡ letter) × (s.number ≡ number))
-serial_read = ReadValues.serial_read
-
--- a serial number in range is read
-pub serial_fits : (letter number : ℕ) (o : Option SerialNumber) → o ≡ serial_at letter number → IsSerial (record { letter = letter; number = number }) → IsSome o
-serial_fits = ReadValues.serial_fits
-
--- a denomination that is read has those dollars
-pub denom_read : (n : ℕ) → IfSome (denom_with n) (λ d. dollars d ≡ n)
-denom_read = ReadValues.denom_read
-
--- a denomination's dollars are read
-pub denom_fits : (d : Denom) → IsSome (denom_with (dollars d))
-denom_fits = ReadValues.denom_fits
 
 -- ---- the texts of a content
 -- a row of a kept reply has texts in UTF-8

@@ -1,7 +1,7 @@
 use Rattle.std.proofs.Common.{◌≡◌, map, take}
 use Rattle.std.specs.Prelude.{All}
 use Rattle.ee_store_tables.specs.AsRows.{FitsLine, row_of_line}
-use Rattle.ee_store_books.specs.Standing.{paid_row}
+use Rattle.ee_store_rows.specs.Rows.{paid_row}
 use Rattle.ee_store_delivery.proofs.to_rows.line_rows.Given as goal
 
 abbrev pub invariant-loop-line : goal.invariant-loop-line

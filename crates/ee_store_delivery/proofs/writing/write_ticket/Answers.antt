@@ -6,7 +6,7 @@ use Rattle.ee_store_tables.specs.Rows.{Sees, TicketRow, PaidRow, with_ticket, wi
 use Rattle.ee_store_tables.specs.AsRows.{Fits, row_of_ticket, row_of_line}
 use Rattle.ee_store_tables.proofs.Lemmas.Transactions.{clean_before}
 use Rattle.ee_store_tables.proofs.Lemmas.Causes.{room_less}
-use Rattle.ee_store_books.specs.Standing.{paid_row}
+use Rattle.ee_store_rows.specs.Rows.{paid_row}
 use Rattle.ee_store_books.proofs.Lemmas.Lookups.{statement_failed, memory_handed_on}
 use Rattle.ee_store_delivery.proofs.WriteCauses.{same_length, later_failed}
 use Rattle.ee_store_delivery.proofs.writing.write_ticket.Goals as goal

@@ -2,7 +2,7 @@ use Rattle.std.proofs.Common.{Some, None, sym, ap, ◌∙◌, subst}
 use Rattle.ee_units.specs.Spelling.{SerialNumber}
 use Rattle.ee_desk_model.specs.Ranges.{IsSerial}
 use Rattle.ee_store_tables.specs.declared.records.UnpaidBond.{UnpaidBond}
-use Rattle.ee_store_books.proofs.Lemmas.Contents.{serial_read, serial_fits}
+use Rattle.ee_store_rows.proofs.Lemmas.{serial_read, serial_fits}
 use Rattle.ee_store_queries.proofs.from_rows.bond_shown.Goals as goal
 
 pub returns-in_err-serial-clause-read : goal.returns-in_err-serial-clause-read

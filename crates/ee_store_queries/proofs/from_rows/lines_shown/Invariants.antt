@@ -1,5 +1,5 @@
 use Rattle.std.proofs.Common.{◌≡◌, map, take}
-use Rattle.ee_store_books.specs.Standing.{paid_row}
+use Rattle.ee_store_rows.specs.Rows.{paid_row}
 use Rattle.ee_store_queries.specs.Asking.{row_of_placed}
 use Rattle.ee_store_queries.proofs.from_rows.lines_shown.Given as goal
 

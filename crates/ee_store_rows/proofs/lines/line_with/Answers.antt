@@ -1,6 +1,6 @@
 use Rattle.std.proofs.Common.{Some, None}
-use Rattle.ee_store_books.proofs.ReadValues.{serial_read, serial_fits}
-use Rattle.ee_store_books.proofs.lines.line_with.Goals as goal
+use Rattle.ee_store_rows.proofs.ReadValues.{serial_read, serial_fits}
+use Rattle.ee_store_rows.proofs.lines.line_with.Goals as goal
 
 pub returns-in_err-serial-clause-read : goal.returns-in_err-serial-clause-read
 returns-in_err-serial-clause-read c fits =

@@ -2,8 +2,8 @@
 
 ghost use Rattle.std.specs.Prelude.{◌≡◌, IfSome, IsSome};
 ghost use Rattle.ee_desk_model.specs.Ranges.{IsSerial};
-ghost use Rattle.ee_store_books.specs.Lines.{line_with};
-ghost use Rattle.ee_store_books.specs.Standing.{paid_row};
+ghost use Rattle.ee_store_rows.specs.Lines.{line_with};
+ghost use Rattle.ee_store_rows.specs.Rows.{paid_row};
 
 use ee_desk_model::Line;
 use ee_units::{Cents, Serial};

@@ -1,0 +1,2 @@
+mod ReadValues
+pub mod Lemmas
