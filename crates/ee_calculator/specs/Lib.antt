@@ -2,4 +2,4 @@ pub mod Bonds
 pub mod Notes
 pub mod Rows
 pub mod Sheets
-pub mod Lines
+pub mod Inner

@@ -3,7 +3,7 @@
 ghost use Rattle.std.specs.Prelude.{◌≡◌, ◌*◌, ◌≤◌, ◌++◌, [], length, false, is_ok, OnErr};
 ghost use Rattle.std.specs.List.{flat_map};
 ghost use Rattle.ee_io.specs.Written.{WritesFront};
-ghost use Rattle.ee_calculator.specs.Lines.{cell_of};
+ghost use Rattle.ee_calculator.specs.Inner.Lines.{cell_of};
 ghost use Rattle.ee_calculator.specs.Sheets.{heading as heading_cell, line as line_text, placed, row_cell, sheet_text};
 
 use crate::cells::{Cell, heading, row_cell, total_cell};

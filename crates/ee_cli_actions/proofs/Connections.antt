@@ -13,7 +13,8 @@ use Rattle.ee_counter.specs.declared.connections.Ended.{Ended}
 use Rattle.ee_counter.specs.declared.connections.Why.{Why}
 use Rattle.ee_counter.specs.declared.connections.Why.TheVariants.{Closed, Asked, Limit, Fault, ReadFailed, WriteFailed, NoMemory}
 use Rattle.ee_counter.specs.Serving.{EndsBy, Told, left_by, left_by_all, attempts_by, attempts_by_all}
-use Rattle.ee_cli_actions.specs.Connections.{BreaksOff, Comes, EndsWithFailure, PrintsLine, PrintsLines, ServesEach, ServesNext, ServesStream, WritesNotAll, WritesSome, any_failed}
+use Rattle.ee_cli_actions.specs.Connections.{BreaksOff, Comes, EndsWithFailure, PrintsLines, ServesEach, ServesStream, WritesSome, any_failed}
+use Rattle.ee_cli_actions.specs.Inner.Connections.{PrintsLine, ServesNext, WritesNotAll}
 use Rattle.ee_cli_actions.specs.declared.faults.Outcome.{Outcome}
 use Rattle.ee_cli_actions.specs.declared.faults.RunFault.{RunFault}
 use Rattle.ee_cli_actions.specs.declared.faults.RunFault.TheVariants.{Device}

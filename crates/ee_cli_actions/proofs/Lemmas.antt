@@ -24,7 +24,8 @@ use Rattle.ee_counter.specs.declared.files.ImportFault.TheVariants as import
 use Rattle.ee_cli_commands.specs.declared.commands.FileKind.{FileKind}
 use Rattle.ee_cli_commands.specs.declared.commands.FileKind.TheVariants as kind
 use Rattle.ee_cli_actions.specs.declared.faults.Outcome.{Outcome}
-use Rattle.ee_cli_actions.specs.Actions.{Applies, AreOf, ImportsInto, ExportsFrom, ShowsSheet}
+use Rattle.ee_cli_actions.specs.Actions.{Applies, ImportsInto, ExportsFrom, ShowsSheet}
+use Rattle.ee_cli_actions.specs.Inner.Actions.{AreOf}
 use Rattle.ee_cli_actions.specs.Connections.{ServesAll}
 use Rattle.ee_cli_actions.proofs.Connections.{each_with}
 use Rattle.ee_cli_actions.specs.declared.faults.RunFault.{RunFault}

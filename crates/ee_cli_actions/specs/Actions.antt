@@ -1,6 +1,6 @@
 -- What the commands over a store do, given a content of the store. `Has` is the relation of contents that it then has, and of
 -- the attempts that led there.
-use Rattle.std.specs.Prelude.{◌≡◌, ℕ, List, Option, Some, Result, Ok, Err, true, false}
+use Rattle.std.specs.Prelude.{◌≡◌, ℕ, List, Option, Result, Ok, Err, true, false}
 use Rattle.ee_io.specs.Written.{WritesFront}
 use Rattle.ee_calculator.specs.Sheets.{sheet_text}
 use Rattle.ee_calculator.specs.declared.sheets.Sheet.{Sheet}
@@ -53,10 +53,6 @@ TellsReply old new (Ok reply) (Err fault.NoMemory) = new ≡ old
 TellsReply old new (Ok reply) (Err (fault.File cause)) = ⊥
 TellsReply old new (Ok reply) (Err (fault.Store cause)) = ⊥
 TellsReply old new (Err cause) result = (result ≡ Err (fault_of_import cause)) × (new ≡ old)
-
--- the bytes are those that a reader gave, if these are known
-abbrev pub AreOf : Option (List ℕ) → List ℕ → Type 0
-AreOf known bytes = (source : List ℕ) → known ≡ Some source → bytes ≡ source
 
 -- the file is imported, and its reply is printed
 abbrev pub ImportsInto : FileKind → Option (List ℕ) → Option (List ℕ) → Option (List ℕ) → RequestKey → Content → Result Outcome RunFault → (Content → List Attempt → Type 0) → Type 0

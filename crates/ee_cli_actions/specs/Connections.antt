@@ -26,11 +26,6 @@ Comes (Some (bytes ∷ rest)) others sends = (others ≡ Some rest) × (sends �
 abbrev pub ServesStream : Option (List ℕ) → Content → Ended → (Content → List Attempt → Type 0) → Type 0
 ServesStream sends c e Has = (left old new : Option (List ℕ)) × Serves sends left old new c e Has
 
--- of these connections the next one is served, or none came
-abbrev pub ServesNext : Option (List (List ℕ)) → Option (List (List ℕ)) → Content → Result Ended RunFault → (Content → List Attempt → Type 0) → Type 0
-ServesNext coming others c (Ok e) Has = (sends : Option (List ℕ)) × Comes coming others sends × ServesStream sends c e Has
-ServesNext coming others c (Err cause) Has = (cause ≡ Device) × Has c []
-
 -- of these connections the first ones are served, each at the content after those before it, and this is how they end
 abbrev pub ServesEach : Option (List (List ℕ)) → Option (List (List ℕ)) → Content → List Ended → (Content → List Attempt → Type 0) → Type 0
 ServesEach coming others c [] Has = (others ≡ coming) × Has c []
@@ -45,15 +40,6 @@ pub record WritesSome (old new : Option (List ℕ)) (text : List ℕ) : Type 0 w
   pub rest : List ℕ
   pub parts : text ≡ front ++ rest
   pub written : Appends old new front
-
--- and not all of it
-abbrev pub WritesNotAll : Option (List ℕ) → Option (List ℕ) → List ℕ → Type 0
-WritesNotAll old new text = (some : WritesSome old new text) × (some.rest ≢ [])
-
--- a line is printed, or not all of it if a device or memory failed
-abbrev pub PrintsLine : Option (List ℕ) → Option (List ℕ) → List ℕ → Result (Unit {0}) RunFault → Type 0
-PrintsLine old new line (Ok u) = Appends old new line
-PrintsLine old new line (Err cause) = WritesNotAll old new line
 
 -- on one of these connections an answer said that the store failed
 abbrev pub any_failed : List Ended → Bool

@@ -5,7 +5,8 @@ ghost use Rattle.ee_desk_model.specs.Repeats.{Content};
 ghost use Rattle.ee_keeper.specs.Keeping.{Continues, FailedIn, HasAfter};
 ghost use Rattle.ee_counter.specs.Answering.{FitMessages};
 ghost use Rattle.ee_counter.specs.Serving.{Serves, most_messages};
-ghost use Rattle.ee_cli_actions.specs.Connections.{PrintsLine, ServesAll, ServesNext, ServesStream};
+ghost use Rattle.ee_cli_actions.specs.Connections.{ServesAll, ServesStream};
+ghost use Rattle.ee_cli_actions.specs.Inner.Connections.{PrintsLine, ServesNext};
 ghost use Rattle.ee_cli_actions.specs.Endings.{TellsFailureOnlyIf};
 ghost use Rattle.ee_cli_actions.specs.Printed.{connection_line, failure_text};
 

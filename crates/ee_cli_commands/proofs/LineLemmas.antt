@@ -10,7 +10,8 @@ use Rattle.clap.specs.declared.error.Error.{Error}
 use Rattle.clap.specs.declared.error.ErrorKind.{ErrorKind}
 use Rattle.clap.proofs.OnLiterals.{clap_on_literals}
 use Rattle.ee_cli_commands.specs.CommandLine.{asked, program, kind_words}
-use Rattle.ee_cli_commands.specs.Answer.{IsAnswer, IsWord, Gives, Refuses, view_of}
+use Rattle.ee_cli_commands.specs.Answer.{IsAnswer, IsWord, view_of}
+use Rattle.ee_cli_commands.specs.Inner.Answer.{Gives, Refuses}
 use Rattle.ee_cli_commands.specs.declared.commands.Command.{Command}
 use Rattle.ee_cli_commands.specs.declared.commands.CommandFault.{CommandFault}
 use Rattle.ee_cli_commands.specs.declared.commands.CommandFault.TheVariants as fault

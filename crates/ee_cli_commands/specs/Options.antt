@@ -1,12 +1,7 @@
 -- What a line asks for besides its command.
-use Rattle.std.specs.Prelude.{List, [], ◌∷◌, ◌++◌, Bool, false, codes, if◌then◌else◌}
+use Rattle.std.specs.Prelude.{List, [], ◌∷◌, ◌++◌, codes, if◌then◌else◌}
 use Rattle.std.specs.Str.{bytes_eq}
 use Rattle.clap.specs.Words.{Text}
-
--- the word after the program's name is `help`
-abbrev pub asks_for_help : List Text → Bool
-asks_for_help (name ∷ word ∷ rest) = bytes_eq word (codes "help")
-asks_for_help words = false
 
 -- `help` is read as `--help`, and `help COMMAND` as `COMMAND --help`
 abbrev pub help_read : List Text → List Text

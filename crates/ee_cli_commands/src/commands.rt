@@ -3,7 +3,8 @@
 ghost use Rattle.std.specs.Prelude.{◌≡◌, IfOk, IfSome, Some, List, map, string_bytes, true};
 ghost use Rattle.clap.specs.Words.{Row, Text, first_of, found_of, has_subcommand, kind_of, rows_of, subcommand_rows_of};
 ghost use Rattle.ee_cli_commands.specs.CommandLine.{asked};
-ghost use Rattle.ee_cli_commands.specs.Answer.{Gives, IsAnswer, Refuses, Spells, view_of};
+ghost use Rattle.ee_cli_commands.specs.Answer.{IsAnswer, view_of};
+ghost use Rattle.ee_cli_commands.specs.Inner.Answer.{Gives, Refuses, Spells};
 
 use crate::lines::{apply_line, export_line, import_line, serve_line, sheet_line, value_line};
 use crate::rows::program;

@@ -2,7 +2,8 @@
 
 ghost use Rattle.clap.specs.Words.{found_of, rows_of};
 ghost use Rattle.ee_cli_commands.specs.CommandLine.{apply_asked, export_asked, import_asked, serve_asked, sheet_asked, value_asked};
-ghost use Rattle.ee_cli_commands.specs.Answer.{Spells, view_of};
+ghost use Rattle.ee_cli_commands.specs.Answer.{view_of};
+ghost use Rattle.ee_cli_commands.specs.Inner.Answer.{Spells};
 
 use crate::commands::Command;
 use crate::words::{

@@ -3,7 +3,8 @@
 ghost use Rattle.std.specs.Prelude.{◌≡◌, IfOk, codes, map, string_bytes};
 ghost use Rattle.std.specs.List.{list_any};
 ghost use Rattle.std.specs.Str.{bytes_eq};
-ghost use Rattle.ee_cli_commands.specs.Options.{asks_for_help, help_read};
+ghost use Rattle.ee_cli_commands.specs.Options.{help_read};
+ghost use Rattle.ee_cli_commands.specs.Inner.Options.{asks_for_help};
 
 use std::alloc::{AllocError, Global};
 

@@ -16,7 +16,7 @@ ghost use Rattle.ee_cli_commands.specs.CommandLine.{
   spelled_or_none,
   text_of,
 };
-ghost use Rattle.ee_cli_commands.specs.Answer.{Spells};
+ghost use Rattle.ee_cli_commands.specs.Inner.Answer.{Spells};
 ghost use Rattle.ee_desk_model.specs.Limits.{highest_number};
 
 use crate::commands::FileKind;

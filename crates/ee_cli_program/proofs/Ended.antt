@@ -18,7 +18,8 @@ use Rattle.ee_cli_commands.specs.declared.commands.CommandFault.{CommandFault}
 use Rattle.ee_cli_commands.specs.declared.commands.CommandFault.TheVariants as fault
 use Rattle.ee_cli_commands.specs.Answer.{AsksForVersion, IsAnswer, IsAsked, IsRefused}
 use Rattle.ee_cli_commands.proofs.Lemmas.{asks_for_help_alone, asks_for_version_alone, asks_for_one, asks_unrefused, never_asks_for_both}
-use Rattle.ee_cli_program.specs.Statuses.{AsksToShow, Carries, Ends, IsAnswered, IsRun, IsStatusFor, IsStatusOf, Refuses, ending_of_print, version_line}
+use Rattle.ee_cli_program.specs.Statuses.{AsksToShow, Carries, Ends, IsRun, IsStatusFor, IsStatusOf, Refuses, ending_of_print, version_line}
+use Rattle.ee_cli_program.specs.Inner.Statuses.{IsAnswered}
 
 -- ---- the words determine what they ask for
 

@@ -1,6 +1,5 @@
 -- What an exit status says about the words of a line, and about what was carried out.
 use Rattle.std.specs.Prelude.{◌≡◌, ◌≢◌, ◌≤◌, ◌⊎◌, ◌++◌, ◌∷◌, [], ℕ, List, codes, Option, Result, Ok, Err, IfOk, ⊤}
-use Rattle.std.specs.Io.KnownBytes.{Appends}
 use Rattle.clap.specs.Words.{Text}
 use Rattle.ee_units.specs.declared.denoms.Denom.{Denom}
 use Rattle.ee_value.specs.Chain.{rates_with}
@@ -14,7 +13,6 @@ use Rattle.ee_desk_model.specs.declared.refusals.Refusal.{Refusal}
 use Rattle.ee_cli_actions.specs.Endings.{fault_of_print, outcome_of_value}
 use Rattle.ee_cli_actions.specs.declared.faults.RunFault.{RunFault}
 use Rattle.ee_cli_commands.specs.CommandLine.{Asked, value, apply, imports, export, sheet, serve}
-use Rattle.ee_cli_commands.specs.declared.commands.CommandFault.{CommandFault}
 use Rattle.ee_cli_commands.specs.declared.commands.CommandFault.TheVariants as fault
 use Rattle.ee_cli_commands.specs.Answer.{IsAsked, IsRefused, AsksForHelp, AsksForVersion}
 
@@ -40,14 +38,6 @@ Carries old new (serve db port connections) result = IfOk result (λ ended. ende
 -- the versions of the program and of the stores that it makes
 abbrev pub version_line : List ℕ
 version_line = codes "ee_cli 1.1.0, store version 2" ++ 10 ∷ []
-
--- the status with which words are answered that ask for no command, and what was printed
-abbrev pub IsAnswered : CommandFault → Option (List ℕ) → Option (List ℕ) → ℕ → Type 0
-IsAnswered (fault.Help text) old new status = (status ≡ 0) ⊎ (status ≡ 3)
-IsAnswered fault.Version old new status = ((status ≡ 0) ⊎ (status ≡ 3)) × (status ≡ 0 → Appends old new version_line)
-IsAnswered (fault.Line text) old new status = (status ≡ 2) ⊎ (status ≡ 3)
-IsAnswered (fault.Argument name word) old new status = (status ≡ 2) ⊎ (status ≡ 3)
-IsAnswered fault.NoMemory old new status = (status ≡ 3) × (new ≡ old)
 
 -- the words ask for help, or for the version
 abbrev pub AsksToShow : List Text → Type 0

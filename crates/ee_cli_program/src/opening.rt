@@ -6,13 +6,15 @@ ghost use Rattle.ee_desk_model.specs.Repeats.{Content};
 ghost use Rattle.ee_keeper.specs.Keeping.{Continues, FailedIn, HasAfter};
 ghost use Rattle.ee_counter.specs.Answering.{FitMessages};
 ghost use Rattle.ee_counter.specs.Serving.{most_messages};
-ghost use Rattle.ee_cli_actions.specs.Actions.{AreOf, FitFile, ImportsInto};
+ghost use Rattle.ee_cli_actions.specs.Actions.{FitFile, ImportsInto};
+ghost use Rattle.ee_cli_actions.specs.Inner.Actions.{AreOf};
 ghost use Rattle.ee_cli_actions.specs.Endings.{TellsFailureOnlyIf};
 ghost use Rattle.ee_cli_actions.specs.Connections.{ServesAll};
 ghost use Rattle.ee_cli_program.specs.Stores.{Tries};
 ghost use Rattle.ee_cli_program.specs.Explained.{form_in};
 ghost use Rattle.ee_cli_program.specs.Forms.{form_of};
-ghost use Rattle.ee_cli_program.specs.Told.{ShowsField, TellsOnlyIf, form_at_code, form_at_fault};
+ghost use Rattle.ee_cli_program.specs.Told.{TellsOnlyIf};
+ghost use Rattle.ee_cli_program.specs.Inner.Told.{ShowsField, form_at_code, form_at_fault};
 
 use crate::explaining::Cause;
 use crate::forms::{Form, form_of};

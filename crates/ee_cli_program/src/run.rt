@@ -11,7 +11,8 @@ ghost use Rattle.ee_cli_commands.specs.CommandLine.{Asked, value};
 ghost use Rattle.ee_units.specs.declared.denoms.Denom.{Denom};
 ghost use Rattle.ee_value.specs.Chain.{rates_with};
 ghost use Rattle.ee_keeper.specs.Keeping.{HasAfter};
-ghost use Rattle.ee_cli_program.specs.Statuses.{Carries, HasRun, IsAnswered, IsRun, IsStatusOf, version_line};
+ghost use Rattle.ee_cli_program.specs.Statuses.{Carries, HasRun, IsRun, IsStatusOf, version_line};
+ghost use Rattle.ee_cli_program.specs.Inner.Statuses.{IsAnswered};
 ghost use Rattle.ee_cli_program.specs.Stores.{CarriesOver, IsUntouched, Since};
 
 use crate::carrying::{CarriedOut, carry_out};

@@ -22,7 +22,8 @@ use Rattle.ee_store.specs.Holding.{KeepsHeld}
 use Rattle.ee_cli_actions.specs.declared.faults.RunFault.{RunFault}
 use Rattle.ee_cli_program.specs.Told.{fault_of_cause}
 use Rattle.ee_cli_stores.specs.declared.files.Refused.{Refused}
-use Rattle.ee_cli_stores.specs.Faults.{fault_of_opening, HasCause, IsLeftOf, IsOfFiles, IsStill}
+use Rattle.ee_cli_stores.specs.Faults.{fault_of_opening, HasCause, IsOfFiles, IsStill}
+use Rattle.ee_cli_stores.specs.Inner.Faults.{IsLeftOf}
 
 same_fault : (cause : OpenCause) → fault_of_opening (fault_of (error_of cause)) ≡ fault_of_cause cause
 same_fault opening.NoMemory = refl

@@ -1,9 +1,8 @@
 -- The fault of a store that isn't opened, and what is left of one that isn't opened or isn't closed.
-use Rattle.std.specs.Prelude.{◌≡◌, ◌⊎◌, Some, None, ⊤}
+use Rattle.std.specs.Prelude.{◌≡◌, ◌⊎◌, ⊤}
 use Rattle.sqlite_disk.specs.declared.Disk.{Ghosts}
 use Rattle.sqlite_disk.specs.declared.Files.{Files}
 use Rattle.sqlite.specs.declared.FileStore.{FileStore}
-use Rattle.sqlite.specs.declared.file.Leftover.{Leftover}
 use Rattle.sqlite.specs.Tree.{Trees}
 use Rattle.sqlite.specs.FileStore.{recovers, view}
 use Rattle.sqlite.specs.View.{IsClean}
@@ -15,8 +14,6 @@ use Rattle.ee_store_files.specs.declared.causes.OpenCause.{OpenCause}
 use Rattle.ee_store_files.specs.Causes.{IsOfSystem, error_of}
 use Rattle.ee_store_files.specs.Files.{Leaves}
 use Rattle.ee_store_files.specs.Opening.{IsCauseOf}
-use Rattle.ee_store.specs.declared.opening.Rest.{Rest}
-use Rattle.ee_store.specs.declared.opening.Rest.TheVariants as unopened
 use Rattle.ee_store.specs.Adopted.{IsRefusedFrom}
 use Rattle.ee_store.specs.Holding.{KeepsHeld}
 use Rattle.ee_store.specs.NextRun.{IsNumberedStore}
@@ -45,12 +42,6 @@ module _ {D : Type 0} {g : Ghosts D} where
   abbrev pub HandsBack : Held (FileStore D g) → FileStore D g → Type 0
   HandsBack now last =
       ((db : Trees) → recovers last db → (file_state now).may_leave db) × (IsClean (view last) → HasCleanDisk (file_state now) × IsNumberedStore last)
-
-  -- the store of a connection is handed back, or what is left of files that `sqlite` didn't open
-  abbrev pub IsLeftOf : Rest (FileStore D g) (Leftover D g) → Refused D g → Type 0
-  IsLeftOf (unopened.Connection conn) it = (last : FileStore D g) × (it ≡ refused.Store last) × HandsBack conn last
-  IsLeftOf (unopened.Files (Some left)) it = it ≡ refused.Files left
-  IsLeftOf (unopened.Files None) it = it ≡ refused.Nothing
 
   -- What first held this isn't opened for this fault, and is still there: the store was refused, and is left as it was found; or `sqlite`
   -- didn't open the files, and what is left of them holds what they held; or the system opened no file.

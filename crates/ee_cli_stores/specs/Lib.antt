@@ -3,3 +3,4 @@ pub mod Lines
 pub mod Tested
 pub mod Running
 pub mod Bank
+pub mod Inner

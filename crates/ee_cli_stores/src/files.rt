@@ -10,7 +10,8 @@ ghost use Rattle.ee_store_tables.specs.Rows.{HasRoom};
 ghost use Rattle.ee_store.specs.Ended.{EndsTested, FailsToEnd, RestsIn};
 ghost use Rattle.ee_store.specs.History.{HasLeft, RestsAfter};
 ghost use Rattle.ee_store.specs.NextRun.{HoldsContent};
-ghost use Rattle.ee_cli_stores.specs.Faults.{fault_of_opening, IsLeftOf, IsRefused, Keeps};
+ghost use Rattle.ee_cli_stores.specs.Faults.{fault_of_opening, IsRefused, Keeps};
+ghost use Rattle.ee_cli_stores.specs.Inner.Faults.{IsLeftOf};
 ghost use Rattle.ee_cli_stores.specs.Tested.{IsTested, WasClean};
 
 use crate::laws::lines_law;

@@ -3,3 +3,4 @@ pub mod Endings
 pub mod Values
 pub mod Statuses
 pub mod Lines
+pub mod Inner

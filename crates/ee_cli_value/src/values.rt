@@ -3,7 +3,8 @@
 ghost use Rattle.std.specs.Prelude.{◌≡◌, IfErr, IfOk, string_bytes};
 ghost use Rattle.ee_calculator.specs.Rows.{columns_of};
 ghost use Rattle.ee_value.specs.Fault.{IsFaultOf};
-ghost use Rattle.ee_cli_value.specs.Endings.{TellsDeviceOnlyIf, ending_of_value};
+ghost use Rattle.ee_cli_value.specs.Endings.{TellsDeviceOnlyIf};
+ghost use Rattle.ee_cli_value.specs.Inner.Endings.{ending_of_value};
 ghost use Rattle.ee_cli_value.specs.Printed.{line_of, value_line};
 ghost use Rattle.ee_cli_value.specs.Values.{PrintsValue};
 

@@ -26,7 +26,8 @@ use Rattle.ee_wire_framing.specs.declared.FramingFault.{FramingFault}
 use Rattle.ee_counter.specs.declared.connections.Ended.{Ended}
 use Rattle.ee_counter.specs.declared.connections.Why.{Why}
 use Rattle.ee_counter.specs.declared.connections.Why.TheVariants.{Closed, Asked, Limit, Fault, ReadFailed, WriteFailed, NoMemory}
-use Rattle.ee_counter.specs.Serving.{DeviceFailsOnlyIf, FlowDeviceFailsOnlyIf, Told, left_by, is_last, text_of, texts, left_by_all, attempts_by, attempts_by_all, AreRight, AnswersOne, Turns, fault_text, RefusesBy, EndsBy, Ends, messages, SoFar, Serves, told_failure, any_told_failure, WereNeeded}
+use Rattle.ee_counter.specs.Serving.{DeviceFailsOnlyIf, Told, left_by, is_last, text_of, texts, left_by_all, attempts_by, attempts_by_all, AreRight, fault_text, EndsBy, Ends, messages, SoFar, Serves, told_failure, any_told_failure, WereNeeded}
+use Rattle.ee_counter.specs.Inner.Serving.{FlowDeviceFailsOnlyIf, AnswersOne, Turns, RefusesBy}
 
 -- a text that was written whole
 pub whole : (text : List ℕ) (old new : Option (List ℕ)) → WritesFront old new text true → Appends old new text

@@ -7,7 +7,6 @@ use Rattle.ee_desk_model.specs.Answers as desk
 use Rattle.ee_desk_model.specs.Queries.{ShowsQuery}
 use Rattle.ee_desk_model.specs.declared.queries.Shown.TheVariants as shown
 use Rattle.ee_desk_model.specs.declared.acts.Request.{Request}
-use Rattle.ee_desk_model.specs.declared.refusals.Unserved.{Unserved}
 use Rattle.ee_desk_laws.specs.Attempts.{Attempt}
 use Rattle.ee_desk_texts.specs.Given.{IsGiven}
 use Rattle.ee_desk_texts.specs.Texts.{act_text, reply_text}
@@ -70,11 +69,6 @@ attempts_in (Err fault) answer = []
 -- led there.
 abbrev pub Answers : Content → Result Call WireFault → Answer → (Content → List Attempt → Type 0) → Type 0
 Answers c call answer Has = IsRight c call answer × Has (left_after c call answer) (attempts_in call answer)
-
--- the answer; or none, and then nothing has changed
-abbrev pub AnswersUnless : Content → Result Call WireFault → Result Answer Unserved → (Content → List Attempt → Type 0) → Type 0
-AnswersUnless c call (Ok answer) Has = IsAnswer c call answer × Has (after_call c call) (attempts_in call answer)
-AnswersUnless c call (Err unserved) Has = Has c (attempts_in call (told.Unserved unserved))
 
 -- the texts of a request in a call fit the store
 abbrev pub FitsCall : (Content → Request → Type 0) → Content → Result Call WireFault → Type 0

@@ -9,7 +9,8 @@ ghost use Rattle.ee_wire_calls.specs.Calls.{decoded};
 ghost use Rattle.ee_wire_calls.specs.declared.calls.Call.TheVariants as call;
 ghost use Rattle.ee_desk_laws.specs.Attempts.{LeadOn};
 ghost use Rattle.ee_keeper.specs.Keeping.{Continues, FailsOnlyIf, FailedIn, HasAfter, Shows};
-ghost use Rattle.ee_counter.specs.Answering.{Answers, AnswersQuery, AnswersUnless, FitsCall};
+ghost use Rattle.ee_counter.specs.Answering.{Answers, AnswersQuery, FitsCall};
+ghost use Rattle.ee_counter.specs.Inner.Answering.{AnswersUnless};
 ghost use Rattle.ee_counter.specs.Serving.{tells_failure};
 
 use crate::decoding::Decoder;

@@ -6,7 +6,8 @@ ghost use Rattle.ee_desk_model.specs.Repeats.{Content};
 ghost use Rattle.ee_keeper.specs.Keeping.{Continues, FailedIn, HasAfter};
 ghost use Rattle.ee_wire_framing.specs.Reading.{message_in};
 ghost use Rattle.ee_counter.specs.Answering.{Answers, FitMessages, FitsCall, call_of};
-ghost use Rattle.ee_counter.specs.Serving.{Serves, Turns, AnswersOne, DeviceFailsOnlyIf, FlowDeviceFailsOnlyIf, FlowFailsOnlyIf, Refuses, tells_failure, most_messages};
+ghost use Rattle.ee_counter.specs.Serving.{Serves, DeviceFailsOnlyIf, tells_failure, most_messages};
+ghost use Rattle.ee_counter.specs.Inner.Serving.{Turns, AnswersOne, FlowDeviceFailsOnlyIf, FlowFailsOnlyIf, Refuses};
 
 use crate::answering::answer_decoded;
 use crate::decoding::Decoder;

@@ -14,8 +14,8 @@ use Rattle.std.proofs.lemmas.Map.Lookups.{CmpEqualImpliesEq}
 use Rattle.ee_desk_model.specs.declared.changes.Change.{Change}
 use Rattle.ee_desk_model.proofs.Lemmas.Maps.{get_lookup}
 use Rattle.std.proofs.lemmas.Map.Views.{tells_apart}
-use Rattle.ee_desk_decide.specs.NewRows.{with_row, AreNew}
-use Rattle.ee_desk.specs.Added.{without_row, with_changes, without_changes, every_second, is_row, adds_at, AgreeBeside}
+use Rattle.ee_desk_decide.specs.Inner.NewRows.{with_row, AreNew}
+use Rattle.ee_desk.specs.Inner.Added.{without_row, with_changes, without_changes, every_second, is_row, adds_at, AgreeBeside}
 
 pub taken_out : {K V : Type 0} {R : K → K → Ordering} (o : IsTotalOrder R) (exact : CmpEqualImpliesEq R) (es fs : List (K × V)) (k : K)
     → ((q : K) → lookup (is_at (R q)) fs ≡ cond (is_at (R k) q) None (lookup (is_at (R q)) es)) → finite.from_entries {R = R} fs ≡ finite.remove (finite.from_entries es) k

@@ -5,9 +5,9 @@ use Rattle.ee_desk_model.specs.declared.changes.Change.{Change}
 use Rattle.ee_desk_model.specs.declared.changes.Change.TheVariants as change
 use Rattle.ee_desk_model.specs.PlainBooks.{PlainBooks, of_day}
 use Rattle.ee_desk_model.specs.Acts.{changed, applied}
-use Rattle.ee_desk_decide.specs.NewRows.{rate_row, bond_row, AreNew}
-use Rattle.ee_desk.specs.Added.{with_changes}
-use Rattle.ee_desk_decide.specs.Applicable.{IsRate, IsBond, IsUnpaid, IsNextTicket, AreApplicable}
+use Rattle.ee_desk_decide.specs.Inner.NewRows.{rate_row, bond_row, AreNew}
+use Rattle.ee_desk.specs.Inner.Added.{with_changes}
+use Rattle.ee_desk_decide.specs.Inner.Applicable.{IsRate, IsBond, IsUnpaid, IsNextTicket, AreApplicable}
 
 pub rates_applied : (books : PlainBooks) (cs : List Change) → AllByRecursion IsRate cs → record books { rates = with_changes rate_row books.rates cs } ≡ applied books cs
 rates_applied books [] h = refl

@@ -15,7 +15,7 @@ use Rattle.ee_desk_model.specs.declared.replies.Batch.{Batch}
 use Rattle.ee_desk_model.specs.Serials.{serial_cmp}
 use Rattle.ee_desk_model.proofs.Lemmas.Maps.{serials_total, serials_exact}
 use Rattle.ee_desk_soundness.specs.Parts.{Parts, parts_of, row_of_entry}
-use Rattle.ee_desk.specs.Kept.{books_of}
+use Rattle.ee_desk.specs.Inner.Kept.{books_of}
 use Rattle.ee_desk.proofs.Ordered.{entries_are}
 
 abbrev pub bonds_kept : List (SerialNumber × Held) → List (SerialNumber × Bond)

@@ -7,7 +7,7 @@ use Rattle.std.proofs.lemmas.List.Sums.{sum_by-append}
 use Rattle.ee_desk_model.specs.declared.replies.Ticket.{Ticket}
 use Rattle.ee_desk_model.specs.PlainBooks.{of_day, batch_so_far, bonds_on, total_of}
 use Rattle.ee_desk_decide.specs.declared.views.DayCounts.{DayCounts}
-use Rattle.ee_desk.specs.Kept.{AreCounts}
+use Rattle.ee_desk.specs.Inner.Kept.{AreCounts}
 
 pub of_day_push : (tickets : List Ticket) (t : Ticket) → of_day t.day (tickets ++ t ∷ []) ≡ of_day t.day tickets ++ t ∷ []
 of_day_push tickets t =

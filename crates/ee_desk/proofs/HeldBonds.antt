@@ -8,7 +8,7 @@ use Rattle.ee_desk_model.specs.declared.replies.Ticket.{Ticket}
 use Rattle.ee_desk_model.specs.PlainBooks.{ticket_of}
 use Rattle.ee_desk_model.specs.Seen.{held_as}
 use Rattle.ee_desk.proofs.PaidMarks.{get_held_bond}
-use Rattle.ee_desk.specs.Marks.{held_at, bonds_held}
+use Rattle.ee_desk.specs.Inner.Marks.{held_at, bonds_held}
 
 held_marked : (tickets : List Ticket) (q : SerialNumber) (o : Option Held) → IfSome o (λ h. h.ticket ≡ ticket_of tickets q) → option_map (held_as tickets q) (option_map (λ h. h.bond) o) ≡ o
 held_marked tickets q None h = refl

@@ -18,10 +18,10 @@ use Rattle.ee_desk_soundness.specs.Checks.{InOrder, IsBefore, HaveRisingSerials,
 use Rattle.ee_desk_soundness.specs.Marks as marks
 use Rattle.ee_desk_soundness.specs.Marks.{bond_of}
 use Rattle.ee_desk_soundness.specs.Parts.{Parts}
-use Rattle.ee_desk.specs.Marks.{bonds_held, by_serial, held_at, AreMarked}
-use Rattle.ee_desk.specs.Kept as kept
+use Rattle.ee_desk.specs.Inner.Marks.{bonds_held, by_serial, held_at, AreMarked}
+use Rattle.ee_desk.specs.Inner.Kept as kept
 use Rattle.ee_desk_soundness.proofs.Lemmas.{entries_more}
-use Rattle.ee_desk.specs.Parts.{held_bond}
+use Rattle.ee_desk.specs.Inner.Parts.{held_bond}
 
 -- the bonds of rows are those that the rows were made of
 pub bonds_back : (tickets : List Ticket) (bonds : List Bond) → map bond_of (map (held_bond tickets) bonds) ≡ bonds

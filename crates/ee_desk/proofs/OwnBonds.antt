@@ -20,8 +20,8 @@ use Rattle.ee_desk_model.specs.PlainBooks.{ticket_of}
 use Rattle.ee_desk_model.specs.Queries.{is_open_bond}
 use Rattle.ee_desk_model.proofs.Lemmas.Maps.{serials_total, serials_exact}
 use Rattle.ee_desk.proofs.PaidMarks.{get_held_bond}
-use Rattle.ee_desk.specs.Marks.{bonds_held, held_at, AreMarked}
-use Rattle.ee_desk.specs.Kept.{own_bond}
+use Rattle.ee_desk.specs.Inner.Marks.{bonds_held, held_at, AreMarked}
+use Rattle.ee_desk.specs.Inner.Kept.{own_bond}
 use Rattle.ee_desk.proofs.Ordered.{entries_are}
 use Rattle.ee_desk.proofs.AsParts.{bonds_kept, same_keys}
 

@@ -13,7 +13,7 @@ use Rattle.ee_desk_model.specs.Serials.{serial_cmp, same_serial}
 use Rattle.ee_desk_model.specs.PlainBooks.{ticket_of, names}
 use Rattle.ee_desk_model.proofs.Lemmas.Maps.{serials_total, serials_exact, serials_tied, same_serial-swap, same_serial-is, get_lookup}
 use Rattle.ee_desk_model.proofs.Lemmas.Books.{ticket_of_push, named_unpaid}
-use Rattle.ee_desk.specs.Marks.{bonds_held, held_at, AreMarked, marked}
+use Rattle.ee_desk.specs.Inner.Marks.{bonds_held, held_at, AreMarked, marked}
 
 bond_if : (b : Bool) (h : Held) (o : Option Held) → cond b (Some h.bond) (option_map (λ x. x.bond) o) ≡ option_map (λ x. x.bond) (cond b (Some h) o)
 bond_if true h o = refl

@@ -16,11 +16,11 @@ use Rattle.ee_desk_model.specs.PlainBooks.{PlainBooks, ticket_of}
 use Rattle.ee_desk_model.proofs.Lemmas.Maps.{serials_total, serials_exact, get_lookup}
 use Rattle.std.proofs.lemmas.Map.Views.{tells_apart}
 use Rattle.ee_desk.proofs.PaidMarks.{get_held_bond}
-use Rattle.ee_desk.specs.Marks.{bonds_held, held_at, AreMarked}
+use Rattle.ee_desk.specs.Inner.Marks.{bonds_held, held_at, AreMarked}
 use Rattle.ee_desk_decide.specs.Noted.{held_in}
-use Rattle.ee_desk.specs.Added.{held_row, with_changes}
-use Rattle.ee_desk_decide.specs.NewRows.{bond_row, with_row, AreNew}
-use Rattle.ee_desk_decide.specs.Applicable.{IsUnpaid}
+use Rattle.ee_desk.specs.Inner.Added.{held_row, with_changes}
+use Rattle.ee_desk_decide.specs.Inner.NewRows.{bond_row, with_row, AreNew}
+use Rattle.ee_desk_decide.specs.Inner.Applicable.{IsUnpaid}
 
 abbrev bond_of : Held → Bond
 bond_of held = held.bond

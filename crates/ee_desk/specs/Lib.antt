@@ -1,5 +1,3 @@
-pub mod Marks
-pub mod Kept
-pub mod Added
 pub mod History
 pub mod Parts
+pub mod Inner

@@ -2,8 +2,8 @@
 
 ghost use Rattle.std.specs.Prelude.{◌≡◌, drop, OnOk, OnErr};
 ghost use Rattle.ee_desk_decide.specs.Noted.{rates_in, held_in};
-ghost use Rattle.ee_desk_decide.specs.NewRows.{rate_row, with_row, AreNew};
-ghost use Rattle.ee_desk.specs.Added.{held_row, without_row, with_changes, without_changes, every_second, AgreeBeside};
+ghost use Rattle.ee_desk_decide.specs.Inner.NewRows.{rate_row, with_row, AreNew};
+ghost use Rattle.ee_desk.specs.Inner.Added.{held_row, without_row, with_changes, without_changes, every_second, AgreeBeside};
 
 use ee_desk_model::{Change, Held, Terms, UnitTables};
 use ee_units::{IssueMonth, Serial};

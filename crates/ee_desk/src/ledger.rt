@@ -12,13 +12,13 @@ ghost use Rattle.ee_desk_model.specs.declared.changes.Change.TheVariants as chan
 ghost use Rattle.ee_desk_soundness.specs.Parts.{parts_of};
 ghost use Rattle.ee_desk_soundness.specs.Checks.{HaveRisingSerials};
 ghost use Rattle.ee_desk_soundness.specs.Marks.{bond_of};
-ghost use Rattle.ee_desk.specs.Marks.{by_serial, AreMarked};
-ghost use Rattle.ee_desk.specs.Kept.{books_of, AreCounts, AreKeyed};
+ghost use Rattle.ee_desk.specs.Inner.Marks.{by_serial, AreMarked};
+ghost use Rattle.ee_desk.specs.Inner.Kept.{books_of, AreCounts, AreKeyed};
 ghost use Rattle.ee_desk.specs.Parts.{as_lists};
 ghost use Rattle.ee_desk_decide.specs.Noted.{rates_in};
-ghost use Rattle.ee_desk_decide.specs.NewRows.{rate_row, bond_row, AreNew};
-ghost use Rattle.ee_desk.specs.Added.{with_changes};
-ghost use Rattle.ee_desk_decide.specs.Applicable.{IsUnpaid, IsNextTicket, AreApplicable};
+ghost use Rattle.ee_desk_decide.specs.Inner.NewRows.{rate_row, bond_row, AreNew};
+ghost use Rattle.ee_desk.specs.Inner.Added.{with_changes};
+ghost use Rattle.ee_desk_decide.specs.Inner.Applicable.{IsUnpaid, IsNextTicket, AreApplicable};
 
 use crate::additions::{add_bonds, add_rates};
 use crate::marks::mark_all;
@@ -51,8 +51,8 @@ impl Model for Ledger {
     ghost use Rattle.std.specs.Coded.{codes};
     ghost use Rattle.std.specs.FinMap as finite;
     ghost use Rattle.ee_desk_model.specs.PlainBooks.{PlainBooks, batch_so_far};
-    ghost use Rattle.ee_desk.specs.Marks.{AreMarked};
-    ghost use Rattle.ee_desk.specs.Kept.{books_of, AreCounts};
+    ghost use Rattle.ee_desk.specs.Inner.Marks.{AreMarked};
+    ghost use Rattle.ee_desk.specs.Inner.Kept.{books_of, AreCounts};
 
     ghost Value = { PlainBooks };
 

@@ -11,7 +11,7 @@ ghost use Rattle.ee_desk_model.specs.Repeats.{nothing};
 ghost use Rattle.ee_desk_model.specs.Contents.{content_after};
 ghost use Rattle.ee_desk_model.specs.Answers.{answer, reply_again};
 ghost use Rattle.ee_desk_model.specs.Queries.{ShowsQuery, IsKind};
-ghost use Rattle.ee_desk.specs.Kept.{kept_in};
+ghost use Rattle.ee_desk.specs.Inner.Kept.{kept_in};
 
 use crate::books::Books;
 use ee_desk_model::{Act, Kept, Query, Refusal, Reply, Request, RequestNumber, Shown, Unserved};

@@ -5,7 +5,7 @@ ghost use Rattle.std.specs.Option.{option_map};
 ghost use Rattle.std.specs.List.{list_any};
 ghost use Rattle.ee_units.specs.Spelling.{SerialNumber};
 ghost use Rattle.ee_desk_model.specs.Serials.{same_serial};
-ghost use Rattle.ee_desk.specs.Marks.{bonds_held, held_at, marked};
+ghost use Rattle.ee_desk.specs.Inner.Marks.{bonds_held, held_at, marked};
 
 use ee_desk_model::{Held, Line};
 use ee_units::Serial;

@@ -7,12 +7,14 @@ ghost use Rattle.std.specs.BTreeMap as tree;
 ghost use Rattle.std.specs.Ordering.{nat_cmp};
 ghost use Rattle.ee_desk_model.specs.PlainBooks.{ticket_of};
 ghost use Rattle.ee_desk_model.specs.Serials.{same_serial, serial_cmp};
-ghost use Rattle.ee_desk_soundness.specs.Checks.{parts_in, HaveRisingSerials, IsAfter, IsBefore};
+ghost use Rattle.ee_desk_soundness.specs.Checks.{parts_in, HaveRisingSerials, IsBefore};
+ghost use Rattle.ee_desk_soundness.specs.Inner.Checks.{IsAfter};
 ghost use Rattle.ee_desk_soundness.specs.Made.{IsMadeOf};
 ghost use Rattle.ee_desk_soundness.specs.Marks.{bond_of};
 ghost use Rattle.ee_desk_soundness.specs.Parts.{row_of_entry, AreUnsound};
-ghost use Rattle.ee_desk.specs.Marks.{by_serial};
-ghost use Rattle.ee_desk.specs.Parts.{as_lists, held_bond};
+ghost use Rattle.ee_desk.specs.Inner.Marks.{by_serial};
+ghost use Rattle.ee_desk.specs.Parts.{as_lists};
+ghost use Rattle.ee_desk.specs.Inner.Parts.{held_bond};
 
 use ee_calculator::Bond;
 use ee_desk_model::{Batch, Held, Line, RateRow, Rows, Terms, Ticket};

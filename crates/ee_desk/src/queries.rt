@@ -5,7 +5,7 @@ ghost use Rattle.std.specs.List.{filter_map};
 ghost use Rattle.std.specs.List.Sorted.{IsStrictlySortedBy};
 ghost use Rattle.std.specs.BTreeMap as tree;
 ghost use Rattle.ee_desk_model.specs.Serials.{serial_cmp};
-ghost use Rattle.ee_desk.specs.Kept.{own_bond};
+ghost use Rattle.ee_desk.specs.Inner.Kept.{own_bond};
 
 use ee_calculator::Bond;
 use ee_desk_model::{Batch, Held, Ticket};

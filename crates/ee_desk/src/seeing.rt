@@ -8,8 +8,9 @@ ghost use Rattle.ee_units.specs.Calendar.{period_start};
 ghost use Rattle.ee_desk_model.specs.Seen.{held_of};
 ghost use Rattle.ee_desk_model.specs.Views as is;
 ghost use Rattle.ee_desk_model.specs.Views.{picked, period_of_held};
-ghost use Rattle.ee_desk_decide.specs.Noted.{rates_in, held_in, noted, noted_at};
-ghost use Rattle.ee_desk.specs.Kept.{AreCounts};
+ghost use Rattle.ee_desk_decide.specs.Noted.{rates_in, held_in};
+ghost use Rattle.ee_desk_decide.specs.Inner.Noted.{noted, noted_at};
+ghost use Rattle.ee_desk.specs.Inner.Kept.{AreCounts};
 ghost use Rattle.ee_desk_model.specs.Limits.{highest_ticket};
 
 use crate::ledger::Ledger;

@@ -31,8 +31,8 @@ use Rattle.ee_desk_model.specs.Sound.{IsSound}
 use Rattle.ee_desk_model.specs.Views.{view_of, shown_by}
 use Rattle.ee_desk_model.proofs.Lemmas.Maps.{serials_total, serials_tied, all_weaker, all_filter, all_passed}
 use Rattle.ee_desk_model.proofs.Lemmas.Books.{seen_enough, applied_are_books_after, done_keeps_sound, act_keeps_sound, no_test_refuses, no_row_refused, unrefused_is_payable, held_is_registered, none_from_is_none, none_from_option_or, none_from_option_map, none_from_cond, unregistered_unpaid, opened_day_is_empty, redeem_on_open_day, few_tickets_on, few_bonds_on, small_total_on}
-use Rattle.ee_desk_decide.specs.NewRows.{rate_row, bond_row, AreNew}
-use Rattle.ee_desk_decide.specs.Applicable.{IsRate, IsBond, IsUnpaid, HasRoom, AreApplicable}
+use Rattle.ee_desk_decide.specs.Inner.NewRows.{rate_row, bond_row, AreNew}
+use Rattle.ee_desk_decide.specs.Inner.Applicable.{IsRate, IsBond, IsUnpaid, HasRoom, AreApplicable}
 
 find_push : (q : ℕ) (rows : List RateRow) (row : RateRow) → option_map (λ r. r.rates) (find (λ r. r.from == q) (rows ++ row ∷ [])) ≡ None
     → (option_map (λ r. r.rates) (find (λ r. r.from == q) rows) ≡ None) × (eqb row.from q ≡ false)

@@ -18,8 +18,8 @@ use Rattle.ee_desk_model.specs.Ranges.{IsInRange}
 use Rattle.ee_desk_model.specs.Sound.{IsSound}
 use Rattle.ee_desk_model.specs.Views.{picked}
 use Rattle.ee_desk_model.specs.declared.changes.Effects.{Effects}
-use Rattle.ee_desk_decide.specs.Applicable.{AreApplicable}
-use Rattle.ee_desk_decide.specs.Noted.{noted, noted_at}
+use Rattle.ee_desk_decide.specs.Inner.Applicable.{AreApplicable}
+use Rattle.ee_desk_decide.specs.Inner.Noted.{noted, noted_at}
 use Rattle.ee_desk_decide.proofs.Deciding
 use Rattle.ee_desk_decide.proofs.Entries
 use Rattle.ee_desk_decide.proofs.Picked

@@ -12,7 +12,7 @@ use Rattle.std.proofs.lemmas.List.{take_more, map-append}
 use Rattle.ee_desk_model.specs.Views.{picked}
 use Rattle.ee_desk_model.proofs.Lemmas.Maps.{get_picked}
 use Rattle.std.proofs.lemmas.Map.Views.{tells_apart}
-use Rattle.ee_desk_decide.specs.Noted.{noted, noted_at}
+use Rattle.ee_desk_decide.specs.Inner.Noted.{noted, noted_at}
 
 -- one element more: the test finds it, or another
 pub list_any_push : {A : Type 0} (p : A → Bool) (xs : List A) (y : A) → list_any p (xs ++ y ∷ []) ≡ (p y || list_any p xs)

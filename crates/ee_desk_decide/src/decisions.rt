@@ -6,7 +6,7 @@ ghost use Rattle.ee_desk_model.specs.Seen as seen;
 ghost use Rattle.ee_desk_model.specs.Refusals.{first_of, near, refusal_of, refusal_of_serial};
 ghost use Rattle.ee_desk_model.specs.Effects as is;
 ghost use Rattle.ee_desk_model.specs.declared.changes.Change.TheVariants as change;
-ghost use Rattle.ee_value.specs.Payment.{highest_value};
+ghost use Rattle.ee_value.specs.Inner.Payment.{highest_value};
 
 use crate::checks::{known_rate, refusal};
 use crate::values::{settled_terms, worth};

@@ -2,7 +2,7 @@
 
 ghost use Rattle.std.specs.Prelude.{◌≡◌, ◌+◌, ◌≤◌, IfOk, IfSome, IsSome, true, None};
 ghost use Rattle.ee_desk_model.specs.Values.{value_of, unsettled};
-ghost use Rattle.ee_value.specs.Payment.{highest_value};
+ghost use Rattle.ee_value.specs.Inner.Payment.{highest_value};
 
 use crate::views::View;
 use ee_calculator::Bond;

@@ -21,3 +21,4 @@ pub mod Repeats
 pub mod Contents
 pub mod Answers
 pub mod Queries
+pub mod Inner

@@ -2,7 +2,8 @@
 
 ghost use Rattle.std.specs.Prelude.{◌≡◌, ◌≤◌, option_and_then};
 ghost use Rattle.ee_units.specs.Spelling.{in_range};
-ghost use Rattle.ee_desk_model.specs.Desks.{is_desk, desk_of};
+ghost use Rattle.ee_desk_model.specs.Desks.{desk_of};
+ghost use Rattle.ee_desk_model.specs.Inner.Desks.{is_desk};
 
 use ee_units::pieces::is_all_digits;
 use std::marker::Model;
@@ -53,7 +54,7 @@ impl Desk {
     }
 }
 
-#[tactic(auto, unfolding(crate::specs::Desks::is_desk))]
+#[tactic(auto, unfolding(crate::specs::Inner::Desks::is_desk))]
 fn is_desk(text: &str) -> bool
     ensures { result ≡ is_desk text.now }
 {

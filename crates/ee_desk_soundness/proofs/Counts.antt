@@ -16,7 +16,7 @@ use Rattle.ee_desk_model.specs.declared.replies.Ticket.{Ticket}
 use Rattle.ee_desk_model.specs.PlainBooks.{of_day, bonds_on, total_of}
 use Rattle.ee_desk_decide.specs.declared.views.DayCounts.{DayCounts}
 use Rattle.ee_desk_model.proofs.Lemmas.Maps.{all_append, all_filter, sum_by_le}
-use Rattle.ee_desk_soundness.specs.Days.{counts_at, counts_on, no_counts, counted, AreNothing, AreCounted, HasMore, IsSmall, HasSpace, HasRoom, FitCounts, FitDays}
+use Rattle.ee_desk_soundness.specs.Inner.Days.{counts_at, counts_on, no_counts, counted, AreNothing, AreCounted, HasMore, IsSmall, HasSpace, HasRoom, FitCounts, FitDays}
 use Rattle.ee_desk_soundness.proofs.Walks.{taken_is, all_at, all_taken}
 
 abbrev Counts : Type 0

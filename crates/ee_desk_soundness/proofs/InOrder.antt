@@ -5,7 +5,8 @@ use Rattle.std.specs.List.{AllByRecursion}
 use Rattle.ee_desk_model.specs.Sound.{open_days}
 use Rattle.ee_desk_model.proofs.Lemmas.Maps.{serials_total}
 use Rattle.ee_units.specs.Spelling.{SerialNumber}
-use Rattle.ee_desk_soundness.specs.Checks.{InOrder, IsAfter, IsBefore}
+use Rattle.ee_desk_soundness.specs.Checks.{InOrder, IsBefore}
+use Rattle.ee_desk_soundness.specs.Inner.Checks.{IsAfter}
 use Rattle.ee_desk_soundness.proofs.Walks.{left_is}
 
 -- the rest is in order, and stands so to the last one before it

@@ -10,7 +10,8 @@ use Rattle.std.specs.Option.{IfSome}
 use Rattle.std.specs.declared.cmp.Ordering.{Ordering}
 use Rattle.std.specs.declared.cmp.Ordering.TheVariants.{Less}
 use Rattle.std.proofs.lemmas.Map.Lookups.{CmpEqualImpliesEq}
-use Rattle.ee_desk_soundness.specs.Checks.{HaveRisingMonths, HaveRisingSerials, InOrder, IsAfter, IsBefore, books_of}
+use Rattle.ee_desk_soundness.specs.Checks.{HaveRisingMonths, HaveRisingSerials, InOrder, IsBefore, books_of}
+use Rattle.ee_desk_soundness.specs.Inner.Checks.{IsAfter}
 use Rattle.ee_desk_soundness.specs.Parts.{AreUnsound, Parts, parts_of}
 use Rattle.ee_units.specs.Spelling.{SerialNumber}
 use Rattle.std.specs.FinMap as finite

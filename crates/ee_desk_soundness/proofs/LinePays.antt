@@ -10,7 +10,7 @@ use Rattle.ee_desk_model.specs.declared.replies.Line.{Line}
 use Rattle.ee_desk_model.specs.declared.replies.Ticket.{Ticket}
 use Rattle.ee_desk_model.specs.Values.{value_of}
 use Rattle.ee_calculator.specs.Bonds.{is_payee}
-use Rattle.ee_desk_soundness.specs.Checks.{PaysBond}
+use Rattle.ee_desk_soundness.specs.Inner.Checks.{PaysBond}
 
 module _ (rates : FinMap nat_cmp Rates) (bond : Bond) (ticket : Ticket) (line : Line) where
   worth_at : (terms other : Rates) (month : ℕ) → terms ≡ other → (line.cents.0 ≡ value_of terms bond month) → (line.cents.0 ≡ value_of other bond month)

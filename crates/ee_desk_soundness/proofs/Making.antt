@@ -11,9 +11,11 @@ use Rattle.ee_desk_model.specs.PlainBooks.{batch_so_far}
 use Rattle.ee_desk_model.specs.Sound.{IsDay}
 use Rattle.ee_desk_soundness.specs.Parts.{Parts, AreUnsound}
 use Rattle.ee_desk_soundness.specs.declared.checks.Indexes.{Indexes}
-use Rattle.ee_desk_soundness.specs.Checks.{bonds_in, entry_of_row, rates_in, parts_in, IsRegister, ArePaid, AreClosed}
+use Rattle.ee_desk_soundness.specs.Checks.{bonds_in, entry_of_row, rates_in, parts_in}
+use Rattle.ee_desk_soundness.specs.Inner.Checks.{IsRegister, ArePaid, AreClosed}
 use Rattle.ee_desk_soundness.specs.Marks.{bond_of, AreMarked}
-use Rattle.ee_desk_soundness.specs.Days.{days_of, counts_in, IsSmall}
+use Rattle.ee_desk_soundness.specs.Days.{counts_in}
+use Rattle.ee_desk_soundness.specs.Inner.Days.{days_of, IsSmall}
 use Rattle.ee_desk_soundness.specs.Made.{IsMadeOf}
 use Rattle.ee_desk_soundness.proofs.PaidRows.{right_tickets, rows_marked}
 use Rattle.ee_desk_soundness.proofs.SoundParts.{unsound, passed, register_is, paid_is, closed_is, rates_right, all_small}

@@ -27,8 +27,10 @@ use Rattle.ee_desk_model.specs.PlainBooks.{names, ticket_of}
 use Rattle.ee_desk_model.specs.Serials.{serial_cmp, same_serial}
 use Rattle.ee_desk_model.specs.Sound.{IsRightLine, IsRightTicket, NumberedFrom}
 use Rattle.ee_desk_model.proofs.Lemmas.Maps.{serials_total, serials_tied, same_serial-is, get_lookup, all_weaker, all_both, all_append, all_filter, all_mapped, all_unmapped}
-use Rattle.ee_desk_soundness.specs.Checks.{IsBefore, HaveRisingSerials, PaysBond, IsOn, IsPaidBy, IsRightlyPaid, IsWhole, ArePaid, bonds_in, entry_of_bond}
-use Rattle.ee_desk_soundness.specs.Marks.{bond_of, is_marked, AreMarked}
+use Rattle.ee_desk_soundness.specs.Checks.{IsBefore, HaveRisingSerials, bonds_in, entry_of_bond}
+use Rattle.ee_desk_soundness.specs.Inner.Checks.{PaysBond, IsOn, IsPaidBy, IsRightlyPaid, IsWhole, ArePaid}
+use Rattle.ee_desk_soundness.specs.Marks.{bond_of, AreMarked}
+use Rattle.ee_desk_soundness.specs.Inner.Marks.{is_marked}
 use Rattle.ee_desk_soundness.proofs.Keys.{serial_laws, same_truth, found_all, found_passes, any_found, find_mapped, find_none_mapped, among_all, none_among, Apart, any_key, keys_among, each_found, apart_distinct, distinct_apart, all_left, all_right}
 
 -- ---- rows

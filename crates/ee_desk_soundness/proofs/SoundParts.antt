@@ -26,10 +26,12 @@ use Rattle.ee_desk_model.proofs.Lemmas.Maps.{serials_total, serials_exact, all_w
 use Rattle.ee_desk_model.proofs.Lemmas.Books.{value_le, sound_keyed}
 use Rattle.ee_desk_decide.specs.declared.views.DayCounts.{DayCounts}
 use Rattle.ee_desk_soundness.specs.Parts.{Parts, parts_of, row_of_entry, AreUnsound}
-use Rattle.ee_desk_soundness.specs.Checks.{InOrder, IsBefore, HaveRisingMonths, HaveRisingSerials, IsRightRow, IsRightOwn, entry_of_row, entry_of_bond, rates_in, bonds_in, books_of, AreSound, IsRegister, IsWhole, ArePaid, AreClosed, parts_in}
+use Rattle.ee_desk_soundness.specs.Checks.{InOrder, IsBefore, HaveRisingMonths, HaveRisingSerials, entry_of_row, entry_of_bond, rates_in, bonds_in, books_of, AreSound, parts_in}
+use Rattle.ee_desk_soundness.specs.Inner.Checks.{IsRightRow, IsRightOwn, IsRegister, IsWhole, ArePaid, AreClosed}
 use Rattle.ee_desk_soundness.specs.Marks.{bond_of, AreMarked}
 use Rattle.ee_desk_soundness.proofs.PaidRows.{right_tickets, paid_once, rows_paid, as_many}
-use Rattle.ee_desk_soundness.specs.Days.{days_of, counts_at, counts_on, counts_in, no_counts, AreCounted, IsCounted, IsSmall}
+use Rattle.ee_desk_soundness.specs.Days.{counts_in}
+use Rattle.ee_desk_soundness.specs.Inner.Days.{days_of, counts_at, counts_on, no_counts, AreCounted, IsCounted, IsSmall}
 use Rattle.ee_desk_soundness.proofs.InOrder.{in_order_map}
 use Rattle.ee_desk_soundness.proofs.Entries.{less_is}
 use Rattle.ee_desk_decide.proofs.Lemmas.{all_entries}

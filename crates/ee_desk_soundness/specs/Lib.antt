@@ -4,3 +4,4 @@ pub mod Marks
 pub mod Days
 pub mod Faults
 pub mod Made
+pub mod Inner

@@ -1,6 +1,5 @@
 -- Bonds as rows, each with the ticket that pays it.
-use Rattle.std.specs.Prelude.{◌≡◌, Bool, List}
-use Rattle.std.specs.Option.{is_some}
+use Rattle.std.specs.Prelude.{◌≡◌, List}
 use Rattle.std.specs.List.{AllByRecursion}
 use Rattle.ee_calculator.specs.declared.bonds.Bond.{Bond}
 use Rattle.ee_desk_model.specs.declared.changes.Held.{Held}
@@ -9,10 +8,6 @@ use Rattle.ee_desk_model.specs.PlainBooks.{ticket_of}
 
 abbrev pub bond_of : Held → Bond
 bond_of held = held.bond
-
--- the row names a ticket
-abbrev pub is_marked : Held → Bool
-is_marked held = is_some held.ticket
 
 -- each row names the ticket that pays its bond
 abbrev pub AreMarked : List Ticket → List Held → Type 0

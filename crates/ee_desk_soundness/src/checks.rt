@@ -5,10 +5,12 @@ ghost use Rattle.std.specs.List.{AllByRecursion};
 ghost use Rattle.std.specs.FinMap as finite;
 ghost use Rattle.ee_desk_model.specs.PlainBooks.{batch_so_far};
 ghost use Rattle.ee_desk_soundness.specs.Parts.{AreUnsound};
-ghost use Rattle.ee_desk_soundness.specs.Checks.{entry_of_row, parts_in, HaveRisingSerials, IsRegister, AreClosed, ArePaid, AreRightBatches};
+ghost use Rattle.ee_desk_soundness.specs.Checks.{entry_of_row, parts_in, HaveRisingSerials};
+ghost use Rattle.ee_desk_soundness.specs.Inner.Checks.{IsRegister, AreClosed, ArePaid, AreRightBatches};
 ghost use Rattle.ee_desk_soundness.specs.Made.{IsMadeOf};
 ghost use Rattle.ee_desk_soundness.specs.Marks.{bond_of, AreMarked};
-ghost use Rattle.ee_desk_soundness.specs.Days.{counts_in, days_of, AreCounted, FitDays, IsSmall};
+ghost use Rattle.ee_desk_soundness.specs.Days.{counts_in};
+ghost use Rattle.ee_desk_soundness.specs.Inner.Days.{days_of, AreCounted, FitDays, IsSmall};
 
 use crate::days::{are_counted, counts_of, days_rise, in_range, last_day, open_counts};
 use crate::faults::PartsFault;

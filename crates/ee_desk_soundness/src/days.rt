@@ -4,23 +4,9 @@ ghost use Rattle.std.specs.Prelude.{◌≡◌, ◌↔◌, ◌<◌, ℕ, true, No
 ghost use Rattle.std.specs.Option.{option_map};
 ghost use Rattle.std.specs.List.{AllByRecursion};
 ghost use Rattle.ee_desk_model.specs.Sound.{IsDay, last_of, open_days};
-ghost use Rattle.ee_desk_soundness.specs.Checks.{InOrder, IsAfter};
-ghost use Rattle.ee_desk_soundness.specs.Days.{
-  counts_at,
-  counts_on,
-  days_of,
-  no_counts,
-  AreCounted,
-  AreNothing,
-  HasMore,
-  IsSmall,
-  HasSpace,
-  counted,
-  HasRoom,
-  FitCounts,
-  FitDays,
-  IsCounted,
-};
+ghost use Rattle.ee_desk_soundness.specs.Checks.{InOrder};
+ghost use Rattle.ee_desk_soundness.specs.Inner.Checks.{IsAfter};
+ghost use Rattle.ee_desk_soundness.specs.Inner.Days.{counts_at, counts_on, days_of, no_counts, AreCounted, AreNothing, HasMore, IsSmall, HasSpace, counted, HasRoom, FitCounts, FitDays, IsCounted};
 
 use ee_desk_decide::DayCounts;
 use ee_desk_model::{Batch, MOST_DAY_TICKETS, Ticket};

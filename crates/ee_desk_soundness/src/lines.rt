@@ -6,7 +6,7 @@ ghost use Rattle.std.specs.FinMap as finite;
 ghost use Rattle.ee_desk_model.specs.Values.{value_of};
 ghost use Rattle.ee_desk_model.specs.PlainBooks.{cents_of};
 ghost use Rattle.ee_desk_model.specs.Sound.{NumberedFrom};
-ghost use Rattle.ee_desk_soundness.specs.Checks.{PaysBond, IsWhole};
+ghost use Rattle.ee_desk_soundness.specs.Inner.Checks.{PaysBond, IsWhole};
 
 use ee_calculator::Bond;
 use ee_desk_model::{Line, MOST_SERIALS, Terms, Ticket};

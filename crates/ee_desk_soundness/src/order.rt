@@ -2,7 +2,8 @@
 
 ghost use Rattle.std.specs.Prelude.{◌≡◌, ◌↔◌, ◌<◌, ◌≤◌, true, map};
 ghost use Rattle.ee_desk_model.specs.Sound.{day_of};
-ghost use Rattle.ee_desk_soundness.specs.Checks.{InOrder, IsAfter, HaveRisingMonths};
+ghost use Rattle.ee_desk_soundness.specs.Checks.{InOrder, HaveRisingMonths};
+ghost use Rattle.ee_desk_soundness.specs.Inner.Checks.{IsAfter};
 
 use ee_desk_model::{RateRow, Ticket};
 use ee_units::{Day, IssueMonth};

@@ -6,7 +6,8 @@ ghost use Rattle.std.specs.FinMap as finite;
 ghost use Rattle.std.specs.Ordering.{nat_cmp};
 ghost use Rattle.ee_units.specs.Calendar.{period_start};
 ghost use Rattle.ee_desk_soundness.specs.Marks.{bond_of};
-ghost use Rattle.ee_desk_soundness.specs.Checks.{HaveRisingMonths, IsRightRow, IsRightOwn, entry_of_row};
+ghost use Rattle.ee_desk_soundness.specs.Checks.{HaveRisingMonths, entry_of_row};
+ghost use Rattle.ee_desk_soundness.specs.Inner.Checks.{IsRightRow, IsRightOwn};
 
 use crate::faults::PartsFault;
 use ee_calculator::Bond;

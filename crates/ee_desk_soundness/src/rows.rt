@@ -6,8 +6,8 @@ ghost use Rattle.std.specs.FinMap as finite;
 ghost use Rattle.ee_desk_model.specs.Paid.{paid_lines};
 ghost use Rattle.ee_desk_model.specs.Serials.{same_serial};
 ghost use Rattle.ee_desk_model.specs.Sound.{NumberedFrom};
-ghost use Rattle.ee_desk_soundness.specs.Checks.{IsOn, IsPaidBy, IsRightlyPaid};
-ghost use Rattle.ee_desk_soundness.specs.Marks.{is_marked};
+ghost use Rattle.ee_desk_soundness.specs.Inner.Checks.{IsOn, IsPaidBy, IsRightlyPaid};
+ghost use Rattle.ee_desk_soundness.specs.Inner.Marks.{is_marked};
 
 use crate::lines::pays_bond;
 use ee_calculator::Bond;

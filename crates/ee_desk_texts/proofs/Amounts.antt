@@ -5,7 +5,7 @@ use Rattle.std.proofs.lemmas.Fmt.{digits_value-decimal, digits_decimal, length-d
 use Rattle.ee_units.specs.Texts.{two_digits, decimal_text}
 use Rattle.ee_units.specs.Grammar.{WritesNumber}
 use Rattle.ee_units.proofs.Lemmas.{digits_are_numerals, number_of-writes, parts_at-joined, digits_of-writes, in_range_back, two_digits-write}
-use Rattle.ee_desk_texts.specs.Reading.{cents_of}
+use Rattle.ee_desk_texts.specs.Inner.Reading.{cents_of}
 
 dollars_fit : (n : ℕ) → n < 10 ^ 18 → WritesNumber 18 (decimal n) n
 dollars_fit n small =

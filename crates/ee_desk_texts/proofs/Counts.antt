@@ -9,7 +9,7 @@ use Rattle.std.proofs.lemmas.Str.Parse.{parse_digits}
 use Rattle.std.proofs.lemmas.Bool.{and_parts, ltb-true, leb-true}
 use Rattle.std.proofs.lemmas.Fmt.{decimal_is_IsNumeral}
 use Rattle.ee_units.proofs.Lemmas.{digits_are_numerals}
-use Rattle.ee_desk_texts.specs.Reading.{is_whole, count_of}
+use Rattle.ee_desk_texts.specs.Inner.Reading.{is_whole, count_of}
 
 -- a number below 2^64 is read from its digits
 pub count_back : (n : ℕ) → n < 2 ^ 64 → count_of (decimal n) ≡ Some n

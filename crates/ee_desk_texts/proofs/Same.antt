@@ -27,7 +27,8 @@ use Rattle.ee_desk_texts.specs.Data.{serial_data, rate_row_data, bond_data, act_
 use Rattle.ee_desk_texts.specs.Texts.{act_text, reply_text}
 use Rattle.ee_desk_model.specs.Ranges.{IsCustomer, IsSerial, BondFits}
 use Rattle.ee_desk_texts.specs.Ranges.{RateRowFits, ActFits, LineFits, TicketFits, BatchFits, NamedFits, ReplyFits}
-use Rattle.ee_desk_texts.specs.Reading.{each, rate_row_of, bond_with, bond_of, serial_in, redeem_of, act_of, ReadsAct, added_of, batch_of, line_of, ticket_of, refused_of, reply_of, ReadsReply}
+use Rattle.ee_desk_texts.specs.Reading.{ReadsAct, ReadsReply}
+use Rattle.ee_desk_texts.specs.Inner.Reading.{each, rate_row_of, bond_with, bond_of, serial_in, redeem_of, act_of, added_of, batch_of, line_of, ticket_of, refused_of, reply_of}
 use Rattle.ee_units.proofs.Lemmas.{rate_back, issue_back, day_back, serial_back, in_range_back, denom_with-dollars, dollars_small}
 use Rattle.ee_units.specs.Denoms.{dollars}
 use Rattle.ee_desk_texts.proofs.Amounts.{cents_back}

@@ -4,3 +4,4 @@ pub mod Ranges
 pub mod Reading
 pub mod Writing
 pub mod Given
+pub mod Inner

@@ -14,10 +14,6 @@ Added old new added = (new.before ≡ old.before) × (new.tokens ≡ old.tokens 
 abbrev pub Adds : {E : Type 0} → Result (Unit {0}) E → Written → Written → List token.Token → Type 0
 Adds result old new added = OnOk result (Added old new added)
 
--- a JSON value is added
-abbrev pub AddsData : {E : Type 0} → Result (Unit {0}) E → Written → Written → Data → Type 0
-AddsData result old new d = Adds result old new (json_tokens (outline d))
-
 -- a member of an object is added
 abbrev pub AddsMember : {E : Type 0} → Result (Unit {0}) E → Written → Written → List ℕ → Data → Type 0
 AddsMember result old new name d = Adds result old new (token.key name ∷ json_tokens (outline d))

@@ -2,20 +2,8 @@
 
 ghost use Rattle.std.specs.Prelude.{◌≡◌, ◌≢◌, IfOk, IfSome, MatchOption, option_map};
 ghost use Rattle.json.specs.Value.{value_view, items_view};
-ghost use Rattle.ee_desk_texts.specs.Reading.{
-  each,
-  rate_row_of,
-  bond_with,
-  bond_of,
-  serial_in,
-  add_rates_of,
-  add_bonds_of,
-  open_of,
-  redeem_of,
-  close_of,
-  act_of,
-  ReadsAct,
-};
+ghost use Rattle.ee_desk_texts.specs.Reading.{ReadsAct};
+ghost use Rattle.ee_desk_texts.specs.Inner.Reading.{each, rate_row_of, bond_with, bond_of, serial_in, add_rates_of, add_bonds_of, open_of, redeem_of, close_of, act_of};
 ghost use Rattle.ee_desk_texts.specs.Ranges.{ActFits};
 ghost use Rattle.ee_desk_texts.specs.Texts.{act_text};
 
@@ -31,7 +19,7 @@ use ee_value::Rates;
 use json::{Error, Scratch, Value};
 use std::alloc::{AllocError, Global};
 
-#[tactic(auto, unfolding(crate::specs::Reading::rate_row_of))]
+#[tactic(auto, unfolding(crate::specs::Inner::Reading::rate_row_of))]
 fn rate_row_in(value: &Value<'_>) -> Option<RateRow>
     ensures { result ≡ rate_row_of (value_view value.now) }
 {
@@ -57,7 +45,7 @@ fn rate_rows_in(alloc: Global, values: &[Value<'_>]) -> Result<Option<Vec<RateRo
     Ok(Some(rows))
 }
 
-#[tactic(auto, unfolding(crate::specs::Reading::bond_with))]
+#[tactic(auto, unfolding(crate::specs::Inner::Reading::bond_with))]
 fn bond_with(coowner: Option<Customer>, value: &Value<'_>) -> Option<Bond>
     ensures { result ≡ bond_with coowner (value_view value.now) }
 {
@@ -137,7 +125,7 @@ fn opening_in(value: &Value<'_>) -> Option<Act>
     Some(Act::OpenDay(day_at(value, "day")?))
 }
 
-#[tactic(auto, unfolding(crate::specs::Reading::redeem_of))]
+#[tactic(auto, unfolding(crate::specs::Inner::Reading::redeem_of))]
 fn redemption_in(alloc: Global, value: &Value<'_>) -> Result<Option<Act>, AllocError>
     ensures { IfOk result (λ o. o ≡ redeem_of (value_view value.now)) }
 {

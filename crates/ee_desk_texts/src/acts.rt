@@ -7,7 +7,8 @@ ghost use Rattle.ee_desk_model.specs.declared.acts.Act.TheVariants as act;
 ghost use Rattle.ee_desk_texts.specs.Data.{day_data, list_data, act_data};
 ghost use Rattle.ee_desk_texts.specs.Texts.{act_text};
 ghost use Rattle.ee_desk_texts.specs.Ranges.{ActFits};
-ghost use Rattle.ee_desk_texts.specs.Writing.{Adds, AddsData};
+ghost use Rattle.ee_desk_texts.specs.Writing.{Adds};
+ghost use Rattle.ee_desk_texts.specs.Inner.Writing.{AddsData};
 
 use crate::invariants::act_fits;
 use crate::writing::{

@@ -2,7 +2,7 @@
 
 ghost use Rattle.std.specs.Prelude.{◌≡◌, option_map};
 ghost use Rattle.json.specs.Value.{value_view, items_view};
-ghost use Rattle.ee_desk_texts.specs.Reading.{text_at, is_whole, count_of, count_at, customer_at, day_at, rate_at, issue_at, serial_at, cents_at, items_at};
+ghost use Rattle.ee_desk_texts.specs.Inner.Reading.{text_at, is_whole, count_of, count_at, customer_at, day_at, rate_at, issue_at, serial_at, cents_at, items_at};
 
 use crate::money::cents_in;
 use ee_units::pieces::is_all_digits;
@@ -18,14 +18,14 @@ pub fn text_at<'a>(value: &Value<'a>, key: &str) -> Option<&'a str>
     value.get(key)?.as_str()
 }
 
-#[tactic(auto, unfolding(crate::specs::Reading::is_whole))]
+#[tactic(auto, unfolding(crate::specs::Inner::Reading::is_whole))]
 fn is_whole(text: &str) -> bool
     ensures { result ≡ is_whole text.now }
 {
     !text.is_empty() && is_all_digits(text)
 }
 
-#[tactic(auto, unfolding(crate::specs::Reading::count_of))]
+#[tactic(auto, unfolding(crate::specs::Inner::Reading::count_of))]
 fn count_in(text: &str) -> Option<u64>
     ensures { result ≡ count_of text.now }
 {

@@ -1,14 +1,14 @@
 //! Reading amounts of money.
 
 ghost use Rattle.std.specs.Prelude.{◌≡◌, option_map};
-ghost use Rattle.ee_desk_texts.specs.Reading.{cents_of};
+ghost use Rattle.ee_desk_texts.specs.Inner.Reading.{cents_of};
 
 use ee_units::Cents;
 use ee_units::pieces::{digits, number, parts_at_point};
 
 /// The amount that whole dollars, a point and two digits write; `None` if it doesn't fit. Leading zeros are
 /// accepted.
-#[tactic(auto, unfolding(crate::specs::Reading::cents_of))]
+#[tactic(auto, unfolding(crate::specs::Inner::Reading::cents_of))]
 pub fn cents_in(text: &str) -> Option<Cents>
     ensures { option_map (λ cents. cents.0) result ≡ cents_of text.now }
 {

@@ -2,7 +2,7 @@
 
 ghost use Rattle.std.specs.Prelude.{◌≡◌};
 ghost use Rattle.json.specs.Value.{value_view};
-ghost use Rattle.ee_desk_texts.specs.Reading.{age_at, named_by, named_of, refusal_of_nothing, refusal_of_month, refusal_of_serial, refusal_with, refused_of};
+ghost use Rattle.ee_desk_texts.specs.Inner.Reading.{age_at, named_by, named_of, refusal_of_nothing, refusal_of_month, refusal_of_serial, refusal_with, refused_of};
 
 use crate::fields::{count_at, issue_at, serial_at};
 use crate::refusals::Named;
@@ -107,7 +107,7 @@ fn refusal_with(code: u64, named: Named) -> Option<Refusal>
 }
 
 /// The refusal that a JSON value represents, by its code and by what it names.
-#[tactic(auto, unfolding(crate::specs::Reading::refused_of))]
+#[tactic(auto, unfolding(crate::specs::Inner::Reading::refused_of))]
 pub fn refused_in(value: &Value<'_>) -> Option<Reply>
     ensures { result ≡ refused_of (value_view value.now) }
 {

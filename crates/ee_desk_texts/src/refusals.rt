@@ -2,7 +2,7 @@
 
 ghost use Rattle.std.specs.Prelude.{◌≡◌};
 ghost use Rattle.ee_desk_texts.specs.Data.{names, refused_data, refusal_data};
-ghost use Rattle.ee_desk_texts.specs.Writing.{AddsData};
+ghost use Rattle.ee_desk_texts.specs.Inner.Writing.{AddsData};
 ghost use Rattle.ee_desk_texts.specs.declared.refusals.Named.TheVariants as named;
 
 use crate::writing::{write_number_member, write_string_member, write_text_member};

@@ -5,7 +5,7 @@ ghost use Rattle.ee_desk_model.specs.declared.replies.Reply.TheVariants as reply
 ghost use Rattle.ee_desk_texts.specs.Data.{ticket_data, batch_data, reply_data};
 ghost use Rattle.ee_desk_texts.specs.Texts.{reply_text};
 ghost use Rattle.ee_desk_texts.specs.Ranges.{ReplyFits};
-ghost use Rattle.ee_desk_texts.specs.Writing.{AddsData};
+ghost use Rattle.ee_desk_texts.specs.Inner.Writing.{AddsData};
 
 use crate::invariants::reply_fits;
 use crate::refusals::write_refusal;

@@ -4,7 +4,8 @@ ghost use Rattle.std.specs.Prelude.{◌≡◌, ◌≢◌, IfOk, IfSome, MatchOpt
 ghost use Rattle.json.specs.Value.{value_view, items_view};
 ghost use Rattle.ee_desk_model.specs.declared.replies.Reply.{Reply};
 ghost use Rattle.ee_desk_texts.specs.Ranges.{ReplyFits};
-ghost use Rattle.ee_desk_texts.specs.Reading.{each, added_of, opened_of, batch_of, line_of, ticket_of, short_reply_of, reply_of, ReadsReply};
+ghost use Rattle.ee_desk_texts.specs.Reading.{ReadsReply};
+ghost use Rattle.ee_desk_texts.specs.Inner.Reading.{each, added_of, opened_of, batch_of, line_of, ticket_of, short_reply_of, reply_of};
 ghost use Rattle.ee_desk_texts.specs.Texts.{reply_text};
 
 use crate::fields::{cents_at, count_at, customer_at, day_at, items_at, serial_at};
@@ -15,7 +16,7 @@ use ee_desk_model::{Batch, Line, Reply, Rows, Ticket};
 use json::{Error, Scratch, Value};
 use std::alloc::{AllocError, Global};
 
-#[tactic(auto, unfolding(crate::specs::Reading::added_of))]
+#[tactic(auto, unfolding(crate::specs::Inner::Reading::added_of))]
 fn added_in(value: &Value<'_>) -> Option<Reply>
     ensures { result ≡ added_of (value_view value.now) }
 {
@@ -30,7 +31,7 @@ fn opened_in(value: &Value<'_>) -> Option<Reply>
     Some(Reply::Opened(day_at(value, "opened")?))
 }
 
-#[tactic(auto, unfolding(crate::specs::Reading::batch_of))]
+#[tactic(auto, unfolding(crate::specs::Inner::Reading::batch_of))]
 fn batch_in(value: &Value<'_>) -> Option<Reply>
     ensures { result ≡ batch_of (value_view value.now) }
 {
@@ -46,7 +47,7 @@ fn batch_in(value: &Value<'_>) -> Option<Reply>
     }))
 }
 
-#[tactic(auto, unfolding(crate::specs::Reading::line_of))]
+#[tactic(auto, unfolding(crate::specs::Inner::Reading::line_of))]
 fn line_in(value: &Value<'_>) -> Option<Line>
     ensures { result ≡ line_of (value_view value.now) }
 {
@@ -68,7 +69,7 @@ fn lines_in(alloc: Global, values: &[Value<'_>]) -> Result<Option<Vec<Line>>, Al
     Ok(Some(lines))
 }
 
-#[tactic(auto, unfolding(crate::specs::Reading::ticket_of))]
+#[tactic(auto, unfolding(crate::specs::Inner::Reading::ticket_of))]
 fn ticket_in(alloc: Global, value: &Value<'_>) -> Result<Option<Reply>, AllocError>
     ensures { IfOk result (λ o. o ≡ ticket_of (value_view value.now)) }
 {

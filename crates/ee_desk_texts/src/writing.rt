@@ -4,7 +4,8 @@ ghost use Rattle.std.specs.Prelude.{◌≡◌, IfSome, [], string_bytes};
 ghost use Rattle.json.specs.Print.{print};
 ghost use Rattle.serde_json.specs.Data.{string};
 ghost use Rattle.ee_desk_texts.specs.Data.{number_data, list_data};
-ghost use Rattle.ee_desk_texts.specs.Writing.{AddsData, AddsMember};
+ghost use Rattle.ee_desk_texts.specs.Writing.{AddsMember};
+ghost use Rattle.ee_desk_texts.specs.Inner.Writing.{AddsData};
 
 use arrayvec::ArrayString;
 use json::Writer;

@@ -3,7 +3,7 @@ use Rattle.std.proofs.Common.{◌≡◌, ◌∙◌, ℕ, zero, suc, ◌+◌, Boo
 use Rattle.std.proofs.lemmas.List.{append-nil}
 use Rattle.ee_files.specs.Answers.{Fails, Gives}
 use Rattle.ee_files.specs.Fields.{Bytes, ◌>>=◌}
-use Rattle.ee_files.specs.Left.{HasLeft, TakesNext, TextReader}
+use Rattle.ee_files.specs.Inner.Left.{HasLeft, TakesNext, TextReader}
 use Rattle.ee_files.specs.Rows.{is_header, rows_from, rows_of_records}
 use Rattle.ee_files.specs.declared.columns.FileColumn.{FileColumn}
 use Rattle.ee_files.specs.declared.faults.FileCode.{FileCode}

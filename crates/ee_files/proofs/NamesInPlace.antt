@@ -8,7 +8,8 @@ use Rattle.ee_files.specs.BondFile.{bond_columns}
 use Rattle.ee_files.specs.Columns.{column_name}
 use Rattle.ee_files.specs.Fields.{Bytes}
 use Rattle.ee_files.specs.RateFile.{rate_columns, extended_columns}
-use Rattle.ee_files.specs.Rows.{header_of, name_at, same_fields}
+use Rattle.ee_files.specs.Rows.{header_of, same_fields}
+use Rattle.ee_files.specs.Inner.Rows.{name_at}
 use Rattle.ee_files.specs.declared.columns.FileColumn.{FileColumn}
 use Rattle.ee_files.specs.declared.columns.FileColumn.TheVariants as column
 

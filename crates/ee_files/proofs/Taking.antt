@@ -10,7 +10,7 @@ use Rattle.std.proofs.lemmas.Option.{none-some, same_Some}
 use Rattle.csv.specs.declared.reader.Trim.TheVariants as trim
 use Rattle.csv.specs.Reading.{Reached, ReadRecord, Ready, default_config, reader_state, reader_trim, took_first}
 use Rattle.csv.proofs.ReadFacts.{rows-more, rows-end}
-use Rattle.ee_files.specs.Left.{HasLeft, TakesNext, TextReader}
+use Rattle.ee_files.specs.Inner.Left.{HasLeft, TakesNext, TextReader}
 use Rattle.ee_files.specs.Fields.{text_of}
 
 -- `from_utf8`, as an option

@@ -1,5 +1,5 @@
 -- The results of calls on a file.
-use Rattle.std.specs.Prelude.{◌≡◌, ◌≢◌, ℕ, List, Option, Result, Ok, Err, true, false, ⊤}
+use Rattle.std.specs.Prelude.{◌≡◌, ℕ, List, Option, Result, Ok, Err, true, false}
 use Rattle.ee_io.specs.Written.{WritesFront}
 use Rattle.ee_files.specs.declared.faults.FileCode.{FileCode}
 use Rattle.ee_files.specs.declared.faults.FileCode.TheVariants as code
@@ -15,22 +15,6 @@ Fails row code.BadHeader read = read ≡ Err (record { row = row; code = code.Ba
 Fails row code.WrongFieldCount read = read ≡ Err (record { row = row; code = code.WrongFieldCount })
 Fails row (code.BadValue column) read = read ≡ Err (record { row = row; code = code.BadValue column })
 Fails row code.FileTooLong read = read ≡ Err (record { row = row; code = code.FileTooLong })
-
--- a failed read, or want of memory
-abbrev pub TellsNothing : FileCode → Type 0
-TellsNothing code.NoMemory = ⊤
-TellsNothing code.ReadFailed = ⊤
-TellsNothing code.BadHeader = ⊥
-TellsNothing code.WrongFieldCount = ⊥
-TellsNothing (code.BadValue column) = ⊥
-TellsNothing code.FileTooLong = ⊥
-
--- the fault is none of a failed read
-abbrev pub WasRead : FileFault → Type 0
-WasRead e = e.code ≢ code.ReadFailed
-
-abbrev pub Unreadable : FileFault → Type 0
-Unreadable e = (e.row ≡ 1) × TellsNothing e.code
 
 -- the result is that of the file, or says that the file couldn't be read
 abbrev pub Gives : {X Y : Type 0} → (X → Y) → Result X FileFault → Result Y FileFault → Type 0

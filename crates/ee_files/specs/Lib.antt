@@ -6,6 +6,5 @@ pub mod Rows
 pub mod RateFile
 pub mod BondFile
 pub mod Answers
-pub mod Left
 pub mod Order
-pub mod WriterState
+pub mod Inner

@@ -1,9 +1,8 @@
 -- The rows of a file (this project's rule): the records of its bytes by csv's default dialect.
-use Rattle.std.specs.Prelude.{ℕ, zero, suc, ◌+◌, Bool, List, [], ◌∷◌, Result, Ok, Err, length, map, nat_lt, unwrap_or, if◌then◌else◌}
+use Rattle.std.specs.Prelude.{ℕ, zero, suc, ◌+◌, Bool, List, [], ◌∷◌, Result, Ok, Err, length, map, nat_lt, if◌then◌else◌}
 use Rattle.std.specs.List.{list_any}
 use Rattle.std.specs.Cmp.Lexicographic.{pointwise}
 use Rattle.std.specs.Str.{bytes_eq}
-use Rattle.csv.specs.Records.{field_at}
 use Rattle.csv.specs.Reading.{default_config, records, strip_bom}
 use Rattle.ee_files.specs.Columns.{column_name}
 use Rattle.ee_files.specs.Fields.{Bytes, ◌>>=◌}
@@ -23,10 +22,6 @@ rows_from entry row (suc most) (fields ∷ rest) = do
 -- two records have the same fields
 abbrev pub same_fields : List Bytes → List Bytes → Bool
 same_fields fields others = pointwise bytes_eq fields others
-
--- the field at this position is the column's name
-abbrev pub name_at : List Bytes → ℕ → FileColumn → Bool
-name_at fields place column = bytes_eq (unwrap_or (field_at fields place) []) (column_name column)
 
 abbrev pub header_of : List FileColumn → List Bytes
 header_of columns = map column_name columns

@@ -5,7 +5,7 @@ ghost use Rattle.csv.specs.Writing.{default_writer, row_text, text_written};
 ghost use Rattle.ee_files.specs.Answers.{Writes};
 ghost use Rattle.ee_files.specs.BondFile.{IsBond, bond_columns, bond_fields, coowner_text, inventory_text};
 ghost use Rattle.ee_files.specs.Rows.{header_of};
-ghost use Rattle.ee_files.specs.WriterState.{AppendsRow, IsBetweenRows};
+ghost use Rattle.ee_files.specs.Inner.WriterState.{AppendsRow, IsBetweenRows};
 
 use crate::columns::FileColumn;
 use crate::faults::WriteFault;

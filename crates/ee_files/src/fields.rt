@@ -4,7 +4,7 @@ ghost use Rattle.std.specs.Prelude.{◌≡◌, IfErr, option_map};
 ghost use Rattle.std.specs.Option.{ok_or};
 ghost use Rattle.ee_units.specs.Denoms.{denom_of};
 ghost use Rattle.ee_units.specs.Spelling.{customer_of, issue_of, rate_of, serial_of};
-ghost use Rattle.ee_files.specs.Answers.{WasRead};
+ghost use Rattle.ee_files.specs.Inner.Answers.{WasRead};
 ghost use Rattle.ee_files.specs.BondFile.{coowner_of};
 ghost use Rattle.ee_files.specs.RateFile.{extension_of};
 ghost use Rattle.ee_files.specs.Fields.{field_value, text_of};

@@ -3,7 +3,8 @@
 ghost use Rattle.std.specs.Prelude.{◌≡◌, ◌==◌, ◌&&◌, length, [], ◌∷◌};
 ghost use Rattle.csv.specs.Records.{fields_of};
 ghost use Rattle.ee_files.specs.RateFile.{rate_columns, extended_columns};
-ghost use Rattle.ee_files.specs.Rows.{is_header, name_at};
+ghost use Rattle.ee_files.specs.Rows.{is_header};
+ghost use Rattle.ee_files.specs.Inner.Rows.{name_at};
 
 use crate::columns::FileColumn;
 use csv::ByteRecord;

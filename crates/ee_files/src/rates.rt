@@ -3,7 +3,8 @@
 ghost use Rattle.std.specs.Prelude.{◌+◌, ◌≡◌, ◌≤◌, ℕ, List, length, [], ◌∷◌, Some, IfOk, IfErr};
 ghost use Rattle.csv.specs.Records.{fields_of};
 ghost use Rattle.ee_io.specs.ReadWhole.{TakesAtMost};
-ghost use Rattle.ee_files.specs.Answers.{Gives, WasRead};
+ghost use Rattle.ee_files.specs.Answers.{Gives};
+ghost use Rattle.ee_files.specs.Inner.Answers.{WasRead};
 ghost use Rattle.ee_files.specs.RateFile.{rate_columns, extended_columns, extension_at, rate_entry, rates_of_file};
 ghost use Rattle.ee_files.specs.Rows.{most_bytes};
 

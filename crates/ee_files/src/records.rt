@@ -4,8 +4,9 @@ ghost use Rattle.std.specs.Prelude.{◌+◌, ◌≡◌, ◌≤◌, ℕ, List, le
 ghost use Rattle.csv.specs.Reading.{default_config, records, strip_bom};
 ghost use Rattle.csv.specs.Records.{fields_of};
 ghost use Rattle.ee_io.specs.ReadWhole.{TakesAtMost};
-ghost use Rattle.ee_files.specs.Answers.{Gives, Unreadable, WasRead};
-ghost use Rattle.ee_files.specs.Left.{HasLeft, TakesNext};
+ghost use Rattle.ee_files.specs.Answers.{Gives};
+ghost use Rattle.ee_files.specs.Inner.Answers.{Unreadable, WasRead};
+ghost use Rattle.ee_files.specs.Inner.Left.{HasLeft, TakesNext};
 ghost use Rattle.ee_files.specs.Rows.{is_header, rows_from, rows_of_file, rows_of_records, most_bytes};
 ghost use Rattle.ee_files.specs.declared.columns.FileColumn.{FileColumn};
 ghost use Rattle.ee_files.specs.declared.faults.FileFault.{FileFault};

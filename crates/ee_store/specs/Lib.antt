@@ -5,3 +5,4 @@ pub mod NextRun
 pub mod History
 pub mod Acting
 pub mod Holding
+pub mod Inner

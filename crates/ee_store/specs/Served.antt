@@ -7,19 +7,13 @@ use Rattle.ee_desk_laws.specs.Ties.{Leaves}
 use Rattle.ee_desk_model.specs.declared.refusals.Unserved.{Unserved}
 use Rattle.ee_desk_model.specs.declared.refusals.Unserved.TheVariants as unserved
 use Rattle.ee_store_tables.specs.Statements.{HasCause}
-use Rattle.ee_store_tables.specs.declared.failures.Failure.{Failure}
 use Rattle.ee_store_books.specs.Seen.{StandsFor, HasContent}
 use Rattle.ee_store_books.specs.Causes.{IsReady}
-use Rattle.ee_store_tables.specs.declared.failures.Failure.TheVariants.{NoMemory, StoreFailed}
 
 -- the store has the world's content, and a crash leaves what it may leave of the world
 abbrev pub FollowsWorld : State → World → Type 0
 FollowsWorld s w = HasContent s w.now × Leaves StandsFor s.may_leave w
 
-abbrev pub unserved_as : Failure → Unserved
-unserved_as NoMemory = unserved.NoMemory
-unserved_as StoreFailed = unserved.StoreFailed
-
--- the same for a keeper's answers
+-- a store that is ready and fails to answer has a cause
 abbrev pub ServesOrFails : {X : Type 0} → State → State → Result X Unserved → Type 0
 ServesOrFails old new result = HasCleanDisk new → IsReady old → (content : Content) → HasContent old content → IfErr result (λ e. e ≡ unserved.StoreFailed → HasCause old new)

@@ -1,7 +1,7 @@
 //! The answers of a keeper if the store failed, or memory was refused.
 
 ghost use Rattle.std.specs.Prelude.{◌≡◌};
-ghost use Rattle.ee_store.specs.Served.{unserved_as};
+ghost use Rattle.ee_store.specs.Inner.Served.{unserved_as};
 
 use ee_desk_model::Unserved;
 use ee_store_tables::Failure;

@@ -7,7 +7,7 @@ use Rattle.ee_desk_model.specs.declared.replies.Batch.{Batch}
 use Rattle.ee_desk_soundness.specs.Marks.{bond_of}
 use Rattle.ee_store_contents.specs.declared.reading.Days.{Days}
 use Rattle.ee_store_load.specs.declared.whole.AllRows.{AllRows}
-use Rattle.ee_store_contents.specs.Reading.{each, days_in, rates_in, tickets_in, batch_in, parts_in}
+use Rattle.ee_store_contents.specs.Inner.Reading.{each, days_in, rates_in, tickets_in, batch_in, parts_in}
 use Rattle.ee_store_schema.specs.Forms.{version_of}
 use Rattle.ee_store_load.proofs.Lemmas.{bind_some}
 

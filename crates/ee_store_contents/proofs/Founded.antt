@@ -18,8 +18,9 @@ use Rattle.ee_store_books.specs.Standing.{StandAt}
 use Rattle.ee_store_schema.specs.Forms.{version_of}
 use Rattle.ee_store_load.specs.Shown.{answer_map}
 use Rattle.ee_store_load.specs.Whole.{AreInOrder, AreRead, rows_with}
-use Rattle.ee_store_contents.specs.Contents.{PartsFit, KeepsAnswer, tables_for}
-use Rattle.ee_store_contents.specs.Reading.{parts_in}
+use Rattle.ee_store_contents.specs.Contents.{KeepsAnswer, tables_for}
+use Rattle.ee_store_contents.specs.Inner.Contents.{PartsFit}
+use Rattle.ee_store_contents.specs.Inner.Reading.{parts_in}
 use Rattle.ee_store_contents.proofs.KeptTables.{own, tables_made}
 use Rattle.ee_store_contents.proofs.RowsOfBooks.{rows_of_parts, parts_in_range, parts_read, rows_marked, parts_are, answers_kept, content_stands}
 

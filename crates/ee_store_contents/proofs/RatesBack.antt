@@ -19,7 +19,7 @@ use Rattle.ee_desk_texts.specs.Ranges.{RateRowFits}
 use Rattle.ee_store_load.specs.declared.entries.StoredRate.{StoredRate}
 use Rattle.ee_store_load.specs.Shown.{rate_entry}
 use Rattle.ee_store_contents.proofs.StoredRows.{stored_rate, extension_row, stored_extension}
-use Rattle.ee_store_contents.specs.Reading.{optional_in, issue_in, rate_of, other_rate, rate_in, extension_of, after_extension, rates_in}
+use Rattle.ee_store_contents.specs.Inner.Reading.{optional_in, issue_in, rate_of, other_rate, rate_in, extension_of, after_extension, rates_in}
 use Rattle.ee_store_rows.proofs.Lemmas.{some_from_bind}
 use Rattle.ee_store_load.proofs.Lemmas.{bind_some}
 use Rattle.ee_store_contents.proofs.ReadBack.{optional_read, map_is, issue_is}

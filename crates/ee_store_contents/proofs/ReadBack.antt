@@ -21,7 +21,7 @@ use Rattle.ee_store_load.specs.declared.entries.StoredBatch.{StoredBatch}
 use Rattle.ee_store_rows.proofs.Lemmas.{some_from_bind}
 use Rattle.ee_store_load.proofs.Lemmas.{bind_some, serial_read, serial_is}
 use Rattle.ee_store_contents.proofs.StoredRows.{stored_desk, stored_ticket, stored_line, placed_lines, stored_lines, stored_batch}
-use Rattle.ee_store_contents.specs.Reading.{each, optional_in, issue_in, day_in, customer_in, days_of, days_in, line_at, lines_at, ticket_with, ticket_in, tickets_in, batch_in}
+use Rattle.ee_store_contents.specs.Inner.Reading.{each, optional_in, issue_in, day_in, customer_in, days_of, days_in, line_at, lines_at, ticket_with, ticket_in, tickets_in, batch_in}
 use Rattle.ee_store_rows.specs.Lines.{line_with}
 
 -- ---- what may be absent

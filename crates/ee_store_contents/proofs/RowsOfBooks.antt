@@ -52,9 +52,10 @@ use Rattle.ee_store_rows.specs.Rows.{bond_row, key_of, paid_row}
 use Rattle.ee_store_books.specs.Standing.{rate_rows, extension_entry, extension_rows, bond_rows, ticket_rows, paid_rows, placed, batch_rows, reply_rows, reply_row, desk_rows, IsKept, IsRight, StandAt}
 use Rattle.ee_store_load.specs.Shown.{answer_map, desk_entry, rate_entry, bond_entry, ticket_entry, line_entry, batch_entry}
 use Rattle.ee_store_load.specs.Whole.{AreInOrder, rows_with}
-use Rattle.ee_store_contents.specs.Contents.{PartsFit, KeepsAnswer}
+use Rattle.ee_store_contents.specs.Contents.{KeepsAnswer}
+use Rattle.ee_store_contents.specs.Inner.Contents.{PartsFit}
 use Rattle.ee_store_contents.proofs.StoredRows.{stored_desk, stored_rate, extension_row, stored_extension, held_bond, stored_ticket, placed_lines, stored_lines, stored_batch, AreRowsOf}
-use Rattle.ee_store_contents.specs.Reading.{each, days_in, rates_in, tickets_in, batch_in, parts_in}
+use Rattle.ee_store_contents.specs.Inner.Reading.{each, days_in, rates_in, tickets_in, batch_in, parts_in}
 use Rattle.ee_store_tables.proofs.Lemmas.Rows.{pair_total, pair_same}
 use Rattle.ee_store_books.proofs.Lemmas.Contents as contents
 use Rattle.ee_store_rows.proofs.Lemmas.{some_from_bind}

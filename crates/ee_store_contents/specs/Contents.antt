@@ -1,40 +1,13 @@
 -- The parts that were made of rows, the rows of kept replies, and the tables of unit values.
-use Rattle.std.specs.Prelude.{◌≡◌, map, IfSome, string_bytes}
-use Rattle.std.specs.List.{AllByRecursion}
+use Rattle.std.specs.Prelude.{◌≡◌, map, string_bytes}
 use Rattle.std.specs.Ordering.{nat_cmp}
 use Rattle.std.specs.FinMap.{FinMap, entries, from_entries}
 use Rattle.ee_value.specs.declared.rates.Rates.{Rates}
 use Rattle.ee_desk_model.specs.declared.changes.Kept.{Kept}
-use Rattle.ee_desk_model.specs.Sound.{IsDay}
 use Rattle.ee_desk_model.specs.UnitTables.{rates_cmp}
-use Rattle.ee_desk_soundness.specs.Parts.{Parts}
-use Rattle.ee_desk_soundness.specs.Marks.{bond_of}
-use Rattle.ee_store_contents.specs.declared.parts.ReadParts.{ReadParts}
 use Rattle.ee_desk_texts.specs.Texts.{act_text, reply_text}
-use Rattle.ee_desk_model.specs.Ranges.{BondFits}
-use Rattle.ee_desk_texts.specs.Ranges.{RateRowFits, TicketFits, BatchFits}
 use Rattle.ee_store_books.specs.Standing.{IsKept}
 use Rattle.ee_store_schema.specs.declared.answers.StoredAnswer.{StoredAnswer}
-
--- the parts that were made of rows
-abbrev pub parts_of_read : ReadParts → Parts
-parts_of_read read = record {
-  rates = read.rates.items;
-  bonds = map bond_of read.bonds.items;
-  day = read.day;
-  last_day = read.last_day;
-  tickets = read.tickets.items;
-  batches = read.batches.items;
-}
-
--- the plain numbers of parts are in range
-pub record PartsFit (parts : Parts) : Type 0 where
-  pub day : IfSome parts.day IsDay
-  pub last_day : IfSome parts.last_day IsDay
-  pub rates : AllByRecursion RateRowFits parts.rates
-  pub bonds : AllByRecursion BondFits parts.bonds
-  pub tickets : AllByRecursion TicketFits parts.tickets
-  pub batches : AllByRecursion BatchFits parts.batches
 
 -- a row with an act and a reply that is kept
 pub record IsAnswerRow (row : StoredAnswer) (kept : Kept) : Type 0 where

@@ -6,12 +6,13 @@ ghost use Rattle.ee_desk_soundness.specs.Parts.{AreUnsound};
 ghost use Rattle.ee_desk_soundness.specs.Checks.{HaveRisingSerials};
 ghost use Rattle.ee_desk_soundness.specs.Marks.{bond_of, AreMarked};
 ghost use Rattle.ee_desk_soundness.specs.Made.{IsMadeOf};
-ghost use Rattle.ee_store_contents.specs.Reading.{tickets_in, parts_in};
+ghost use Rattle.ee_store_contents.specs.Inner.Reading.{tickets_in, parts_in};
 ghost use Rattle.ee_store_tables.specs.Rows.{Rows as TableRows};
 ghost use Rattle.ee_store_load.specs.Whole.{AreInOrder, AreRead};
 ghost use Rattle.ee_store_books.specs.Standing.{StandAt};
 ghost use Rattle.ee_store_schema.specs.Forms.{version_of};
-ghost use Rattle.ee_store_contents.specs.Contents.{PartsFit, parts_of_read, KeepsAnswer, tables_for};
+ghost use Rattle.ee_store_contents.specs.Contents.{KeepsAnswer, tables_for};
+ghost use Rattle.ee_store_contents.specs.Inner.Contents.{PartsFit, parts_of_read};
 
 use crate::invariants::parts_fit;
 use crate::parts::ReadParts;
@@ -61,7 +62,7 @@ fn own_tickets(
 }
 
 /// The parts of the books with these rows. Drops the rows of each table as soon as their parts are made.
-#[tactic(auto, unfolding(crate::specs::Reading::parts_in))]
+#[tactic(auto, unfolding(crate::specs::Inner::Reading::parts_in))]
 fn parts_in(alloc: Global, stored: AllRows) -> Result<Option<ReadParts>, AllocError>
     ensures value { IfOk result (λ o. option_map parts_of_read o ≡ parts_in stored) }
     ensures fits { IfOk result (λ o. IfSome o (λ found. PartsFit (parts_of_read found))) }

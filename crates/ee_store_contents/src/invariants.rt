@@ -7,7 +7,7 @@ ghost use Rattle.ee_desk_model.specs.Sound.{IsDay};
 ghost use Rattle.ee_desk_model.specs.Ranges.{BondFits};
 ghost use Rattle.ee_desk_texts.specs.Ranges.{TicketFits, BatchFits};
 ghost use Rattle.ee_desk_soundness.specs.Marks.{bond_of};
-ghost use Rattle.ee_store_contents.specs.Contents.{PartsFit, parts_of_read};
+ghost use Rattle.ee_store_contents.specs.Inner.Contents.{PartsFit, parts_of_read};
 
 use crate::parts::ReadParts;
 use ee_desk_model::{Batch, Held, Ticket};

@@ -1,7 +1,7 @@
 //! Rates, each with its extension.
 
 ghost use Rattle.std.specs.Prelude.{◌≡◌, IfOk, option_map};
-ghost use Rattle.ee_store_contents.specs.Reading.{optional_in, other_rate, rate_in, extension_of, after_extension, rates_in};
+ghost use Rattle.ee_store_contents.specs.Inner.Reading.{optional_in, other_rate, rate_in, extension_of, after_extension, rates_in};
 
 use ee_desk_model::RateRow;
 use ee_store_load::StoredRate;
@@ -33,7 +33,7 @@ fn optional_extension(fixed: Rate, hundredths: Option<u64>) -> Option<Option<Rat
     }
 }
 
-#[tactic(auto, unfolding(crate::specs::Reading::rate_in))]
+#[tactic(auto, unfolding(crate::specs::Inner::Reading::rate_in))]
 fn rate_in(extension: Option<u64>, row: &StoredRate) -> Option<RateRow>
     ensures { result ≡ rate_in extension row.now }
 {

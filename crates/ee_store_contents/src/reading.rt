@@ -1,7 +1,7 @@
 //! The values that the rows of one table represent.
 
 ghost use Rattle.std.specs.Prelude.{◌≡◌, IfOk, option_map};
-ghost use Rattle.ee_store_contents.specs.Reading.{each, optional_in, day_in, days_of, days_in, batch_in};
+ghost use Rattle.ee_store_contents.specs.Inner.Reading.{each, optional_in, day_in, days_of, days_in, batch_in};
 
 use ee_desk_model::Batch;
 use ee_store_load::{StoredBatch, StoredDesk};
@@ -29,7 +29,7 @@ fn optional_day(count: Option<u64>) -> Option<Option<Day>>
     }
 }
 
-#[tactic(auto, unfolding(crate::specs::Reading::days_of))]
+#[tactic(auto, unfolding(crate::specs::Inner::Reading::days_of))]
 fn days_of(row: &StoredDesk) -> Option<Days>
     ensures { result ≡ days_of row.now }
 {
@@ -53,7 +53,7 @@ pub fn days_in(version: u64, rows: &[StoredDesk]) -> Option<Days>
     }
 }
 
-#[tactic(auto, unfolding(crate::specs::Reading::batch_in))]
+#[tactic(auto, unfolding(crate::specs::Inner::Reading::batch_in))]
 fn batch_in(row: &StoredBatch) -> Option<Batch>
     ensures { result ≡ batch_in row.now }
 {

@@ -1,7 +1,7 @@
 //! Tickets, each with its lines.
 
 ghost use Rattle.std.specs.Prelude.{◌≡◌, ◌+◌, ◌<◌, IfOk, option_map};
-ghost use Rattle.ee_store_contents.specs.Reading.{line_at, lines_at, ticket_with, ticket_in, tickets_in};
+ghost use Rattle.ee_store_contents.specs.Inner.Reading.{line_at, lines_at, ticket_with, ticket_in, tickets_in};
 
 use ee_desk_model::{Line, Rows, Ticket};
 use ee_store_load::{StoredLine, StoredTicket};
@@ -37,7 +37,7 @@ fn lines_in(
     Ok(Some(lines))
 }
 
-#[tactic(auto, unfolding(crate::specs::Reading::ticket_with))]
+#[tactic(auto, unfolding(crate::specs::Inner::Reading::ticket_with))]
 fn ticket_with(row: &StoredTicket, lines: Vec<Line>) -> Option<Ticket>
     ensures { result ≡ ticket_with row.now lines.items }
 {

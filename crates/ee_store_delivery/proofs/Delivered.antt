@@ -35,7 +35,7 @@ use Rattle.ee_desk_model.specs.Ranges.{BondFits}
 use Rattle.ee_desk_texts.specs.Ranges.{ActFits, ReplyFits, RateRowFits, TicketFits, BatchFits}
 use Rattle.ee_store_tables.specs.Rows.{with_answer}
 use Rattle.ee_store_books.specs.Standing.{rows_of, reply_row, AreInRange, IsKept, IsRight}
-use Rattle.ee_store_delivery.specs.Written.{applied_rows}
+use Rattle.ee_store_delivery.specs.Inner.Written.{applied_rows}
 use Rattle.ee_store_delivery.proofs.Changes.{with_new_reply}
 use Rattle.ee_store_delivery.proofs.Written.{with_books, written}
 

@@ -25,11 +25,11 @@ use Rattle.ee_desk_texts.specs.declared.given.GivenReply.{GivenReply}
 use Rattle.ee_desk_texts.specs.declared.given.GivenReply.TheVariants as given
 use Rattle.ee_store_tables.specs.Rows.{Rows, ReplyRow, Sees, with_answer}
 use Rattle.ee_store_books.specs.Standing.{rows_of, reply_row, IsRight, IsKept}
-use Rattle.ee_store_delivery.specs.Written.{applied_rows}
+use Rattle.ee_store_delivery.specs.Inner.Written.{applied_rows}
 use Rattle.ee_store_books.specs.Seen.{SeesContent}
 use Rattle.ee_store_delivery.specs.declared.known.Known.{Known}
 use Rattle.ee_store_delivery.specs.Known.{AreKnown}
-use Rattle.ee_store_delivery.specs.Delivered.{IsDecided, IsToldIn}
+use Rattle.ee_store_delivery.specs.Inner.Delivered.{IsDecided, IsToldIn}
 use Rattle.ee_store_delivery.proofs.Again.{IsAgain}
 use Rattle.ee_store_delivery.proofs.Delivered.{rows_after, right_after}
 

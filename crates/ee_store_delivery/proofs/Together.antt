@@ -7,7 +7,7 @@ use Rattle.ee_store_tables.specs.declared.records.UnpaidBond.{UnpaidBond}
 use Rattle.ee_store_tables.specs.AsRows.{entry_of_unpaid}
 use Rattle.std.specs.FinMap.{get}
 use Rattle.ee_store_tables.specs.Rows.{Rows, BondRow, with_bond, with_bonds, CanRegisterAll}
-use Rattle.ee_store_delivery.specs.Written.{applied_rows, CanWriteAll, all_added_rows, new_entry, added_entry}
+use Rattle.ee_store_delivery.specs.Inner.Written.{applied_rows, CanWriteAll, all_added_rows, new_entry, added_entry}
 
 abbrev Entry : Type 0
 Entry = (ℕ × ℕ) × BondRow

@@ -42,8 +42,8 @@ use Rattle.ee_desk_model.specs.Repeats.{Content}
 use Rattle.ee_desk_model.specs.Sound.{IsSound, IsDay, IsRightTicket, NumberedFrom, day_of_batch, open_days, last_of}
 use Rattle.ee_desk_model.proofs.Lemmas.Books.{few_tickets, few_tickets_on, few_bonds_on, small_total_on, act_keeps_sound, applied_are_books_after, seen_enough, refused_by_length, none_from_cond, none_from_option_or, line_le, paid_lines_push}
 use Rattle.ee_desk_model.proofs.Lemmas.Maps.{serials_total, all_weaker, all_append, all_mapped, rising_below, all_both}
-use Rattle.ee_desk_decide.specs.Applicable.{IsRate, IsBond, AreApplicable}
-use Rattle.ee_desk_decide.specs.NewRows.{bond_row as bond_row_of, AreNew}
+use Rattle.ee_desk_decide.specs.Inner.Applicable.{IsRate, IsBond, AreApplicable}
+use Rattle.ee_desk_decide.specs.Inner.NewRows.{bond_row as bond_row_of, AreNew}
 use Rattle.ee_desk_decide.proofs.Lemmas.{decided_are_applicable}
 use Rattle.ee_desk_texts.specs.Ranges.{ActFits}
 use Rattle.ee_store_tables.specs.AsRows.{Fits}
@@ -53,7 +53,7 @@ use Rattle.ee_store_tables.proofs.Lemmas.Rows.{pair_total, pair_same}
 use Rattle.ee_store_rows.specs.Rows.{key_of, bond_row, ticket_row, paid_row, batch_row}
 use Rattle.ee_store_books.specs.Standing.{rows_of, placed, IsRight}
 use Rattle.ee_store_books.proofs.Lemmas.Contents.{get_bond_row, ticket_entry, ticket_lines, batch_entry, paid_entries}
-use Rattle.ee_store_delivery.specs.Written.{with_named, changed_rows, applied_rows, CanPayTicket, CanClose, CanWriteAll, all_added_rows, new_entry}
+use Rattle.ee_store_delivery.specs.Inner.Written.{with_named, changed_rows, applied_rows, CanPayTicket, CanClose, CanWriteAll, all_added_rows, new_entry}
 use Rattle.ee_store_delivery.proofs.Delivered.{changes_fit}
 
 -- ---- lists

@@ -26,13 +26,13 @@ use Rattle.ee_desk_model.specs.Lists.{Rising}
 use Rattle.ee_desk_model.specs.Repeats.{Content}
 use Rattle.ee_desk_model.proofs.Lemmas.Maps.{rising_below}
 use Rattle.ee_store_books.proofs.Lemmas.Contents.{get_rate_row, get_extension_row, get_bond_row, get_desk_row}
-use Rattle.ee_desk_decide.specs.NewRows as added
-use Rattle.ee_desk_decide.specs.NewRows.{AreNew}
-use Rattle.ee_desk_decide.specs.Applicable.{IsRate, IsBond, IsUnpaid, AreApplicable}
+use Rattle.ee_desk_decide.specs.Inner.NewRows as added
+use Rattle.ee_desk_decide.specs.Inner.NewRows.{AreNew}
+use Rattle.ee_desk_decide.specs.Inner.Applicable.{IsRate, IsBond, IsUnpaid, AreApplicable}
 use Rattle.ee_store_tables.specs.Rows.{Rows, DeskRow, insert_new, day_set, with_rate, with_batch, with_ticket}
 use Rattle.ee_store_rows.specs.Rows.{bond_row, key_of, ticket_row, batch_row}
 use Rattle.ee_store_books.specs.Standing.{rate_rows, extension_rows, bond_rows, desk_rows, rows_of}
-use Rattle.ee_store_delivery.specs.Written.{with_named, applied_rows}
+use Rattle.ee_store_delivery.specs.Inner.Written.{with_named, applied_rows}
 use Rattle.ee_store_delivery.proofs.Changes.{with_new_rate, with_no_extension, with_new_extension, with_new_bond, with_other_days, with_new_ticket, with_new_lines, with_new_marks, with_new_batch, lines_parts}
 
 abbrev pub with_books : Content → PlainBooks → Content

@@ -1,29 +1,21 @@
 -- Why a delivery fails, and the room that it takes.
-use Rattle.std.specs.Prelude.{ℕ, Result, OnOk, ◌≤◌, ◌+◌, length, IfErr}
+use Rattle.std.specs.Prelude.{ℕ, Result, ◌≤◌, ◌+◌, length, IfErr}
 use Rattle.sqlite.specs.State.{State, HasCleanDisk}
 use Rattle.ee_desk_model.specs.declared.acts.Request.{Request}
 use Rattle.ee_desk_model.specs.Outcomes.{act}
 use Rattle.ee_desk_model.specs.Repeats.{Content}
-use Rattle.ee_store_tables.specs.Rows.{Rows, Sees, HasRoom, IsInside}
+use Rattle.ee_store_tables.specs.Rows.{HasRoom}
 use Rattle.ee_desk_texts.specs.Texts.{act_text, reply_text}
 use Rattle.ee_store_tables.specs.declared.failures.Failure.{Failure}
-use Rattle.ee_store_books.specs.Seen.{HasContent, SeesContent}
+use Rattle.ee_store_books.specs.Seen.{HasContent}
 use Rattle.ee_store_books.specs.Causes.{IsReady}
 use Rattle.ee_store_tables.specs.Statements.{IsExcused}
 use Rattle.ee_store_delivery.specs.declared.known.Known.{Known}
 use Rattle.ee_store_delivery.specs.Known.{IsInformed}
 
--- in a transaction that sees rows, room for `count` rows is taken
-abbrev pub LeavesRoom : {X : Type 0} → State → State → Result X Failure → ℕ → Type 0
-LeavesRoom old new result count = HasCleanDisk new → IsInside old → OnOk result ((rows : Rows) → Sees old rows → (n : ℕ) → HasRoom (count + n) old → HasRoom n new)
-
 -- the texts of the request and of its reply fit a row
 abbrev pub TextsFit : Content → Request → Type 0
 TextsFit content request = length (act_text request.act) + length (reply_text (act content.books request.act).reply) ≤ 900000000
-
--- in a transaction that sees a content, a request takes room for at most 501 rows
-abbrev pub LeavesRoomAfter : {X : Type 0} → State → State → Result X Failure → Type 0
-LeavesRoomAfter old new result = HasCleanDisk new → IsInside old → OnOk result ((content : Content) → SeesContent old content → (n : ℕ) → HasRoom (501 + n) old → HasRoom n new)
 
 -- a request to a ready store, with room for the rows of one request, whose texts fit
 abbrev pub CanDeliver : State → Content → Request → Type 0

@@ -1,20 +1,16 @@
 -- What is known of a store's books without reading its tables.
-use Rattle.std.specs.Prelude.{◌≡◌, ℕ, length, Some, IfSome, Result, OnOk}
+use Rattle.std.specs.Prelude.{◌≡◌, ℕ, length, Some, IfSome}
 use Rattle.std.specs.FinMap as finite
 use Rattle.std.specs.FinMap.{FinMap}
 use Rattle.std.specs.Ordering.{nat_cmp}
 use Rattle.sqlite.specs.State.{State, HasCleanDisk}
 use Rattle.ee_value.specs.declared.rates.Rates.{Rates}
-use Rattle.ee_desk_model.specs.declared.acts.Act.{Act}
 use Rattle.ee_desk_model.specs.declared.replies.Batch.{Batch}
-use Rattle.ee_desk_model.specs.Acts.{books_after}
 use Rattle.ee_desk_model.specs.PlainBooks.{PlainBooks, no_batch}
 use Rattle.ee_desk_model.specs.Seen.{open_batch}
 use Rattle.ee_desk_model.specs.Repeats.{Content}
-use Rattle.ee_store_tables.specs.Rows.{IsInside}
-use Rattle.ee_store_tables.specs.declared.failures.Failure.{Failure}
 use Rattle.ee_store_books.specs.Found.{terms_found}
-use Rattle.ee_store_books.specs.Seen.{HasContent, SeesContent}
+use Rattle.ee_store_books.specs.Seen.{HasContent}
 use Rattle.ee_store_delivery.specs.declared.known.DayState.{DayState}
 use Rattle.ee_store_delivery.specs.declared.known.Known.{Known}
 
@@ -31,10 +27,6 @@ pub record IsDayState (day_state : DayState) (books : PlainBooks) (counts : Batc
 abbrev pub redeemed_counts : PlainBooks → Batch
 redeemed_counts books = record no_batch { tickets = (open_batch books).tickets }
 
--- the day state that the next redemption is decided on, after an act on the books
-abbrev pub IsDayStateAfter : PlainBooks → Act → DayState → Type 0
-IsDayStateAfter books asked day_state = IsDayState day_state (books_after books asked) (redeemed_counts (books_after books asked))
-
 -- terms of periods, as the books have them
 abbrev pub AreTermsOf : FinMap nat_cmp Rates → PlainBooks → Type 0
 AreTermsOf terms books = (period : ℕ) → IfSome (finite.get terms period) (λ rates. finite.get books.rates period ≡ Some rates)
@@ -43,10 +35,6 @@ AreTermsOf terms books = (period : ℕ) → IfSome (finite.get terms period) (λ
 pub record AreKnown (known : Known) (books : PlainBooks) : Type 0 where
   pub day_state : IfSome known.day_state (λ day_state. IsDayState day_state books (redeemed_counts books))
   pub terms : AreTermsOf (terms_found known.terms.entries) books
-
--- if the first held for the books that a transaction sees, the second holds for them now
-abbrev pub LearnsIn : {X : Type 0} → State → State → Result X Failure → (PlainBooks → Type 0) → (PlainBooks → Type 0) → Type 0
-LearnsIn old new result Before After = HasCleanDisk new → IsInside old → OnOk result ((content : Content) → SeesContent old content → Before content.books → After content.books)
 
 -- the store has a content, and what is known is correct for its books
 abbrev pub IsInformed : State → Known → Type 0

@@ -1,4 +1,3 @@
-pub mod Written
 pub mod Known
 pub mod Causes
-pub mod Delivered
+pub mod Inner

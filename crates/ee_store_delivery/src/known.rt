@@ -9,7 +9,8 @@ ghost use Rattle.ee_desk_model.specs.declared.acts.Act.TheVariants as act;
 ghost use Rattle.ee_units.specs.Spelling.{SerialNumber};
 ghost use Rattle.ee_desk_model.specs.Views.{needed_counts};
 ghost use Rattle.ee_store_books.specs.Found.{terms_found, with_found};
-ghost use Rattle.ee_store_delivery.specs.Known.{IsDayState, IsDayStateAfter, AreKnown, redeemed_counts};
+ghost use Rattle.ee_store_delivery.specs.Known.{IsDayState, AreKnown, redeemed_counts};
+ghost use Rattle.ee_store_delivery.specs.Inner.Known.{IsDayStateAfter};
 
 use ee_desk_decide::DayCounts;
 use ee_desk_model::{Act, Reply, Terms};

@@ -17,9 +17,10 @@ ghost use Rattle.ee_store_tables.specs.Rows.{DeskRow};
 ghost use Rattle.ee_store_books.specs.Causes.{FailsByCause};
 ghost use Rattle.ee_store_books.specs.Found.{terms_found, bonds_found};
 ghost use Rattle.ee_store_books.specs.Seen.{FindsIn, OnlyReads};
-ghost use Rattle.ee_store_delivery.specs.Delivered.{AreEffects};
-ghost use Rattle.ee_store_delivery.specs.Written.{all_added_rows};
-ghost use Rattle.ee_store_delivery.specs.Known.{IsDayState, AreTermsOf, AreKnown, LearnsIn};
+ghost use Rattle.ee_store_delivery.specs.Inner.Delivered.{AreEffects};
+ghost use Rattle.ee_store_delivery.specs.Inner.Written.{all_added_rows};
+ghost use Rattle.ee_store_delivery.specs.Known.{IsDayState, AreTermsOf, AreKnown};
+ghost use Rattle.ee_store_delivery.specs.Inner.Known.{LearnsIn};
 
 use crate::known::{DayState, Known, known_terms, learn_terms};
 use crate::named_by_act::{periods_of, serials_of};

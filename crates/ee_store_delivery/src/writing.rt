@@ -5,19 +5,8 @@ ghost use Rattle.sqlite.specs.Held.{state};
 ghost use Rattle.ee_store_tables.specs.AsRows.{Fits, FitsUnpaid};
 ghost use Rattle.ee_store_tables.specs.Rows.{HasRoom};
 ghost use Rattle.ee_store_tables.specs.Statements.{WritesInside, WritesIfAny, Makes, FailsByCause, KeepsRoom};
-ghost use Rattle.ee_store_delivery.specs.Causes.{LeavesRoom};
-ghost use Rattle.ee_store_delivery.specs.Written.{
-  with_named,
-  changed_rows,
-  applied_rows,
-  CanPayTicket,
-  CanClose,
-  CanWrite,
-  CanWriteAll,
-  added_rows,
-  all_added_rows,
-  BeginWith,
-};
+ghost use Rattle.ee_store_delivery.specs.Inner.Causes.{LeavesRoom};
+ghost use Rattle.ee_store_delivery.specs.Inner.Written.{with_named, changed_rows, applied_rows, CanPayTicket, CanClose, CanWrite, CanWriteAll, added_rows, all_added_rows, BeginWith};
 
 use crate::to_rows::{batch_row, bond_row, line_rows, ticket_row, whole, whole_option};
 use ee_calculator::Bond;

@@ -29,7 +29,8 @@ use Rattle.sqlite.specs.declared.error.Error.{Error}
 use Rattle.sqlite.specs.declared.error.Error.TheVariants.{SqliteFailure}
 use Rattle.sqlite.specs.declared.error.ErrorCode.TheVariants as code
 use Rattle.ee_store_files.specs.Damage.{BeginsAsLog}
-use Rattle.ee_store_files.specs.Opening.{error_of_probe, Fails, FailsToRead, IsToOpen, Refuses, IsLongFor, IsForeign}
+use Rattle.ee_store_files.specs.Opening.{Fails, IsToOpen, Refuses, IsForeign}
+use Rattle.ee_store_files.specs.Inner.Opening.{error_of_probe, FailsToRead, IsLongFor}
 use Rattle.ee_store_files.proofs.Frames.{AreOpen}
 use Rattle.ee_store_files.proofs.Stops.{named_size}
 

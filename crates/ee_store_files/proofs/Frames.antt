@@ -6,7 +6,8 @@ use Rattle.sqlite_wal.specs.Recovery.{Image, frame_at, frame, header, sum_before
 use Rattle.sqlite_wal.proofs.PartLemmas.{slice_index-part, part-part, frames_len-le}
 use Rattle.sqlite_wal.proofs.FormatLemmas.{be32-part}
 use Rattle.sqlite_wal.proofs.RecoveryLemmas.{replays_once}
-use Rattle.ee_store_files.specs.Damage.{BeginsAsLog, HasLostHeader, IsFrontOf, IsOpenAt, EndsOne, HasTwoMore, IsFrameAt, IsCountAt, IsAnyCountAt, IsLateCountAt, IsUnwritten, HasCountBehind, number_at, AreNumbersOf, page_at, IsSummed, LacksSum, IsReplaced, size_after, IsWrongAt, IsDamaged}
+use Rattle.ee_store_files.specs.Damage.{BeginsAsLog, HasLostHeader, IsOpenAt, EndsOne, HasTwoMore, IsCountAt, IsAnyCountAt, IsUnwritten, HasCountBehind, number_at, page_at, IsSummed, LacksSum, size_after, IsWrongAt, IsDamaged}
+use Rattle.ee_store_files.specs.Inner.Damage.{IsFrontOf, IsFrameAt, IsLateCountAt, AreNumbersOf, IsReplaced}
 
 module _ {page_size i : ℕ} {log front : List ℕ} (is : IsFrontOf page_size log i front) where
   at : ℕ

@@ -1,17 +1,10 @@
 -- Why the files at a path aren't opened.
 use Rattle.std.specs.Prelude.{⊤}
-use Rattle.std.specs.declared.io.ErrorKind.{ErrorKind}
-use Rattle.std.specs.declared.io.ErrorKind.TheVariants as kind
 use Rattle.sqlite.specs.declared.error.Error.{Error}
 use Rattle.sqlite.specs.declared.error.Error.TheVariants.{SqliteFailure}
 use Rattle.sqlite.specs.declared.error.ErrorCode.TheVariants as code
 use Rattle.ee_store_files.specs.declared.causes.OpenCause.{OpenCause}
 use Rattle.ee_store_files.specs.declared.causes.OpenCause.TheVariants as cause
-
--- the cause for an error of the system of this kind
-abbrev pub cause_of_kind : ErrorKind → OpenCause
-cause_of_kind kind.OutOfMemory = cause.NoMemory
-cause_of_kind k = cause.System k
 
 -- the cause for an error with which the files aren't opened
 abbrev pub cause_of_error : Error → OpenCause

@@ -1,5 +1,5 @@
 -- A log that was damaged, or written by another program: what no stop of this one leaves.
-use Rattle.std.specs.Prelude.{◌≡◌, ◌≢◌, ◌⊎◌, ◌+◌, ◌-◌, ◌/◌, ◌<◌, ◌≤◌, ℕ, Bool, List, length, slice_index, take, IsTrue}
+use Rattle.std.specs.Prelude.{◌≡◌, ◌≢◌, ◌⊎◌, ◌+◌, ◌-◌, ◌/◌, ◌<◌, ◌≤◌, ℕ, List, length, slice_index, take}
 use Rattle.sqlite_wal.specs.Format.{part, be32, is_big, frame_sum, stored_sum, count_page, IsSigned}
 use Rattle.sqlite_wal.specs.Recovery.{Image, frame_at, frame, header, sum_before, Passes, IsLogFor, Replays}
 use Rattle.sqlite_pool.specs.Stored.{sealed}
@@ -21,11 +21,6 @@ pub record IsOpenAt (page_size : ℕ) (log : List ℕ) (i : ℕ) : Type 0 where
   pub within : frame_at page_size i + (24 + page_size) ≤ length log
   pub gate : slice_index log (frame_at page_size i + 8) ≡ slice_index log 16
 
--- frame i is in the file, and has this header
-pub record IsFrontOf (page_size : ℕ) (log : List ℕ) (i : ℕ) (front : List ℕ) : Type 0 where
-  pub within : frame_at page_size i + (24 + page_size) ≤ length log
-  pub read : front ≡ part log (frame_at page_size i) 24
-
 -- frame i ends a transaction of this log: it has the header's salt, and a size for the database
 pub record EndsOne (page_size : ℕ) (log : List ℕ) (i : ℕ) : Type 0 where
   pub salt : part log (frame_at page_size i + 8) 8 ≡ part log 16 8
@@ -44,11 +39,6 @@ pub record HasTwoMore (page_size : ℕ) (log : List ℕ) (k : ℕ) : Type 0 wher
 -- the number of the page that frame i has
 abbrev pub number_at : ℕ → List ℕ → ℕ → ℕ
 number_at page_size log i = be32 log (frame_at page_size i)
-
--- frame i is in the file, and has these bytes
-pub record IsFrameAt (page_size : ℕ) (log : List ℕ) (i : ℕ) (bytes : List ℕ) : Type 0 where
-  pub within : frame_at page_size i + (24 + page_size) ≤ length log
-  pub read : bytes ≡ frame page_size log i
 
 -- frame i has the salt of the log and a right checksum, computed on from that of the frame before it, and is a count
 abbrev pub IsCountAt : ℕ → List ℕ → ℕ → Type 0
@@ -86,15 +76,6 @@ pub record HasOlderHeader (page_size : ℕ) (image : Image) (k : ℕ) : Type 0 w
 abbrev pub HasCountBehind : ℕ → Image → ℕ → Type 0
 HasCountBehind page_size image k = HasLaterCount page_size image.log k ⊎ HasOlderHeader page_size image k
 
--- a count with the salt of the log; or, if it is doubted that the header is the log's, one behind more pages than the file has
-pub record IsLateCountAt (is_doubted : Bool) (in_file page_size : ℕ) (log : List ℕ) (i : ℕ) : Type 0 where
-  pub count : IsAnyCountAt page_size log i
-  pub ours : (part (frame page_size log i) 8 8 ≡ part (header log) 16 8) ⊎ (IsTrue is_doubted × (in_file < size_after page_size log i))
-
--- the first frames have the pages of these numbers
-abbrev pub AreNumbersOf : ℕ → List ℕ → List ℕ → Type 0
-AreNumbersOf page_size log numbers = (i : ℕ) → i < length numbers → slice_index numbers i ≡ number_at page_size log i
-
 -- the content of that page
 abbrev pub page_at : ℕ → List ℕ → ℕ → List ℕ
 page_at page_size log i = part log (frame_at page_size i + 24) page_size
@@ -112,10 +93,6 @@ pub record LacksSum (page_size : ℕ) (log : List ℕ) (k i : ℕ) : Type 0 wher
 -- one of the first k frames is such a frame
 abbrev pub HasUnsummed : ℕ → List ℕ → ℕ → Type 0
 HasUnsummed page_size log k = (i : ℕ) × (i < k) × LacksSum page_size log k i
-
--- a frame behind frame i has its page
-abbrev pub IsReplaced : List ℕ → ℕ → Type 0
-IsReplaced numbers i = (j : ℕ) × (i < j) × (j < length numbers) × (slice_index numbers j ≡ slice_index numbers i)
 
 -- the header of the database file reserves the eight bytes of a checksum in each page
 abbrev pub SaysSums : List ℕ → Type 0

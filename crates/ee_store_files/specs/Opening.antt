@@ -1,15 +1,14 @@
 -- Why two files aren't opened.
-use Rattle.std.specs.Prelude.{◌≡◌, ◌⊎◌, ◌≤◌, ℕ, List, length, IsTrue}
+use Rattle.std.specs.Prelude.{◌≡◌, ◌⊎◌, ℕ, List, IsTrue}
 use Rattle.sqlite_disk.specs.declared.Disk.{Ghosts}
 use Rattle.sqlite_disk.specs.declared.Files.{Files}
 use Rattle.sqlite_disk.specs.Disk.{MoreFaults}
-use Rattle.sqlite_wal.specs.declared.error.Error as log_error
 use Rattle.sqlite_wal.specs.declared.error.Error.TheVariants as log
 use Rattle.sqlite_wal.specs.PageSize.{IsPageSize}
-use Rattle.sqlite_wal.specs.Recovery.{Image, frame_at, Replays}
+use Rattle.sqlite_wal.specs.Recovery.{Image, Replays}
 use Rattle.sqlite.specs.Tree.{Trees}
 use Rattle.sqlite.specs.State.{is_disk_error}
-use Rattle.sqlite.specs.Files.{image_of, faults_of, faults_left, HoldsDatabase, IsNothing, IsTooLong, IsFullLeft}
+use Rattle.sqlite.specs.Files.{image_of, faults_of, faults_left, HoldsDatabase, IsNothing, IsFullLeft}
 use Rattle.sqlite.specs.declared.error.Error.{Error}
 use Rattle.sqlite.specs.declared.error.Error.TheVariants.{SqliteFailure}
 use Rattle.sqlite.specs.declared.error.ErrorCode.TheVariants as code
@@ -27,17 +26,6 @@ abbrev pub Fails : ℕ → ℕ → Type 0 → Error → Type 0
 Fails old new AtLimit e =
     (e ≡ SqliteFailure code.OutOfMemory) ⊎ ((IsTrue (is_disk_error e) × MoreFaults old new) ⊎ ((e ≡ SqliteFailure code.DiskFull) × AtLimit))
 
--- 32 bits don't number the frames of the log
-abbrev pub IsLongFor : ℕ → List ℕ → Type 0
-IsLongFor page_size log = frame_at page_size 0xffff_fffe ≤ length log
-
--- the error for a log that couldn't be examined, or that recovery refuses
-abbrev pub error_of_probe : log_error.Error → Error
-error_of_probe (log.Io e) = SqliteFailure code.SystemIoFailure
-error_of_probe log.OutOfMemory = SqliteFailure code.OutOfMemory
-error_of_probe log.Full = SqliteFailure code.DiskFull
-error_of_probe e = SqliteFailure code.DatabaseCorrupt
-
 -- ---- files that are refused for what they hold
 
 -- Recovery takes the file for a log, and refuses it for every page size: another program wrote it, or another version of SQLite.
@@ -54,10 +42,6 @@ Refuses image e =
     ((e ≡ SqliteFailure code.CannotOpen) × IsOrphan image)
     ⊎ (((e ≡ SqliteFailure code.NotADatabase) × (IsStray image ⊎ (¬ IsToOpen image)))
     ⊎ ((e ≡ SqliteFailure code.DatabaseCorrupt) × (IsDamaged image ⊎ (IsForeign image.log ⊎ (¬ IsToOpen image)))))
-
--- a call that only reads the files fails, or refuses them
-abbrev pub FailsToRead : Image → ℕ → ℕ → Error → Type 0
-FailsToRead image old new e = Fails old new (IsTooLong image) e ⊎ Refuses image e
 
 -- an open fails, or refuses the files
 abbrev pub FailsToOpen : {D : Type 0} {g : Ghosts D} → Files D → Leftover D g → Error → Type 0

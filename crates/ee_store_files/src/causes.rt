@@ -1,7 +1,8 @@
 //! Why the files at a path aren't opened.
 
 ghost use Rattle.std.specs.Prelude.{◌≡◌};
-ghost use Rattle.ee_store_files.specs.Causes.{cause_of_error, cause_of_kind, error_of};
+ghost use Rattle.ee_store_files.specs.Causes.{cause_of_error, error_of};
+ghost use Rattle.ee_store_files.specs.Inner.Causes.{cause_of_kind};
 
 use crate::errors::{CANNOT_OPEN, DAMAGED, FULL, IO, NO_DATABASE, NO_MEMORY};
 use sqlite::{Error, ErrorCode};

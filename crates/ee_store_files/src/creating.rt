@@ -10,7 +10,8 @@ ghost use Rattle.sqlite.specs.Files.{file_state, image_of, faults_of, faults_lef
 ghost use Rattle.sqlite_store.specs.FileStore.{view, state, faults, IsReady, is_shielded};
 ghost use Rattle.ee_store_files.specs.Orphans.{IsOrphan};
 ghost use Rattle.ee_store_files.specs.Files.{page_size, IsStray, IsUncreated, Leaves};
-ghost use Rattle.ee_store_files.specs.Opening.{Fails, FailsToRead};
+ghost use Rattle.ee_store_files.specs.Opening.{Fails};
+ghost use Rattle.ee_store_files.specs.Inner.Opening.{FailsToRead};
 
 use crate::errors::{CANNOT_OPEN, IO, NO_DATABASE, NO_MEMORY, create_error, probe_error};
 use crate::orphans::{is_marked, is_orphan};

@@ -14,8 +14,10 @@ ghost use Rattle.sqlite_wal.specs.PageSize.{bytes_of};
 ghost use Rattle.sqlite_pool.specs.Stored.{sum_bytes};
 ghost use Rattle.sqlite.specs.Opening.{is_open_error};
 ghost use Rattle.sqlite.specs.Files.{image_of, faults_of};
-ghost use Rattle.ee_store_files.specs.Damage.{BeginsAsLog, HasLostHeader, IsFrontOf, IsOpenAt, EndsOne, HasTwoMore, IsFrameAt, IsLateCountAt, IsUnwritten, HasCountBehind, page_at, IsSummed, AreNumbersOf, IsReplaced, size_after, LacksSum, HasUnsummed, SaysSums, IsWrongAt, IsDamaged};
-ghost use Rattle.ee_store_files.specs.Opening.{Fails, FailsToRead, IsLongFor};
+ghost use Rattle.ee_store_files.specs.Damage.{BeginsAsLog, HasLostHeader, IsOpenAt, EndsOne, HasTwoMore, IsUnwritten, HasCountBehind, page_at, IsSummed, size_after, LacksSum, HasUnsummed, SaysSums, IsWrongAt, IsDamaged};
+ghost use Rattle.ee_store_files.specs.Inner.Damage.{IsFrontOf, IsFrameAt, IsLateCountAt, AreNumbersOf, IsReplaced};
+ghost use Rattle.ee_store_files.specs.Opening.{Fails};
+ghost use Rattle.ee_store_files.specs.Inner.Opening.{FailsToRead, IsLongFor};
 
 use crate::errors::{DAMAGED, FULL, IO, NO_MEMORY, probe_error};
 use sqlite::{Error, Files};

@@ -2,7 +2,7 @@
 
 ghost use Rattle.std.specs.Prelude.{◌≡◌, IsTrue};
 ghost use Rattle.sqlite.specs.Opening.{is_open_error, reported};
-ghost use Rattle.ee_store_files.specs.Opening.{error_of_probe};
+ghost use Rattle.ee_store_files.specs.Inner.Opening.{error_of_probe};
 
 use sqlite::{Error, ErrorCode};
 use sqlite_store::OpenError;

@@ -23,7 +23,7 @@ use Rattle.sqlite_resolve.specs.declared.error.CompileError.TheVariants.{NoSuchT
 use Rattle.sqlite_resolve.specs.Lowering.{Checked, and_then}
 use Rattle.sqlite_resolve.specs.Compile.{first, compiled, planned, meaning, returning, command, with_command, timed as timed_formats}
 use Rattle.sqlite_tied.specs.Compute.{everything}
-use Rattle.ee_store_load.specs.Reading.{OnlyAsks}
+use Rattle.ee_store_load.specs.Inner.Reading.{OnlyAsks}
 
 -- ---- what a text is compiled to
 

@@ -18,9 +18,11 @@ use Rattle.ee_store_load.specs.declared.entries.StoredLine.{StoredLine}
 use Rattle.ee_store_load.specs.declared.entries.StoredBatch.{StoredBatch}
 use Rattle.ee_store_load.specs.declared.entries.StoredReply.{StoredReply}
 use Rattle.ee_store_load.specs.declared.entries.Rowid.{Rowid}
-use Rattle.ee_store_load.specs.Reading.{whole_table, CanBeRead}
+use Rattle.ee_store_load.specs.Inner.Reading.{whole_table, CanBeRead}
 use Rattle.ee_store_load.specs.Shown as spec
-use Rattle.ee_store_load.specs.Shown.{pair_lt, keyed_shown, pair_shown, IsKeyed, IsPaired, IsReply, IsAnswerRow, IsRowid, IsBondRow, AreBonds, AreWritten}
+use Rattle.ee_store_load.specs.Inner.Shown as inner
+use Rattle.ee_store_load.specs.Shown.{pair_lt, keyed_shown, pair_shown, IsKeyed, IsPaired, IsReply, AreBonds, AreWritten}
+use Rattle.ee_store_load.specs.Inner.Shown.{IsAnswerRow, IsRowid, IsBondRow}
 use Rattle.ee_store_schema.specs.declared.answers.StoredAnswer.{StoredAnswer}
 use Rattle.ee_store_schema.specs.Forms.{at_first_desk}
 use Rattle.ee_store_schema.specs.Migrating.{answer_entry}
@@ -63,13 +65,13 @@ reply_shows : (r : Row) (p : ℤ × (ℕ × ReplyRow)) → ReadAlike r (row_of r
 reply_shows r p one = rw (one 0, one 2, one 3) refl
 
 pub can_read_replies : (db : Trees) (m : FinMap nat_cmp ReplyRow) → AreWritten (at_first_desk m) → HoldsMap reply_columns (db 11) m → CanBeRead IsReply spec.reply_shown (λ (a b : StoredReply). nat_lt a.number b.number) db (whole_table 11 reply_terms by_key)
-can_read_replies db m written holds = can_read_keyed reply_columns un_replies back_replies 11 reply_terms reply_shows db m refl holds spec.reply_entry IsReply (all_replies m written)
+can_read_replies db m written holds = can_read_keyed reply_columns un_replies back_replies 11 reply_terms reply_shows db m refl holds inner.reply_entry IsReply (all_replies m written)
 
 bond_shows : (r : Row) (p : ℤ × ((ℕ × ℕ) × BondRow)) → ReadAlike r (stored bond_columns p) → output (whole_table 2 bond_terms by_pair) ([] ∷ r ∷ []) ≡ (Int (pos p.1.0.0) ∷ Int (pos p.1.0.1) ∷ [], pair_shown bond_columns p.1)
 bond_shows r p one = rw (one 1, one 2, one 3, one 4, one 5, one 6, one 7) refl
 
 pub can_read_bonds : (db : Trees) (m : FinMap pair_cmp BondRow) → AreBonds m → HoldsPairs bond_columns (db 2) m
-    → CanBeRead IsBondRow spec.bond_shown (λ (a b : Held). pair_lt (key_of a.bond.serial) (key_of b.bond.serial)) db (whole_table 2 bond_terms by_pair)
+    → CanBeRead IsBondRow inner.bond_shown (λ (a b : Held). pair_lt (key_of a.bond.serial) (key_of b.bond.serial)) db (whole_table 2 bond_terms by_pair)
 can_read_bonds db m are holds = can_read_pairs bond_columns un_bonds back_bonds 2 bond_terms bond_shows db m refl holds spec.bond_entry IsBondRow (all_bonds m are)
 
 pub can_read_bond_rowids : (db : Trees) (m : FinMap pair_cmp BondRow) → HoldsPairs bond_columns (db 2) m → CanBeRead IsRowid (λ (it : Rowid). Int it.rowid ∷ []) (λ (a b : Rowid). int_lt a.rowid b.rowid) db (whole_table 2 rowid_terms by_key)
@@ -89,7 +91,7 @@ answer_shows : (r : Row) (p : ℤ × ((ℕ × ℕ) × ReplyRow)) → ReadAlike r
 answer_shows r p one = rw (one 1, one 2, one 3, one 4) refl
 
 pub can_read_answers : (db : Trees) (m : FinMap pair_cmp ReplyRow) → AreWritten m → HoldsPairs reply_columns (db 13) m
-    → CanBeRead IsAnswerRow spec.answer_shown (λ (a b : StoredAnswer). pair_lt (a.desk, a.number) (b.desk, b.number)) db (whole_table 13 answer_terms by_pair)
+    → CanBeRead IsAnswerRow inner.answer_shown (λ (a b : StoredAnswer). pair_lt (a.desk, a.number) (b.desk, b.number)) db (whole_table 13 answer_terms by_pair)
 can_read_answers db m written holds = can_read_pairs reply_columns un_replies back_replies 13 answer_terms answer_shows db m refl holds answer_entry IsAnswerRow (all_answers m written)
 
 pub can_read_answer_rowids : (db : Trees) (m : FinMap pair_cmp ReplyRow) → HoldsPairs reply_columns (db 13) m → CanBeRead IsRowid (λ (it : Rowid). Int it.rowid ∷ []) (λ (a b : Rowid). int_lt a.rowid b.rowid) db (whole_table 13 rowid_terms by_key)

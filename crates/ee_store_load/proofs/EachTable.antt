@@ -33,8 +33,10 @@ use Rattle.ee_store_schema.specs.declared.forms.Form.TheVariants.{Current, First
 use Rattle.ee_store_schema.specs.Forms.{replies, first_tables, earliest_tables, schema_of}
 use Rattle.ee_store_schema.specs.declared.answers.StoredAnswer.{StoredAnswer}
 use Rattle.ee_store_schema.specs.Migrating.{answer_entry}
-use Rattle.ee_store_load.specs.Reading.{rises, shown_by, ShowsAll}
+use Rattle.ee_store_load.specs.Reading.{rises}
+use Rattle.ee_store_load.specs.Inner.Reading.{shown_by, ShowsAll}
 use Rattle.ee_store_load.specs.Shown as spec
+use Rattle.ee_store_load.specs.Inner.Shown as inner
 use Rattle.ee_store_load.specs.Shown.{pair_lt}
 use Rattle.ee_store_load.proofs.FoundLemmas.{sorted_if_rises, reads_alike}
 use Rattle.ee_store_load.proofs.TableLemmas.{rises_same, number_below, pair_below, short_row, key_empty, apart_if_rises, holds_keyed, holds_pairs}
@@ -170,11 +172,11 @@ alike_replies : (r : Row) → are_typed replies.key 0 replies.columns (drop 1 r)
 alike_replies r typed e is = reads_alike r (row_of reply_columns (pos e.0, e)) (ap (λ xs. column xs 0) is, (key_empty replies.columns r typed, (ap (λ xs. column xs 1) is, (ap (λ xs. column xs 2) is, tt)))) (short_row replies.key replies.columns r typed)
 
 pub holds_replies : (form : Form) → form ≢ Current → (db : Database) → IsDatabase db → db.schema ≡ schema_of form → (all : List StoredReply) → ShowsAll db.trees 11 reply_terms (map spec.reply_shown all) → rises (λ a b. nat_lt a.number b.number) all ≡ true
-    → HoldsMap reply_columns (db.trees 11) (spec.reply_map all)
+    → HoldsMap reply_columns (db.trees 11) (inner.reply_map all)
 holds_replies form earlier db sound has all shows up =
-    let same = subst (IsPermutation (map (shown_by reply_terms) (db.trees 11))) (sym (map-map (λ (e : ℕ × ReplyRow). Int (pos e.0) ∷ reply_columns e.1) spec.reply_entry all)) shows in
-    let sorted = sorted_if_rises nat_cmp nat_cmp_total spec.reply_entry all (sym (rises_same _ _ (λ (a b : StoredReply). number_below a.number b.number) all) ∙ up) in
-    holds_keyed reply_columns un_replies back_replies reply_terms (λ _. refl) (db.trees 11) (map spec.reply_entry all) same
+    let same = subst (IsPermutation (map (shown_by reply_terms) (db.trees 11))) (sym (map-map (λ (e : ℕ × ReplyRow). Int (pos e.0) ∷ reply_columns e.1) inner.reply_entry all)) shows in
+    let sorted = sorted_if_rises nat_cmp nat_cmp_total inner.reply_entry all (sym (rises_same _ _ (λ (a b : StoredReply). number_below a.number b.number) all) ∙ up) in
+    holds_keyed reply_columns un_replies back_replies reply_terms (λ _. refl) (db.trees 11) (map inner.reply_entry all) same
     (all_weaker _ _ alike_replies (db.trees 11) (typed_replies form earlier db sound has)) sorted
 
 -- ---- answers
@@ -183,7 +185,7 @@ alike_answers : (r : Row) → are_typed answers.key 0 answers.columns (drop 1 r)
     → ReadAlike r (stored reply_columns (i, e))
 alike_answers r typed i e first is = reads_alike r (stored reply_columns (i, e)) (first, (ap (λ xs. column xs 0) is, (ap (λ xs. column xs 1) is, (ap (λ xs. column xs 2) is, (ap (λ xs. column xs 3) is, tt))))) (short_row answers.key answers.columns r typed)
 
-pub holds_answers : (db : Database) → IsDatabase db → db.schema ≡ counter_schema → (all : List StoredAnswer) (ids : List Rowid) → ShowsAll db.trees 13 answer_terms (map spec.answer_shown all)
+pub holds_answers : (db : Database) → IsDatabase db → db.schema ≡ counter_schema → (all : List StoredAnswer) (ids : List Rowid) → ShowsAll db.trees 13 answer_terms (map inner.answer_shown all)
     → rises (λ a b. pair_lt (a.desk, a.number) (b.desk, b.number)) all ≡ true → ShowsAll db.trees 13 rowid_terms (map (λ it. Int it.rowid ∷ []) ids) → rises (λ a b. int_lt a.rowid b.rowid) ids ≡ true
     → HoldsPairs reply_columns (db.trees 13) (spec.answer_map all)
 holds_answers db sound has all ids shows up numbers ids_up =
@@ -200,7 +202,7 @@ alike_bonds : (r : Row) → are_typed bonds.key 0 bonds.columns (drop 1 r) ≡ t
     → ReadAlike r (stored bond_columns (i, e))
 alike_bonds r typed i e first is = reads_alike r (stored bond_columns (i, e)) (first, (ap (λ xs. column xs 0) is, (ap (λ xs. column xs 1) is, (ap (λ xs. column xs 2) is, (ap (λ xs. column xs 3) is, (ap (λ xs. column xs 4) is, (ap (λ xs. column xs 5) is, (ap (λ xs. column xs 6) is, tt)))))))) (short_row bonds.key bonds.columns r typed)
 
-pub holds_bonds : (form : Form) (db : Database) → IsDatabase db → db.schema ≡ schema_of form → (all : List Held) (ids : List Rowid) → ShowsAll db.trees 2 bond_terms (map spec.bond_shown all)
+pub holds_bonds : (form : Form) (db : Database) → IsDatabase db → db.schema ≡ schema_of form → (all : List Held) (ids : List Rowid) → ShowsAll db.trees 2 bond_terms (map inner.bond_shown all)
     → rises (λ a b. pair_lt (key_of a.bond.serial) (key_of b.bond.serial)) all ≡ true → ShowsAll db.trees 2 rowid_terms (map (λ it. Int it.rowid ∷ []) ids) → rises (λ a b. int_lt a.rowid b.rowid) ids ≡ true
     → HoldsPairs bond_columns (db.trees 2) (spec.bond_map all)
 holds_bonds form db sound has all ids shows up numbers ids_up =
@@ -238,8 +240,8 @@ listed_tickets all up = entries-from_sorted nat_cmp (map spec.ticket_entry all) 
 pub listed_batches : (all : List StoredBatch) → rises (λ a b. nat_lt a.day b.day) all ≡ true → entries (spec.batch_map all) ≡ map spec.batch_entry all
 listed_batches all up = entries-from_sorted nat_cmp (map spec.batch_entry all) (sorted_if_rises nat_cmp nat_cmp_total spec.batch_entry all (sym (rises_same _ _ (λ (a b : StoredBatch). number_below a.day b.day) all) ∙ up))
 
-pub listed_replies : (all : List StoredReply) → rises (λ a b. nat_lt a.number b.number) all ≡ true → entries (spec.reply_map all) ≡ map spec.reply_entry all
-listed_replies all up = entries-from_sorted nat_cmp (map spec.reply_entry all) (sorted_if_rises nat_cmp nat_cmp_total spec.reply_entry all (sym (rises_same _ _ (λ (a b : StoredReply). number_below a.number b.number) all) ∙ up))
+pub listed_replies : (all : List StoredReply) → rises (λ a b. nat_lt a.number b.number) all ≡ true → entries (inner.reply_map all) ≡ map inner.reply_entry all
+listed_replies all up = entries-from_sorted nat_cmp (map inner.reply_entry all) (sorted_if_rises nat_cmp nat_cmp_total inner.reply_entry all (sym (rises_same _ _ (λ (a b : StoredReply). number_below a.number b.number) all) ∙ up))
 
 pub listed_bonds : (all : List Held) → rises (λ a b. pair_lt (key_of a.bond.serial) (key_of b.bond.serial)) all ≡ true → entries (spec.bond_map all) ≡ map spec.bond_entry all
 listed_bonds all up = entries-from_sorted pair_cmp (map spec.bond_entry all) (sorted_if_rises pair_cmp pair_total spec.bond_entry all (sym (rises_same _ _ (λ (a b : Held). pair_below (key_of a.bond.serial) (key_of b.bond.serial)) all) ∙ up))

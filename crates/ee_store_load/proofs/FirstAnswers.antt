@@ -10,7 +10,8 @@ use Rattle.ee_store_schema.specs.Forms.{HoldsReplies}
 use Rattle.ee_store_schema.specs.Migrating.{answer_entry}
 use Rattle.ee_store_schema.proofs.Lemmas.Desks.{first_desk_sorted}
 use Rattle.ee_store_load.specs.declared.entries.StoredReply.{StoredReply}
-use Rattle.ee_store_load.specs.Shown.{reply_entry, reply_map, answer_map, first_answer}
+use Rattle.ee_store_load.specs.Shown.{answer_map}
+use Rattle.ee_store_load.specs.Inner.Shown.{reply_entry, reply_map, first_answer}
 
 abbrev first : ℕ × ReplyRow → (ℕ × ℕ) × ReplyRow
 first e = ((0, e.0), e.1)

@@ -9,8 +9,8 @@ use Rattle.ee_store_tables.specs.Tables.{counter_schema}
 use Rattle.ee_store_schema.specs.declared.forms.Form.{Form}
 use Rattle.ee_store_schema.specs.declared.forms.Form.TheVariants.{Current, First, Earliest}
 use Rattle.ee_store_schema.specs.Forms.{schema_of}
-use Rattle.ee_store_schema.specs.Asking.{IsNeverRefused}
-use Rattle.ee_store_load.specs.Reading.{whole_table}
+use Rattle.ee_store_schema.specs.Inner.Asking.{IsNeverRefused}
+use Rattle.ee_store_load.specs.Inner.Reading.{whole_table}
 use Rattle.ee_store_load.proofs.TextLemmas.{begun_with, of_each, IsCompiled, IsMistyped, NeverOverflows, never_refused}
 use Rattle.ee_store_load.proofs.QuestionLemmas.{by_key, by_pair, desk_terms, rate_terms, bond_terms, ticket_terms, line_terms, batch_terms, reply_terms, answer_terms, rowid_terms, whole_desk, whole_rates, whole_bonds, whole_bond_rowids, whole_tickets, whole_lines, whole_line_rowids, whole_batches, whole_replies, whole_answers, whole_answer_rowids, whole_extensions}
 use Rattle.ee_store_load.specs.Opening.{version_text, given_id}

@@ -12,7 +12,7 @@ use Rattle.ee_store_tables.proofs.Lemmas.Rows.{by_column}
 use Rattle.ee_store_schema.specs.declared.forms.Form.{Form}
 use Rattle.ee_store_schema.specs.declared.forms.Form.TheVariants.{Current, First, Earliest}
 use Rattle.ee_store_schema.specs.Forms.{schema_of, replies}
-use Rattle.ee_store_load.specs.Reading.{whole_table, AsksForAll}
+use Rattle.ee_store_load.specs.Inner.Reading.{whole_table, AsksForAll}
 use Rattle.ee_store_load.proofs.TextLemmas.{begun_with, of_each, IsCompiled, asks_for_all}
 
 -- in order of the first column, or of the two that are the key

@@ -11,8 +11,8 @@ use Rattle.ee_store_schema.specs.declared.faults.OpenFault.{OpenFault}
 use Rattle.ee_store_schema.specs.declared.faults.OpenFault.TheVariants.{WrongVersion}
 use Rattle.ee_store_schema.proofs.Lemmas.Causes.{then_survives}
 use Rattle.ee_store_schema.specs.declared.forms.Form.{Form}
-use Rattle.ee_store_schema.specs.Forms.{SeesForm, HasOurTables}
-use Rattle.ee_store_load.specs.Reading.{IsSoundNow, OnlyLoads}
+use Rattle.ee_store_schema.specs.Inner.Forms.{SeesForm, HasOurTables}
+use Rattle.ee_store_load.specs.Inner.Reading.{IsSoundNow, OnlyLoads}
 
 pub both_ok : {X E : Type 0} {P Q R : X → Type 0} (r : Result X E) → ((x : X) → P x → Q x → R x) → IfOk r P → IfOk r Q → IfOk r R
 both_ok (Ok x) f p q = f x p q

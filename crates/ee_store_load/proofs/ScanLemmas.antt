@@ -19,7 +19,7 @@ use Rattle.sqlite.proofs.Callers.{IsPlain, command_of, reads_as, EndsIn, begins_
 use Rattle.sqlite.specs.Effect.{Database}
 use Rattle.sqlite_schema.specs.declared.command.Command.{Command}
 use Rattle.ee_store_load.proofs.AskLemmas.{front_of}
-use Rattle.ee_store_load.specs.Reading.{whole_table, IsQuery, AsksForAll, ShowsAll, ShowsUnreadable, shown_by}
+use Rattle.ee_store_load.specs.Inner.Reading.{whole_table, IsQuery, AsksForAll, ShowsAll, ShowsUnreadable, shown_by}
 
 abbrev named : (query : Query) (r : Result Compiled CompileError) → IsQuery query r → List (List ℕ)
 named query (Ok c) h = h.0

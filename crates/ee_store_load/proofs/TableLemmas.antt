@@ -22,7 +22,8 @@ use Rattle.sqlite_keyed.proofs.ListLemmas.{map-map, map_same, map_back, all_unma
 use Rattle.sqlite_keyed.proofs.RuleLemmas.{first_of_both, second_of_both}
 use Rattle.ee_store_tables.specs.Keyed.{pair_cmp, row_of, stored, ReadAlike, HoldsMap, HoldsPairs}
 use Rattle.ee_store_tables.proofs.Lemmas.Rows.{int_in, natural, number_in}
-use Rattle.ee_store_load.specs.Reading.{rises, shown_by}
+use Rattle.ee_store_load.specs.Reading.{rises}
+use Rattle.ee_store_load.specs.Inner.Reading.{shown_by}
 use Rattle.ee_store_load.specs.Shown.{pair_lt}
 use Rattle.ee_store_load.proofs.FoundLemmas.{alls, AllApart, apart_permuted, each_shown, holds_table}
 

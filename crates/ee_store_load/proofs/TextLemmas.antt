@@ -19,8 +19,8 @@ use Rattle.ee_store_tables.specs.Tables.{counter_schema, desk, rates, bonds, tic
 use Rattle.ee_store_schema.specs.declared.forms.Form.{Form}
 use Rattle.ee_store_schema.specs.declared.forms.Form.TheVariants.{Current, First, Earliest}
 use Rattle.ee_store_schema.specs.Forms.{schema_of, first_tables, replies}
-use Rattle.ee_store_schema.specs.Asking.{IsOneStatement, NeverRefuses, IsNeverRefused}
-use Rattle.ee_store_load.specs.Reading.{whole_table, IsQuery, AsksForAll}
+use Rattle.ee_store_schema.specs.Inner.Asking.{IsOneStatement, NeverRefuses, IsNeverRefused}
+use Rattle.ee_store_load.specs.Inner.Reading.{whole_table, IsQuery, AsksForAll}
 
 -- the six tables, and then others
 abbrev pub begun_with : List Table → List Index → Schema

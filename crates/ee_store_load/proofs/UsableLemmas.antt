@@ -23,8 +23,10 @@ use Rattle.sqlite_keyed.proofs.ListLemmas.{map-map, map_same, map_back, all_weak
 use Rattle.ee_store_tables.specs.Keyed.{pair_cmp, row_of, stored, ReadAlike, HoldsMap, HoldsPairs}
 use Rattle.ee_store_tables.specs.Rows.{ReplyRow, reply_columns, BondRow, bond_columns}
 use Rattle.ee_store_tables.proofs.Lemmas.Rows.{pair_total, no_limit, by_column, cmp_pos, rows_that_match, keyed_same, keys_rise, rows_in_order, int_in, number_in}
-use Rattle.ee_store_load.specs.Reading.{rises, whole_table, CanBeRead}
-use Rattle.ee_store_load.specs.Shown.{pair_lt, keyed_shown, pair_shown, IsKeyed, IsPaired, IsReply, IsAnswerRow, IsRowid, IsWritten, AreWritten, IsBond, IsBondRow, AreBonds}
+use Rattle.ee_store_load.specs.Reading.{rises}
+use Rattle.ee_store_load.specs.Inner.Reading.{whole_table, CanBeRead}
+use Rattle.ee_store_load.specs.Shown.{pair_lt, keyed_shown, pair_shown, IsKeyed, IsPaired, IsReply, IsWritten, AreWritten, IsBond, AreBonds}
+use Rattle.ee_store_load.specs.Inner.Shown.{IsAnswerRow, IsRowid, IsBondRow}
 use Rattle.ee_store_schema.specs.Forms.{at_first_desk}
 use Rattle.ee_store_schema.proofs.Lemmas.Desks.{first_desk_get}
 use Rattle.ee_store_load.specs.declared.entries.Rowid.{Rowid}

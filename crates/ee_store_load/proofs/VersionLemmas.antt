@@ -28,7 +28,8 @@ use Rattle.ee_store_schema.specs.Forms.{schema_of, version_of, HoldsIn}
 use Rattle.ee_store_schema.proofs.Lemmas.Forms.{common}
 use Rattle.ee_store_load.proofs.AskLemmas.{only_version}
 use Rattle.ee_store_load.proofs.TextLemmas.{begun_with, of_each, IsCompiled, unlisted, understood_as}
-use Rattle.ee_store_load.specs.Opening.{version_shown, versions_of, versions_in, Names, IsOfForm, IsOther, IsOtherVersion, version_text, given_id, SeesDesk}
+use Rattle.ee_store_load.specs.Opening.{IsOfForm, IsOther, IsOtherVersion, version_text, given_id, SeesDesk}
+use Rattle.ee_store_load.specs.Inner.Opening.{version_shown, versions_of, versions_in, Names}
 
 abbrev pub version_query : Query
 version_query = by_number 0 (col 1 2 ∷ [])

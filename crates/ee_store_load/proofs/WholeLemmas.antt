@@ -8,12 +8,14 @@ use Rattle.ee_store_tables.specs.Keyed.{pair_cmp, HoldsMap}
 use Rattle.ee_store_tables.specs.Rows.{Rows, ReplyRow, rate_columns}
 use Rattle.ee_store_schema.specs.declared.forms.Form.{Form}
 use Rattle.ee_store_schema.specs.declared.forms.Form.TheVariants.{Current, First, Earliest}
-use Rattle.ee_store_schema.specs.Forms.{HoldsIn, SeesForm, HasForm, SeesIn, HadIn}
-use Rattle.ee_store_load.specs.Reading.{IsSoundNow}
+use Rattle.ee_store_schema.specs.Forms.{HoldsIn, HasForm, HadIn}
+use Rattle.ee_store_schema.specs.Inner.Forms.{SeesForm, SeesIn}
+use Rattle.ee_store_load.specs.Inner.Reading.{IsSoundNow}
 use Rattle.ee_store_load.specs.declared.entries.StoredRate.{StoredRate}
 use Rattle.ee_store_load.specs.declared.whole.AllRows.{AllRows}
 use Rattle.ee_store_load.specs.Shown.{desk_map, rate_map, bond_map, ticket_map, line_map, batch_map, answer_map}
-use Rattle.ee_store_load.specs.Whole.{rows_with, ListsAll, AreInOrder, HoldsKept, HoldsExtensions}
+use Rattle.ee_store_load.specs.Whole.{rows_with, AreInOrder}
+use Rattle.ee_store_load.specs.Inner.Whole.{ListsAll, HoldsKept, HoldsExtensions}
 use Rattle.ee_store_schema.proofs.Lemmas.Forms.{HoldsCommon, had_form}
 use Rattle.ee_store_load.proofs.OneLemmas.{one_rows}
 

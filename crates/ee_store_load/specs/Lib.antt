@@ -3,3 +3,4 @@ pub mod Shown
 pub mod Whole
 pub mod Opening
 pub mod Testing
+pub mod Inner

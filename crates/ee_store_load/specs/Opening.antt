@@ -1,6 +1,5 @@
 -- Whether a store has tables, their version, and which rows can be read.
-use Rattle.std.specs.Prelude.{◌≡◌, ◌≢◌, ℕ, pos, IsTrue, List, [], ◌∷◌, Some, option_map, codes}
-use Rattle.std.specs.Option.{option_to_list}
+use Rattle.std.specs.Prelude.{◌≡◌, ◌≢◌, ℕ, pos, IsTrue, List, [], ◌∷◌, Some, codes}
 use Rattle.std.specs.Ordering.{nat_cmp}
 use Rattle.std.specs.FinMap.{FinMap, get}
 use Rattle.sqlite.specs.declared.types.Value.TheVariants.{Int}
@@ -8,7 +7,7 @@ use Rattle.sqlite.specs.Order.{Row, column}
 use Rattle.sqlite.specs.Table.{Table}
 use Rattle.sqlite.specs.State.{State, Begins}
 use Rattle.ee_store_tables.specs.Keyed.{HoldsMap}
-use Rattle.ee_store_tables.specs.Tables.{desk, rates, bonds, tickets, paid, batches}
+use Rattle.ee_store_tables.specs.Tables.{desk, bonds}
 use Rattle.ee_store_tables.specs.Rows.{Rows, DeskRow, number, desk_columns}
 use Rattle.ee_store_schema.specs.declared.faults.OpenFault.{OpenFault}
 use Rattle.ee_store_schema.specs.declared.faults.OpenFault.TheVariants.{WrongVersion, Unusable}
@@ -17,27 +16,9 @@ use Rattle.ee_store_schema.specs.Forms.{version_of}
 use Rattle.ee_store_schema.specs.Making.{no_tables}
 use Rattle.ee_store_load.specs.Shown.{AreBonds, AreWritten}
 
--- the tables that every form begins with
-abbrev pub common_tables : List Table
-common_tables = desk ∷ rates ∷ bonds ∷ tickets ∷ paid ∷ batches ∷ []
-
 -- the last commit left a table, an index or a view
 abbrev pub HasTables : State → Type 0
 HasTables s = IsTrue s.is_open → s.committed.schema ≢ no_tables
-
--- the version, as a query of the desk's row shows it
-abbrev pub version_shown : DeskRow → Row
-version_shown desk = number desk.version ∷ []
-
-abbrev pub versions_of : FinMap nat_cmp DeskRow → List Row
-versions_of desk = option_to_list (option_map version_shown (get desk 1))
-
-abbrev pub versions_in : Rows → List Row
-versions_in rows = versions_of rows.desk
-
--- the desk's row exists, and has this version
-abbrev pub Names : ℕ → Rows → Type 0
-Names version rows = (desk : DeskRow) × (get rows.desk 1 ≡ Some desk) × (version ≡ desk.version)
 
 -- the desk's row exists, and has the version of this form
 abbrev pub IsOfForm : Form → Rows → Type 0

@@ -1,12 +1,11 @@
 -- The rows of each table, as a query of all their columns shows them, and as entries of maps.
-use Rattle.std.specs.Prelude.{◌≡◌, ℕ, ℤ, IsUtf8, Bool, ◌&&◌, ◌||◌, ◌==◌, nat_lt, List, [], ◌∷◌, Some, map, string_bytes}
+use Rattle.std.specs.Prelude.{◌≡◌, ℕ, IsUtf8, Bool, ◌&&◌, ◌||◌, ◌==◌, nat_lt, List, [], ◌∷◌, Some, map, string_bytes}
 use Rattle.std.specs.Ordering.{nat_cmp}
 use Rattle.std.specs.FinMap.{FinMap, get, from_sorted}
 use Rattle.ee_store_tables.specs.Keyed.{pair_cmp}
-use Rattle.sqlite.specs.declared.types.Value.TheVariants.{Int, Text}
+use Rattle.sqlite.specs.declared.types.Value.TheVariants.{Text}
 use Rattle.sqlite.specs.Order.{Row}
-use Rattle.ee_store_tables.specs.Rows.{DeskRow, BondRow, TicketRow, PaidRow, BatchRow, ReplyRow, number, optional, bond_columns, reply_columns}
-use Rattle.ee_units.specs.Denoms.{dollars}
+use Rattle.ee_store_tables.specs.Rows.{DeskRow, BondRow, TicketRow, PaidRow, BatchRow, ReplyRow, number, optional, reply_columns}
 use Rattle.ee_desk_model.specs.declared.changes.Held.{Held}
 use Rattle.ee_desk_model.specs.Ranges.{BondFits}
 use Rattle.ee_store_rows.specs.Rows.{bond_row, key_of}
@@ -31,11 +30,6 @@ desk_shown d = number d.id ∷ number d.version ∷ optional d.day ∷ optional 
 abbrev pub rate_shown : StoredRate → Row
 rate_shown r = number r.period ∷ number r.rate ∷ []
 
-abbrev pub bond_shown : Held → Row
-bond_shown h =
-    number h.bond.serial.letter ∷ number h.bond.serial.number ∷ number (dollars h.bond.denom) ∷ number h.bond.issued ∷ number h.bond.owner ∷ optional h.bond.coowner
-    ∷ optional h.ticket ∷ []
-
 abbrev pub ticket_shown : StoredTicket → Row
 ticket_shown t = number t.ticket ∷ number t.day ∷ number t.payee ∷ number t.bonds ∷ number t.total ∷ []
 
@@ -47,9 +41,6 @@ batch_shown b = number b.day ∷ number b.tickets ∷ number b.bonds ∷ number 
 
 abbrev pub reply_shown : StoredReply → Row
 reply_shown r = number r.number ∷ Text (string_bytes r.act) ∷ Text (string_bytes r.reply) ∷ []
-
-abbrev pub answer_shown : StoredAnswer → Row
-answer_shown a = number a.desk ∷ number a.number ∷ Text (string_bytes a.act) ∷ Text (string_bytes a.reply) ∷ []
 
 -- ---- rows that this program writes
 
@@ -77,9 +68,6 @@ IsBond e = (held : Held) × BondFits held.bond × (e ≡ bond_entry held)
 abbrev pub AreBonds : FinMap pair_cmp BondRow → Type 0
 AreBonds bonds = (k : ℕ × ℕ) (bond : BondRow) → get bonds k ≡ Some bond → IsBond (k, bond)
 
-abbrev pub IsBondRow : Row → Type 0
-IsBondRow row = (e : (ℕ × ℕ) × BondRow) × (row ≡ pair_shown bond_columns e) × IsBond e
-
 -- texts that can be read
 abbrev pub IsWritten : ReplyRow → Type 0
 IsWritten reply = IsUtf8 reply.act × IsUtf8 reply.reply
@@ -89,12 +77,6 @@ AreWritten answers = (k : ℕ × ℕ) (reply : ReplyRow) → get answers k ≡ S
 
 abbrev pub IsReply : Row → Type 0
 IsReply row = (e : ℕ × ReplyRow) × (row ≡ keyed_shown reply_columns e) × IsWritten e.1
-
-abbrev pub IsAnswerRow : Row → Type 0
-IsAnswerRow row = (e : (ℕ × ℕ) × ReplyRow) × (row ≡ pair_shown reply_columns e) × IsWritten e.1
-
-abbrev pub IsRowid : Row → Type 0
-IsRowid row = (i : ℤ) × (row ≡ Int i ∷ [])
 
 -- ---- entries
 
@@ -112,9 +94,6 @@ line_entry l = ((l.ticket, l.place), record { letter = l.letter; number = l.numb
 
 abbrev pub batch_entry : StoredBatch → ℕ × BatchRow
 batch_entry b = (b.day, record { tickets = b.tickets; bonds = b.bonds; total = b.total })
-
-abbrev pub reply_entry : StoredReply → ℕ × ReplyRow
-reply_entry r = (r.number, record { act = string_bytes r.act; reply = string_bytes r.reply })
 
 -- ---- maps of the rows that were read, by key
 
@@ -136,12 +115,5 @@ line_map all = from_sorted (map line_entry all)
 abbrev pub batch_map : List StoredBatch → FinMap nat_cmp BatchRow
 batch_map all = from_sorted (map batch_entry all)
 
-abbrev pub reply_map : List StoredReply → FinMap nat_cmp ReplyRow
-reply_map all = from_sorted (map reply_entry all)
-
 abbrev pub answer_map : List StoredAnswer → FinMap pair_cmp ReplyRow
 answer_map all = from_sorted (map answer_entry all)
-
--- a reply of version 1 belongs to the first desk
-abbrev pub first_answer : StoredReply → StoredAnswer
-first_answer r = record { desk = 0; number = r.number; act = r.act; reply = r.reply }

@@ -5,6 +5,7 @@ ghost use Rattle.ee_store_tables.specs.AsRows.{key_of as key_in, row_of_bond};
 ghost use Rattle.ee_store_tables.specs.Rows.{bond_columns};
 ghost use Rattle.ee_store_rows.specs.Rows.{key_of};
 ghost use Rattle.ee_store_load.specs.Shown as spec;
+ghost use Rattle.ee_store_load.specs.Inner.Shown as inner;
 
 use crate::reading::StoredRow;
 use ee_desk_model::Held;
@@ -48,9 +49,9 @@ fn bond_with(key: SerialKey, numbers: BondRow) -> Option<Held>
 }
 
 impl StoredRow for Held {
-    ghost shown = { spec.bond_shown };
+    ghost shown = { inner.bond_shown };
 
-    ghost is_readable = { spec.IsBondRow };
+    ghost is_readable = { inner.IsBondRow };
 
     ghost stands_before = { λ a b. spec.pair_lt (key_of a.bond.serial) (key_of b.bond.serial) };
 

@@ -7,6 +7,7 @@ ghost use Rattle.std.specs.Prelude.{[], ◌∷◌, nat_lt, int_lt};
 ghost use Rattle.sqlite.specs.declared.types.Value.TheVariants.{Int};
 ghost use Rattle.ee_store_tables.specs.Rows.{desk_columns, rate_columns, ticket_columns, paid_columns, batch_columns};
 ghost use Rattle.ee_store_load.specs.Shown as spec;
+ghost use Rattle.ee_store_load.specs.Inner.Shown as inner;
 
 use crate::reading::StoredRow;
 use ee_store_schema::{OpenFault, StoredAnswer};
@@ -239,9 +240,9 @@ impl StoredRow for StoredReply {
 }
 
 impl StoredRow for StoredAnswer {
-    ghost shown = { spec.answer_shown };
+    ghost shown = { inner.answer_shown };
 
-    ghost is_readable = { spec.IsAnswerRow };
+    ghost is_readable = { inner.IsAnswerRow };
 
     ghost stands_before = { λ a b. spec.pair_lt (a.desk, a.number) (b.desk, b.number) };
 
@@ -265,7 +266,7 @@ impl StoredRow for StoredAnswer {
 impl StoredRow for Rowid {
     ghost shown = { λ it. Int it.rowid ∷ [] };
 
-    ghost is_readable = { spec.IsRowid };
+    ghost is_readable = { inner.IsRowid };
 
     ghost stands_before = { λ a b. int_lt a.rowid b.rowid };
 

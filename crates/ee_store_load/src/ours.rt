@@ -24,7 +24,7 @@ ghost use Rattle.ee_store_tables.specs.Tables.{
 ghost use Rattle.ee_store_schema.specs.declared.forms.Form.{Form};
 ghost use Rattle.ee_store_schema.specs.Forms.{replies, first_tables, schema_of};
 ghost use Rattle.ee_store_schema.specs.Making.{no_tables};
-ghost use Rattle.ee_store_load.specs.Opening.{common_tables};
+ghost use Rattle.ee_store_load.specs.Inner.Opening.{common_tables};
 
 use ee_store_schema::Form;
 use sqlite_items::Items;

@@ -11,9 +11,10 @@ ghost use Rattle.sqlite.specs.Term.{Term};
 ghost use Rattle.sqlite_value.specs.declared.keys.Key.{Key};
 ghost use Rattle.sqlite.specs.Order.{Row as Columns};
 ghost use Rattle.ee_store_schema.specs.Faults.{FailsForCause};
-ghost use Rattle.ee_store_schema.specs.Forms.{SeesSchema};
-ghost use Rattle.ee_store_schema.specs.Asking.{IsNeverRefused};
-ghost use Rattle.ee_store_load.specs.Reading.{rises, whole_table, AsksForAll, ShowsAll, ShowsUnreadable, CanBeRead, OnlyAsks, OnlyLoads};
+ghost use Rattle.ee_store_schema.specs.Inner.Forms.{SeesSchema};
+ghost use Rattle.ee_store_schema.specs.Inner.Asking.{IsNeverRefused};
+ghost use Rattle.ee_store_load.specs.Reading.{rises};
+ghost use Rattle.ee_store_load.specs.Inner.Reading.{whole_table, AsksForAll, ShowsAll, ShowsUnreadable, CanBeRead, OnlyAsks, OnlyLoads};
 
 use ee_store_schema::OpenFault;
 use sqlite::{Alter, Connection, Row};

@@ -24,30 +24,13 @@ ghost use Rattle.ee_store_tables.specs.Rows.{
 };
 ghost use Rattle.ee_store_schema.specs.Faults.{FailsForCause, StaysOutside};
 ghost use Rattle.ee_store_schema.specs.declared.forms.Form.TheVariants.{Current, First};
-ghost use Rattle.ee_store_schema.specs.Forms.{at_first_desk, HasOurTables, SeesForm, HoldsIn, HoldsReplies};
+ghost use Rattle.ee_store_schema.specs.Forms.{at_first_desk, HoldsIn, HoldsReplies};
+ghost use Rattle.ee_store_schema.specs.Inner.Forms.{HasOurTables, SeesForm};
 ghost use Rattle.ee_store_schema.specs.Migrating.{answer_entry};
-ghost use Rattle.ee_store_load.specs.Reading.{IsSoundNow, OnlyLoads};
-ghost use Rattle.ee_store_load.specs.Shown.{
-  AreBonds,
-  AreWritten,
-  desk_map,
-  rate_map,
-  bond_map,
-  ticket_map,
-  line_map,
-  batch_map,
-  reply_map,
-  answer_map,
-  first_answer,
-  desk_entry,
-  rate_entry,
-  bond_entry,
-  ticket_entry,
-  line_entry,
-  batch_entry,
-  reply_entry,
-};
-ghost use Rattle.ee_store_load.specs.Whole.{HasFirstTables, HoldsKept, HoldsTested, HoldsExtensions};
+ghost use Rattle.ee_store_load.specs.Inner.Reading.{IsSoundNow, OnlyLoads};
+ghost use Rattle.ee_store_load.specs.Shown.{AreBonds, AreWritten, desk_map, rate_map, bond_map, ticket_map, line_map, batch_map, answer_map, desk_entry, rate_entry, bond_entry, ticket_entry, line_entry, batch_entry};
+ghost use Rattle.ee_store_load.specs.Inner.Shown.{reply_map, first_answer, reply_entry};
+ghost use Rattle.ee_store_load.specs.Inner.Whole.{HasFirstTables, HoldsKept, HoldsTested, HoldsExtensions};
 
 use crate::entries::{
     Rowid, StoredBatch, StoredDesk, StoredLine, StoredRate, StoredReply, StoredTicket,

@@ -8,9 +8,10 @@ ghost use Rattle.sqlite.specs.Schema.{Schema};
 ghost use Rattle.sqlite.specs.Term.{Term};
 ghost use Rattle.sqlite_value.specs.declared.keys.Key.{Key};
 ghost use Rattle.ee_store_schema.specs.Faults.{FailsForCause};
-ghost use Rattle.ee_store_schema.specs.Forms.{SeesSchema};
-ghost use Rattle.ee_store_schema.specs.Asking.{IsNeverRefused};
-ghost use Rattle.ee_store_load.specs.Reading.{rises, whole_table, AsksForAll, ShowsAll, CanBeRead, OnlyAsks, OnlyLoads};
+ghost use Rattle.ee_store_schema.specs.Inner.Forms.{SeesSchema};
+ghost use Rattle.ee_store_schema.specs.Inner.Asking.{IsNeverRefused};
+ghost use Rattle.ee_store_load.specs.Reading.{rises};
+ghost use Rattle.ee_store_load.specs.Inner.Reading.{whole_table, AsksForAll, ShowsAll, CanBeRead, OnlyAsks, OnlyLoads};
 ghost use Rattle.ee_store_load.specs.Testing.{Tells};
 
 use crate::reading::{Gather, StoredRow, follows, gather_rows};

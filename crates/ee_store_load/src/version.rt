@@ -11,19 +11,9 @@ ghost use Rattle.ee_store_tables.specs.Rows.{Rows, DeskRow, number};
 ghost use Rattle.ee_store_tables.specs.Statements.{LeavesNoMore};
 ghost use Rattle.ee_store_schema.specs.declared.forms.Form.{Form};
 ghost use Rattle.ee_store_schema.specs.Faults.{FailsForCause, StaysOutside};
-ghost use Rattle.ee_store_schema.specs.Forms.{HasOurTables, SeesIn};
-ghost use Rattle.ee_store_load.specs.Opening.{
-  version_shown,
-  versions_of,
-  versions_in,
-  Names,
-  IsOther,
-  IsOtherVersion,
-  version_text,
-  given_id,
-  SeesDesk,
-  IsTold,
-};
+ghost use Rattle.ee_store_schema.specs.Inner.Forms.{HasOurTables, SeesIn};
+ghost use Rattle.ee_store_load.specs.Opening.{IsOther, IsOtherVersion, version_text, given_id, SeesDesk, IsTold};
+ghost use Rattle.ee_store_load.specs.Inner.Opening.{version_shown, versions_of, versions_in, Names};
 
 use ee_store_schema::OpenFault;
 use sqlite::types::ValueRef;

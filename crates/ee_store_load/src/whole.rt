@@ -5,22 +5,14 @@ ghost use Rattle.sqlite.specs.State.{HasCleanDisk, IsUnchanged, KeepsCommit, Sur
 ghost use Rattle.sqlite.specs.Held.{state};
 ghost use Rattle.ee_store_tables.specs.Rows.{Rows};
 ghost use Rattle.ee_store_schema.specs.declared.forms.Form.{Form};
-ghost use Rattle.ee_store_schema.specs.Forms.{HoldsIn, SeesForm, HasOurTables, SeesIn, HasForm, HadIn};
+ghost use Rattle.ee_store_schema.specs.Forms.{HoldsIn, HasForm, HadIn};
+ghost use Rattle.ee_store_schema.specs.Inner.Forms.{SeesForm, HasOurTables, SeesIn};
 ghost use Rattle.ee_store_load.specs.Opening.{IsOfForm, IsOtherVersion, AreReadable};
 ghost use Rattle.ee_store_load.specs.Shown.{AreBonds, AreWritten};
 ghost use Rattle.ee_store_schema.specs.Faults.{FailsForCause, StaysOutside};
-ghost use Rattle.ee_store_load.specs.Reading.{IsSoundNow, OnlyLoads};
-ghost use Rattle.ee_store_load.specs.Whole.{
-  AreRead,
-  HoldsRegister,
-  HoldsPayments,
-  HoldsRecords,
-  AreInOrder,
-  ListsAll,
-  ListsRegister,
-  ListsPayments,
-  ListsRecords,
-};
+ghost use Rattle.ee_store_load.specs.Inner.Reading.{IsSoundNow, OnlyLoads};
+ghost use Rattle.ee_store_load.specs.Whole.{AreRead, AreInOrder};
+ghost use Rattle.ee_store_load.specs.Inner.Whole.{HoldsRegister, HoldsPayments, HoldsRecords, ListsAll, ListsRegister, ListsPayments, ListsRecords};
 
 use crate::entries::{StoredBatch, StoredDesk, StoredLine, StoredRate, StoredTicket};
 use crate::tables::{

@@ -24,7 +24,7 @@ use Rattle.ee_store_tables.specs.Keyed.{pair_cmp}
 use Rattle.ee_store_tables.specs.Rows.{BondRow, unpaid_of}
 use Rattle.ee_store_rows.specs.Rows.{bond_row, key_of}
 use Rattle.ee_store_books.specs.Standing.{rows_of, bond_rows, IsRight}
-use Rattle.ee_store_queries.specs.Asking.{unpaid_row}
+use Rattle.ee_store_queries.specs.Inner.Asking.{unpaid_row}
 
 -- ---- the rows of bonds, in order
 abbrev entry_at : List Ticket → SerialNumber × Bond → (ℕ × ℕ) × BondRow

@@ -21,7 +21,7 @@ use Rattle.ee_store_tables.specs.Rows.{PaidRow, TicketRow, lines_on}
 use Rattle.ee_store_rows.specs.Rows.{batch_row, ticket_row, paid_row}
 use Rattle.ee_store_books.specs.Standing.{rows_of, placed, IsRight}
 use Rattle.ee_store_books.proofs.Lemmas.Contents.{ticket_lines, paid_entries}
-use Rattle.ee_store_queries.specs.Asking.{row_of_placed}
+use Rattle.ee_store_queries.specs.Inner.Asking.{row_of_placed}
 
 -- ---- what is found by a number, in the rows of a list
 module _ {A V : Type 0} (key : A → ℕ) (value : A → V) where

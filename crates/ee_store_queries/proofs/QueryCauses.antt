@@ -28,7 +28,8 @@ use Rattle.ee_store_books.specs.Standing.{rows_of, IsRight}
 use Rattle.ee_store_tables.specs.declared.failures.Failure.{Failure}
 use Rattle.ee_store_tables.specs.Statements.{LeavesNoMore, IsExcused, CommitsNothing}
 use Rattle.ee_store_books.specs.Causes.{FailsByCause, IsReady}
-use Rattle.ee_store_queries.specs.Asking.{AnswersOrFails, row_of_placed, unpaid_row, KeepsContent, KeepsRoom}
+use Rattle.ee_store_queries.specs.Asking.{AnswersOrFails, KeepsContent, KeepsRoom}
+use Rattle.ee_store_queries.specs.Inner.Asking.{row_of_placed, unpaid_row}
 use Rattle.ee_store_queries.proofs.FoundTickets.{ticket_found}
 use Rattle.ee_store_books.proofs.Lemmas.Lookups.{excused, inside_content, sees_content, still_content}
 

@@ -2,12 +2,8 @@
 -- Nothing is said of a store that a failing disk has shut.
 use Rattle.std.specs.Prelude.{ℕ, Result, IfOk, IfErr}
 use Rattle.sqlite.specs.State.{State, HasCleanDisk}
-use Rattle.ee_units.specs.Denoms.{dollars}
-use Rattle.ee_calculator.specs.declared.bonds.Bond.{Bond}
 use Rattle.ee_desk_model.specs.Repeats.{Content}
-use Rattle.ee_store_tables.specs.declared.records.PlacedLine.{PlacedLine}
-use Rattle.ee_store_tables.specs.declared.records.UnpaidBond.{UnpaidBond}
-use Rattle.ee_store_tables.specs.Rows.{PaidRow, HasRoom}
+use Rattle.ee_store_tables.specs.Rows.{HasRoom}
 use Rattle.ee_store_books.specs.Seen.{HasContent}
 use Rattle.ee_store_books.specs.Causes.{IsReady}
 use Rattle.ee_store_tables.specs.Statements.{IsExcused}
@@ -24,21 +20,6 @@ KeepsContent old new = HasCleanDisk new → (content : Content) → HasContent o
 -- a store that has a content has room for as many rows as before
 abbrev pub KeepsRoom : State → State → Type 0
 KeepsRoom old new = HasCleanDisk new → (content : Content) → HasContent old content → (n : ℕ) → HasRoom n old → HasRoom n new
-
--- the row of a line, without its place
-abbrev pub row_of_placed : PlacedLine → PaidRow
-row_of_placed line = record { letter = line.letter; number = line.number; cents = line.cents }
-
--- the row of an unpaid bond
-abbrev pub unpaid_row : Bond → UnpaidBond
-unpaid_row bond = record {
-  letter = bond.serial.letter;
-  number = bond.serial.number;
-  denom = dollars bond.denom;
-  issued = bond.issued;
-  owner = bond.owner;
-  coowner = bond.coowner;
-}
 
 -- for a store that is ready and has a content
 abbrev pub AnswersOrFails : {X : Type 0} → State → State → Result X Failure → Type 0

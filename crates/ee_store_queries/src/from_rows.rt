@@ -8,7 +8,7 @@ ghost use Rattle.ee_desk_model.specs.Sound.{IsDay};
 ghost use Rattle.ee_desk_model.specs.Ranges.{IsCustomer, IsSerial, BondFits};
 ghost use Rattle.ee_store_tables.specs.AsRows.{row_of_batch};
 ghost use Rattle.ee_store_rows.specs.Rows.{batch_row, paid_row};
-ghost use Rattle.ee_store_queries.specs.Asking.{row_of_placed, unpaid_row};
+ghost use Rattle.ee_store_queries.specs.Inner.Asking.{row_of_placed, unpaid_row};
 
 use ee_calculator::Bond;
 use ee_desk_model::{Batch, Line, Rows, Ticket};

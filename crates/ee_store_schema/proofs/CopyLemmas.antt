@@ -16,7 +16,8 @@ use Rattle.ee_store_tables.specs.Rows.{Rows, ReplyRow, Rises, FitsRow}
 use Rattle.ee_store_tables.proofs.Lemmas.Causes.{room_in_less}
 use Rattle.ee_store_tables.proofs.Lemmas.Rows.{pair_total, pair_same}
 use Rattle.ee_store_schema.specs.declared.answers.StoredAnswer.{StoredAnswer}
-use Rattle.ee_store_schema.specs.Migrating.{answer_entry, Lists, AnswersFit, copied, CanAddAll}
+use Rattle.ee_store_schema.specs.Migrating.{answer_entry, Lists, AnswersFit}
+use Rattle.ee_store_schema.specs.Inner.Migrating.{copied, CanAddAll}
 
 abbrev Entry : Type 0
 Entry = (ℕ × ℕ) × ReplyRow

@@ -15,7 +15,7 @@ use Rattle.sqlite.specs.Effect.{Database}
 use Rattle.sqlite.specs.Listing.{understood}
 use Rattle.sqlite.specs.State.{State, mode_of, Writes, Executes}
 use Rattle.sqlite.proofs.Callers.{IsPlain, command_of, statement_of, runs_as}
-use Rattle.ee_store_schema.specs.Making.{IsCommand, AddsTable, AddsIndex, GainsTable}
+use Rattle.ee_store_schema.specs.Inner.Making.{IsCommand, AddsTable, AddsIndex, GainsTable}
 use Rattle.ee_store_tables.proofs.Lemmas.Rows.{went_on, same_ok}
 
 -- a command as the lemmas on callers say it

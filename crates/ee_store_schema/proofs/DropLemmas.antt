@@ -19,8 +19,8 @@ use Rattle.sqlite.proofs.Callers.{IsPlain, command_of, statement_of, runs_as}
 use Rattle.ee_store_tables.specs.Tables.{counter_schema}
 use Rattle.ee_store_tables.proofs.Lemmas.Rows.{went_on, same_ok}
 use Rattle.ee_store_tables.proofs.Lemmas.Causes.{no_references}
-use Rattle.ee_store_schema.specs.Asking.{IsOneStatement}
-use Rattle.ee_store_schema.specs.Making.{both_tables, GainsTable, LeavesTables, ReplacesReplies}
+use Rattle.ee_store_schema.specs.Inner.Asking.{IsOneStatement}
+use Rattle.ee_store_schema.specs.Inner.Making.{both_tables, GainsTable, LeavesTables, ReplacesReplies}
 use Rattle.ee_store_schema.specs.Forms.{first_tables}
 use Rattle.ee_store_schema.proofs.Lemmas.Causes.{Excuses}
 use Rattle.ee_store_schema.proofs.Lemmas.Faults.{IsUsable}

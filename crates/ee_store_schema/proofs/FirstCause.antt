@@ -40,7 +40,7 @@ use Rattle.ee_store_tables.specs.Rows.{desk_columns}
 use Rattle.ee_store_tables.proofs.Lemmas.Rows.{cast_int, cast_null}
 use Rattle.ee_store_tables.proofs.Lemmas.Causes.{no_references}
 use Rattle.ee_store_schema.specs.Making.{first_desk}
-use Rattle.ee_store_schema.specs.Asking.{IsOneStatement}
+use Rattle.ee_store_schema.specs.Inner.Asking.{IsOneStatement}
 use Rattle.ee_store_schema.proofs.Lemmas.Causes.{Excuses}
 use Rattle.ee_store_schema.proofs.FirstLemmas.{terms, desk_row_text, desk_row_is, desk_row_whole}
 use Rattle.ee_store_schema.proofs.MakeCause.{NeverStops, statement_excused, stopped, never_given}

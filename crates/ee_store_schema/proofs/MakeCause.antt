@@ -18,8 +18,8 @@ use Rattle.sqlite.specs.Clock.{timed}
 use Rattle.sqlite.specs.Listing.{understood}
 use Rattle.sqlite.specs.State.{State, mode_of, text_of, shows_rows, IsMisplaced, RunsCommand, RunsAlone, ExecutesIn, EndsScope, Escapes, ExecutesInside}
 use Rattle.sqlite.proofs.Callers.{command_of, statement_of}
-use Rattle.ee_store_schema.specs.Making.{AddsTable, AddsIndex, TakesTable, TakesIndex}
-use Rattle.ee_store_schema.specs.Asking.{IsOneStatement}
+use Rattle.ee_store_schema.specs.Inner.Making.{AddsTable, AddsIndex, TakesTable, TakesIndex}
+use Rattle.ee_store_schema.specs.Inner.Asking.{IsOneStatement}
 use Rattle.ee_store_schema.proofs.Lemmas.Causes.{Excuses, fails_excused, not_run_excused}
 use Rattle.ee_store_schema.proofs.DefineLemmas.{said}
 use Rattle.ee_store_schema.proofs.MakeUsable.{same_stop}

@@ -32,7 +32,7 @@ use Rattle.sqlite.specs.Clock.{timed}
 use Rattle.sqlite.specs.Listing.{understood}
 use Rattle.sqlite.specs.State.{State, mode_of, text_of, shows_rows, IsMisplaced, RunsCommand, RunsAlone, ExecutesIn, IsNotRun, ExecutesInside}
 use Rattle.sqlite.proofs.Callers.{IsPlain, command_of, statement_of}
-use Rattle.ee_store_schema.specs.Making.{AddsTable, AddsIndex}
+use Rattle.ee_store_schema.specs.Inner.Making.{AddsTable, AddsIndex}
 use Rattle.ee_store_schema.proofs.Lemmas.Faults.{IsUsable, same_error, store_fails, no_statement}
 use Rattle.ee_store_schema.proofs.DefineLemmas.{said}
 

@@ -22,9 +22,10 @@ use Rattle.ee_store_schema.specs.Faults.{IsExcused, fault_told}
 use Rattle.ee_store_schema.specs.Forms.{first_tables, earliest_tables, HoldsFirst, HoldsEarliest, HadIn}
 use Rattle.ee_store_schema.specs.declared.forms.Form.{Form}
 use Rattle.ee_store_schema.specs.declared.forms.Form.TheVariants.{Current, First, Earliest}
-use Rattle.ee_store_schema.specs.Making.{GainsTable, ReplacesReplies}
+use Rattle.ee_store_schema.specs.Inner.Making.{GainsTable, ReplacesReplies}
 use Rattle.ee_store_schema.specs.declared.answers.StoredAnswer.{StoredAnswer}
-use Rattle.ee_store_schema.specs.Migrating.{unanswered, migrated, become, HasPlace, BondsAndLinesHaveRoom, Lists, AnswersFit, CanBecome}
+use Rattle.ee_store_schema.specs.Migrating.{migrated, become, BondsAndLinesHaveRoom, Lists, AnswersFit, CanBecome}
+use Rattle.ee_store_schema.specs.Inner.Migrating.{unanswered, HasPlace}
 use Rattle.ee_store_tables.proofs.Lemmas.Causes.{cause_then}
 use Rattle.ee_store_schema.proofs.FirstLemmas.{no_map, no_rows}
 

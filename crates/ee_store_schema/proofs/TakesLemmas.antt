@@ -28,8 +28,9 @@ use Rattle.sqlite_tied.specs.Compute.{everything}
 use Rattle.sqlite.specs.Listing.{understood}
 use Rattle.ee_store_tables.proofs.Lemmas.Rows.{same_ok}
 use Rattle.ee_store_schema.specs.Forms.{first_tables, earliest_tables}
-use Rattle.ee_store_schema.specs.Making.{no_tables, register_tables, payment_tables, both_tables, AddsTable, AddsIndex, TakesTable, TakesIndex}
-use Rattle.ee_store_schema.specs.Asking.{IsOneStatement}
+use Rattle.ee_store_schema.specs.Making.{no_tables}
+use Rattle.ee_store_schema.specs.Inner.Making.{register_tables, payment_tables, both_tables, AddsTable, AddsIndex, TakesTable, TakesIndex}
+use Rattle.ee_store_schema.specs.Inner.Asking.{IsOneStatement}
 use Rattle.ee_store_schema.proofs.Lemmas.Causes.{never_both}
 use Rattle.ee_store_schema.proofs.MakeUsable.{has_free, name_free}
 use Rattle.ee_store_schema.proofs.TextLemmas.{desk_text, rates_text, bonds_text, owner_text, tickets_text, day_text, paid_text, batches_text, replies_text, extensions_text, answers_text, with_desk, with_rates, with_bonds, with_tickets, with_days, with_batches, adds_desk, adds_rates, adds_bonds, adds_owner, adds_tickets, adds_day, adds_paid, adds_batches, adds_replies, adds_extensions, adds_answers}

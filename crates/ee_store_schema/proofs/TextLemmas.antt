@@ -6,7 +6,8 @@ use Rattle.sqlite_tied.specs.Compute.{everything}
 use Rattle.sqlite.specs.Listing.{understood}
 use Rattle.ee_store_tables.specs.Tables.{desk, rates, bonds, tickets, paid, batches, extensions, answers, index_on}
 use Rattle.ee_store_schema.specs.Forms.{replies, first_tables, earliest_tables}
-use Rattle.ee_store_schema.specs.Making.{no_tables, register_tables, payment_tables, both_tables, AddsTable, AddsIndex}
+use Rattle.ee_store_schema.specs.Making.{no_tables}
+use Rattle.ee_store_schema.specs.Inner.Making.{register_tables, payment_tables, both_tables, AddsTable, AddsIndex}
 
 abbrev pub desk_text : List ℕ
 desk_text = codes "CREATE TABLE desk (id INTEGER NOT NULL PRIMARY KEY, version INTEGER NOT NULL, day INTEGER, last_day INTEGER) STRICT"

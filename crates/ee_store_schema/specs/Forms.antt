@@ -98,18 +98,6 @@ StoresIn Earliest db rows = StoresEarliest db rows
 
 -- ---- the tables of a store
 
--- a transaction sees these tables
-abbrev pub SeesSchema : Schema → State → Type 0
-SeesSchema schema s = IsTrue s.is_open → s.now.schema ≡ schema
-
--- a transaction sees tables in this form
-abbrev pub SeesForm : Form → State → Type 0
-SeesForm form s = SeesSchema (schema_of form) s
-
--- a transaction sees tables of this program
-abbrev pub HasOurTables : State → Type 0
-HasOurTables s = (form : Form) × SeesForm form s
-
 -- the last commit left tables in this form
 abbrev pub HasForm : Form → State → Type 0
 HasForm form s = IsTrue s.is_open → s.committed.schema ≡ schema_of form
@@ -119,10 +107,6 @@ abbrev pub IsOurs : State → Type 0
 IsOurs s = (form : Form) × HasForm form s
 
 -- ---- the rows of a store
-
--- a transaction sees tables in this form with these rows
-abbrev pub SeesIn : Form → State → Rows → Type 0
-SeesIn form s rows = IsTrue s.is_open → (s.now.schema ≡ schema_of form) × HoldsIn form s.now.trees rows
 
 -- the last commit left tables in this form with these rows
 abbrev pub HadIn : Form → State → Rows → Type 0

@@ -1,5 +1,5 @@
 pub mod Forms
-pub mod Asking
 pub mod Making
 pub mod Migrating
 pub mod Faults
+pub mod Inner

@@ -1,15 +1,11 @@
 -- A store of version 1 that becomes one of version 2, with the same rows.
-use Rattle.std.specs.Prelude.{◌≡◌, ◌≢◌, ◌⊎◌, ◌<◌, ◌^◌, ⊤, ℕ, IsTrue, IfErr, List, [], ◌∷◌, None, Result, map, length, string_bytes}
+use Rattle.std.specs.Prelude.{◌≡◌, ◌≢◌, ◌⊎◌, ◌<◌, ◌^◌, ℕ, IsTrue, List, map, length, string_bytes}
 use Rattle.std.specs.List.{AllByRecursion}
-use Rattle.std.specs.FinMap.{FinMap, get, insert, entries, empty}
-use Rattle.sqlite.specs.Effect.{IsDatabase}
-use Rattle.sqlite.specs.State.{State, HasCleanDisk}
+use Rattle.std.specs.FinMap.{entries}
+use Rattle.sqlite.specs.State.{State}
 use Rattle.sqlite.specs.Tree.{Trees}
 use Rattle.ee_store_tables.specs.Rows.{Rows, ReplyRow, FitsRow, Stores, Rises}
 pub use Rattle.ee_store_tables.specs.Rows.{with_version_of, with_version}
-use Rattle.ee_store_tables.specs.Keyed.{pair_cmp}
-use Rattle.ee_store_tables.specs.Statements.{IsExcused}
-use Rattle.ee_store_tables.specs.declared.failures.Failure.{Failure}
 use Rattle.ee_store_schema.specs.declared.forms.Form.{Form}
 use Rattle.ee_store_schema.specs.declared.forms.Form.TheVariants.{Current, First, Earliest}
 use Rattle.ee_store_schema.specs.declared.answers.StoredAnswer.{StoredAnswer}
@@ -49,32 +45,6 @@ CanBecome form all s = (form ≡ Current) ⊎ ((rows : Rows) × HadIn form s row
 
 -- ---- the steps
 
--- without the replies
-abbrev pub unanswered : Rows → Rows
-unanswered rows = record rows { answers = empty }
-
--- with the replies written in order
-abbrev pub copied : FinMap pair_cmp ReplyRow → List ((ℕ × ℕ) × ReplyRow) → FinMap pair_cmp ReplyRow
-copied answers [] = answers
-copied answers (e ∷ es) = copied (insert answers e.0 e.1) es
-
--- a reply can be written: its desk and number are new, and it fits a row
-abbrev pub CanAdd : FinMap pair_cmp ReplyRow → (ℕ × ℕ) × ReplyRow → Type 0
-CanAdd answers e = (e.0.0 < 2 ^ 63) × (e.0.1 < 2 ^ 63) × (get answers e.0 ≡ None) × FitsRow e.1
-
--- the same for each reply in order
-abbrev pub CanAddAll : FinMap pair_cmp ReplyRow → List ((ℕ × ℕ) × ReplyRow) → Type 0
-CanAddAll answers [] = ⊤
-CanAddAll answers (e ∷ es) = CanAdd answers e × CanAddAll (insert answers e.0 e.1) es
-
--- what a transaction sees obeys the tables, and there are rowids for this many more replies
-abbrev pub HasPlace : ℕ → State → Type 0
-HasPlace n s = IsTrue s.is_open → IsDatabase s.now × Rises 1 n (s.now.trees 13)
-
 -- this many more rows fit in `bonds` and in `paid`
 abbrev pub BondsAndLinesHaveRoom : ℕ → Trees → Type 0
 BondsAndLinesHaveRoom n db = Rises 1 n (db 2) × Rises 1 n (db 7)
-
--- from an allowed state, without a limit on steps, it fails only for want of memory or a cause
-abbrev pub FailsIn : {X : Type 0} → (State → Type 0) → State → State → Result X Failure → Type 0
-FailsIn Starts old new result = HasCleanDisk new → Starts old → old.step_limit ≡ None → IfErr result (IsExcused old new)

@@ -9,26 +9,10 @@ ghost use Rattle.sqlite.specs.Effect.{IsDatabase};
 ghost use Rattle.ee_store_tables.specs.Rows.{Stores, Sees, Has};
 ghost use Rattle.ee_store_tables.specs.Tables.{counter_schema};
 ghost use Rattle.ee_store_schema.specs.Faults.{FailsForCause, StaysOutside};
-ghost use Rattle.ee_store_schema.specs.Forms.{first_tables, earliest_tables, SeesSchema};
-ghost use Rattle.ee_store_schema.specs.Making.{
-  IsBlank,
-  first_rows,
-  SeesTables,
-  IsAmid,
-  IsOver,
-  GainsTable,
-  LeavesTables,
-  ReplacesReplies,
-  AddsTable,
-  AddsIndex,
-  TakesTable,
-  TakesIndex,
-  no_tables,
-  register_tables,
-  payment_tables,
-  both_tables,
-  MakesInside,
-};
+ghost use Rattle.ee_store_schema.specs.Forms.{first_tables, earliest_tables};
+ghost use Rattle.ee_store_schema.specs.Inner.Forms.{SeesSchema};
+ghost use Rattle.ee_store_schema.specs.Making.{IsBlank, first_rows, no_tables};
+ghost use Rattle.ee_store_schema.specs.Inner.Making.{SeesTables, IsAmid, IsOver, GainsTable, LeavesTables, ReplacesReplies, AddsTable, AddsIndex, TakesTable, TakesIndex, register_tables, payment_tables, both_tables, MakesInside};
 
 use crate::faults::OpenFault;
 use sqlite::{Alter, Connection, Transaction};

@@ -11,24 +11,11 @@ ghost use Rattle.ee_store_tables.specs.Statements.{TakesRoom};
 ghost use Rattle.ee_store_schema.specs.declared.forms.Form.TheVariants.{Current};
 ghost use Rattle.ee_store_tables.specs.Failures.{failure_of};
 ghost use Rattle.ee_store_schema.specs.Faults.{FailsForCause, StaysOutside, fault_told};
-ghost use Rattle.ee_store_schema.specs.Forms.{HasForm, HadIn, SeesForm, SeesIn, schema_of};
-ghost use Rattle.ee_store_schema.specs.Making.{IsOver};
-ghost use Rattle.ee_store_schema.specs.Migrating.{
-  Lists,
-  become,
-  migrated,
-  Migrates,
-  AnswersFit,
-  CanBecome,
-  answer_entry,
-  unanswered,
-  copied,
-  CanAdd,
-  CanAddAll,
-  HasPlace,
-  FailsIn,
-  BondsAndLinesHaveRoom,
-};
+ghost use Rattle.ee_store_schema.specs.Forms.{HasForm, HadIn, schema_of};
+ghost use Rattle.ee_store_schema.specs.Inner.Forms.{SeesForm, SeesIn};
+ghost use Rattle.ee_store_schema.specs.Inner.Making.{IsOver};
+ghost use Rattle.ee_store_schema.specs.Migrating.{Lists, become, migrated, Migrates, AnswersFit, CanBecome, answer_entry, BondsAndLinesHaveRoom};
+ghost use Rattle.ee_store_schema.specs.Inner.Migrating.{unanswered, copied, CanAdd, CanAddAll, HasPlace, FailsIn};
 
 use crate::answers::StoredAnswer;
 use crate::faults::OpenFault;

@@ -3,7 +3,7 @@ use Rattle.std.proofs.Common.{◌≡◌, ℕ, ◌+◌, List, [], ◌∷◌, None
 use Rattle.std.specs.FinMap.{FinMap, get, insert}
 use Rattle.ee_store_tables.specs.Keyed.{pair_cmp}
 use Rattle.ee_store_tables.specs.Rows.{Rows, BondRow, PaidRow, with_paid, marked, marked_as, with_line, with_lines, CanPay, CanPayAll}
-use Rattle.ee_store_tables.specs.Places.{with_places, all_marked, CanPlaceAll}
+use Rattle.ee_store_tables.specs.Inner.Places.{with_places, all_marked, CanPlaceAll}
 
 -- a mark and a line of another table don't meet
 marked_beside : (rows : Rows) (k : ℕ × ℕ) (t : ℕ) (paid : FinMap pair_cmp PaidRow) (o : Option BondRow) → record (marked_as rows k t o) { paid = paid } ≡ marked_as (record rows { paid = paid }) k t o

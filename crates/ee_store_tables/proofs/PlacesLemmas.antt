@@ -28,7 +28,7 @@ use Rattle.sqlite_keyed.proofs.ListLemmas.{all_weaker, any_from_none, none_from_
 use Rattle.ee_store_tables.specs.Tables.{paid, counter_schema}
 use Rattle.ee_store_tables.specs.Keyed.{pair_cmp, stored, HoldsPairs}
 use Rattle.ee_store_tables.specs.Rows.{number, PaidRow, paid_columns, Rows, Holds, HasRoom, Rises}
-use Rattle.ee_store_tables.specs.Places.{with_places}
+use Rattle.ee_store_tables.specs.Inner.Places.{with_places}
 use Rattle.ee_store_tables.proofs.UniqueLemmas.{was_new, all_put}
 use Rattle.ee_store_tables.proofs.Meaning.{add_four_text, four_terms, add_four_is, add_four_plain}
 use Rattle.ee_store_tables.proofs.PairLemmas.{alike_itself}

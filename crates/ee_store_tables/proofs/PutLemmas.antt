@@ -22,7 +22,7 @@ use Rattle.sqlite_keyed.proofs.RuleLemmas.{first_of_both}
 use Rattle.ee_store_tables.specs.Tables.{counter_schema, paid}
 use Rattle.ee_store_tables.specs.Keyed.{pair_cmp, stored, HoldsPairs}
 use Rattle.ee_store_tables.specs.Rows.{Rows, Holds, PaidRow, paid_columns, Rises}
-use Rattle.ee_store_tables.specs.Places.{CanPlaceAll}
+use Rattle.ee_store_tables.specs.Inner.Places.{CanPlaceAll}
 use Rattle.ee_store_tables.proofs.Meaning.{four_terms}
 use Rattle.ee_store_tables.proofs.PairLemmas.{alike_itself}
 use Rattle.ee_store_tables.proofs.HoldsLemmas.{pair_total, pair_same, adds_row}

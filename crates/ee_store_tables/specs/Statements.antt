@@ -2,12 +2,10 @@
 -- Nothing is said of a store that a failing disk has shut.
 use Rattle.std.specs.Prelude.{◌≡◌, ◌⊎◌, ⊤, ℕ, ◌+◌, false, None, Result, IsTrue, IfOk, IfErr, OnOk, OnErr}
 use Rattle.sqlite_disk.specs.Disk.{MoreFaults}
-use Rattle.sqlite.specs.declared.error.Error.{Error}
 use Rattle.sqlite.specs.Effect.{IsDatabase}
 use Rattle.sqlite.specs.State.{State, HasCleanDisk, IsUnchanged, KeepsCommit, Survives}
 use Rattle.ee_store_tables.specs.declared.failures.Failure.{Failure}
 use Rattle.ee_store_tables.specs.declared.failures.Failure.TheVariants.{NoMemory, StoreFailed}
-use Rattle.ee_store_tables.specs.Failures.{failure_of}
 use Rattle.ee_store_tables.specs.Rows.{Rows, IsInside, Sees, HasRoom}
 
 -- ---- what each statement keeps
@@ -96,11 +94,3 @@ IsExcused old new StoreFailed = HasCause old new
 -- in a transaction that sees allowed rows, without a limit on steps
 abbrev pub FailsByCause : {X : Type 0} → State → State → Result X Failure → (Rows → Type 0) → Type 0
 FailsByCause old new result Allows = HasCleanDisk new → IsInside old → old.step_limit ≡ None → (rows : Rows) → Sees old rows → Allows rows → IfErr result (IsExcused old new)
-
--- the same for a query, whatever rows it finds
-abbrev pub QueryFailsByCause : {X : Type 0} → State → State → Result X Error → Type 0
-QueryFailsByCause old new result = HasCleanDisk new → IsInside old → old.step_limit ≡ None → IfErr result (λ e. IsExcused old new (failure_of e))
-
--- only want of memory
-abbrev pub IsMemory : Error → Type 0
-IsMemory e = failure_of e ≡ NoMemory

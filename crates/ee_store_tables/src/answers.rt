@@ -9,20 +9,8 @@ ghost use Rattle.sqlite.specs.State.{HasCleanDisk, KeepsCommit};
 ghost use Rattle.ee_store_tables.specs.AsRows.{Fits, row_of_reply};
 ghost use Rattle.ee_store_tables.specs.Rows as table;
 ghost use Rattle.ee_store_tables.specs.Rows.{IsText, IsInside, Rises, reply_columns, with_answer, FitsRow, HasRoom};
-ghost use Rattle.ee_store_tables.specs.Statements.{
-  OnlyQueries,
-  WritesInside,
-  LeavesOpen,
-  StaysInside,
-  LeavesNoMore,
-  LeavesSound,
-  Makes,
-  Finds,
-  FailsByCause,
-  QueryFailsByCause,
-  IsMemory,
-  TakesRoom,
-};
+ghost use Rattle.ee_store_tables.specs.Statements.{OnlyQueries, WritesInside, LeavesOpen, StaysInside, LeavesNoMore, LeavesSound, Makes, Finds, FailsByCause, TakesRoom};
+ghost use Rattle.ee_store_tables.specs.Inner.Statements.{QueryFailsByCause, IsMemory};
 ghost use Rattle.ee_store_tables.specs.Tables.{answers_tree};
 
 use crate::failures::Failure;

@@ -8,18 +8,8 @@ ghost use Rattle.ee_store_tables.specs.AsRows.{Fits, FitsSerial, FitsUnpaid, key
 ghost use Rattle.ee_store_tables.specs.Rows as table;
 ghost use Rattle.ee_store_tables.specs.Rows.{bond_columns, marked, with_bond, with_bonds, CanRegisterAll, unpaid_of, HasRoom};
 ghost use Rattle.sqlite_value.specs.Value.{owned};
-ghost use Rattle.ee_store_tables.specs.Statements.{
-  OnlyQueries,
-  WritesInside,
-  WritesIfAny,
-  Makes,
-  Finds,
-  FailsByCause,
-  QueryFailsByCause,
-  IsMemory,
-  KeepsRoom,
-  TakesRoom,
-};
+ghost use Rattle.ee_store_tables.specs.Statements.{OnlyQueries, WritesInside, WritesIfAny, Makes, Finds, FailsByCause, KeepsRoom, TakesRoom};
+ghost use Rattle.ee_store_tables.specs.Inner.Statements.{QueryFailsByCause, IsMemory};
 
 use crate::failures::Failure;
 use crate::reading::{QueryRow, read_each};

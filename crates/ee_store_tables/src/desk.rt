@@ -9,20 +9,8 @@ ghost use Rattle.sqlite.specs.State.{HasCleanDisk, KeepsCommit};
 ghost use Rattle.ee_store_tables.specs.AsRows.{Fits, row_of_desk};
 ghost use Rattle.ee_store_tables.specs.Rows as table;
 ghost use Rattle.ee_store_tables.specs.Rows.{desk_columns, with_day, with_version, HasRoom};
-ghost use Rattle.ee_store_tables.specs.Statements.{
-  OnlyQueries,
-  WritesInside,
-  LeavesOpen,
-  StaysInside,
-  LeavesNoMore,
-  LeavesSound,
-  Makes,
-  Finds,
-  FailsByCause,
-  QueryFailsByCause,
-  IsMemory,
-  KeepsRoom,
-};
+ghost use Rattle.ee_store_tables.specs.Statements.{OnlyQueries, WritesInside, LeavesOpen, StaysInside, LeavesNoMore, LeavesSound, Makes, Finds, FailsByCause, KeepsRoom};
+ghost use Rattle.ee_store_tables.specs.Inner.Statements.{QueryFailsByCause, IsMemory};
 
 use crate::failures::Failure;
 use crate::records::DeskRow;

@@ -6,7 +6,8 @@ ghost use Rattle.std.specs.FinMap.{get};
 ghost use Rattle.sqlite.specs.Held.{state};
 ghost use Rattle.ee_store_tables.specs.AsRows.{Fits, FitsRate, entry_of_rate};
 ghost use Rattle.ee_store_tables.specs.Rows.{rate_columns, with_extension, HasRoom};
-ghost use Rattle.ee_store_tables.specs.Statements.{OnlyQueries, WritesInside, Makes, Finds, FailsByCause, QueryFailsByCause, KeepsRoom};
+ghost use Rattle.ee_store_tables.specs.Statements.{OnlyQueries, WritesInside, Makes, Finds, FailsByCause, KeepsRoom};
+ghost use Rattle.ee_store_tables.specs.Inner.Statements.{QueryFailsByCause};
 
 use crate::failures::Failure;
 use crate::reading::read_number;

@@ -4,18 +4,9 @@ ghost use Rattle.std.specs.Prelude.{◌≡◌, ◌+◌, [], ◌∷◌, length, m
 ghost use Rattle.sqlite.specs.Held.{state};
 ghost use Rattle.ee_store_tables.specs.AsRows.{Fits, FitsLine, row_of_line, placed_of, placed_columns};
 ghost use Rattle.ee_store_tables.specs.Rows.{with_paid, with_lines, lines_on, CanPay, CanPayAll, HasRoom};
-ghost use Rattle.ee_store_tables.specs.Places.{with_places, all_marked, CanPlaceAll};
-ghost use Rattle.ee_store_tables.specs.Statements.{
-  OnlyQueries,
-  WritesInside,
-  WritesIfAny,
-  Makes,
-  Finds,
-  FailsByCause,
-  QueryFailsByCause,
-  KeepsRoom,
-  TakesRoom,
-};
+ghost use Rattle.ee_store_tables.specs.Inner.Places.{with_places, all_marked, CanPlaceAll};
+ghost use Rattle.ee_store_tables.specs.Statements.{OnlyQueries, WritesInside, WritesIfAny, Makes, Finds, FailsByCause, KeepsRoom, TakesRoom};
+ghost use Rattle.ee_store_tables.specs.Inner.Statements.{QueryFailsByCause};
 
 use crate::bonds::mark_bond;
 use crate::failures::Failure;

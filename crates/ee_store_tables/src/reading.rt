@@ -4,7 +4,7 @@ ghost use Rattle.std.specs.Prelude.{◌≡◌, ℕ, List, Option, option_map, If
 ghost use Rattle.std.specs.Option.{option_to_list};
 ghost use Rattle.sqlite.specs.Order.{Row as Columns};
 ghost use Rattle.ee_store_tables.specs.Rows.{number as number_in_store};
-ghost use Rattle.ee_store_tables.specs.Statements.{IsMemory};
+ghost use Rattle.ee_store_tables.specs.Inner.Statements.{IsMemory};
 
 use crate::failures::Failure;
 use sqlite::{Error, Row};

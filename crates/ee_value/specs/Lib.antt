@@ -4,3 +4,4 @@ pub mod Value
 pub mod Open
 pub mod Fault
 pub mod Payment
+pub mod Inner

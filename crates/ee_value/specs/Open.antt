@@ -1,6 +1,6 @@
 -- At which ages the value may be refused, with b binary places: those at which the bounds of a month's growth
 -- round to different cents. Rules of this project; they define no value.
-use Rattle.std.specs.Prelude.{◌≡◌, ◌≢◌, ℕ, zero, suc, ◌+◌, ◌-◌, ◌*◌, ◌/◌, ◌%◌, ◌^◌, ◌<◌, ◌≤◌, ◌==◌, ◌&&◌, not, Bool, true, false, nat_le, nat_lt, if◌then◌else◌, Option, position}
+use Rattle.std.specs.Prelude.{◌≡◌, ℕ, zero, suc, ◌+◌, ◌-◌, ◌*◌, ◌/◌, ◌%◌, ◌^◌, ◌<◌, ◌≤◌, ◌==◌, ◌&&◌, not, Bool, true, false, nat_le, nat_lt, if◌then◌else◌, Option, position}
 use Rattle.std.specs.List.{list_any, range_with_len}
 use Rattle.ee_roots.specs.Products.{power_down, power_up}
 use Rattle.ee_roots.specs.Amounts.{cents}
@@ -29,10 +29,6 @@ unfoldable pub bounds_differ : ℕ → ℕ → ℕ → ℕ → Bool
 bounds_differ u r m b =
     not (cents b (u * power_down b (low_root b r) (m - 1)) == cents b (u * power_up b (high_root b r) (m - 1)))
 
--- the growth of m months at rate r needs the bounds: it isn't zero, and isn't a known fraction
-abbrev pub IsLeftToBounds : ℕ → ℕ → Type 0
-IsLeftToBounds r m = (m ≢ 0) × (r ≢ 0) × (m ≡ 3 → is_exact r ≡ false)
-
 -- u, grown for m months of a half-year, needs the bounds, and they don't settle it
 unfoldable pub is_unsettled : ℕ → ℕ → ℕ → ℕ → Bool
 is_unsettled u r m b = not (m == 0) && not (r == 0) && not (m == 3 && is_exact r) && bounds_differ u r m b
@@ -40,10 +36,6 @@ is_unsettled u r m b = not (m == 0) && not (r == 0) && not (m == 3 && is_exact r
 -- the value at age a is open with b binary places
 unfoldable pub is_open : Rates → ℕ → ℕ → Bool
 is_open rates a b = nat_lt a 360 && is_unsettled (start rates (a / 6)) (rate_in rates (a / 6)) (a % 6) b
-
--- two bounds of a month's growth or its power, with b binary places, are close to each other and to 1
-abbrev pub AreNear : ℕ → ℕ → ℕ → Type 0
-AreNear b low high = (low ≤ high) × (high ≤ low + 32) × (32 * high ≤ 43 * 2 ^ b)
 
 -- the least age at which the value is open at these rates, if there is one
 unfoldable pub first_open : Rates → ℕ → Option ℕ

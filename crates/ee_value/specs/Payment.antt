@@ -22,7 +22,3 @@ counted_age a = if nat_lt a 60 then a - 3 else a
 -- the payment at age a is open with b binary places
 unfoldable pub is_payment_open : Rates → ℕ → ℕ → Bool
 is_payment_open rates a b = not (nat_lt a 12) && is_open rates (counted_age a) b
-
--- no bond pays more cents: 400 units, which is 10,000 dollars
-abbrev pub highest_value : ℕ
-highest_value = 304493600

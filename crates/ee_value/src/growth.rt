@@ -4,7 +4,8 @@ ghost use Rattle.std.specs.Prelude.{◌≡◌, ◌≢◌, ℕ, ◌+◌, ◌-◌,
 ghost use Rattle.ee_roots.specs.Products.{power_down, power_up};
 ghost use Rattle.ee_roots.specs.Roots.{IsLow, IsHigh};
 ghost use Rattle.ee_value.specs.Rounding.{grown};
-ghost use Rattle.ee_value.specs.Open.{is_exact, IsLeftToBounds, is_unsettled, bounds_differ, AreNear, Close};
+ghost use Rattle.ee_value.specs.Open.{is_exact, is_unsettled, bounds_differ, Close};
+ghost use Rattle.ee_value.specs.Inner.Open.{IsLeftToBounds, AreNear};
 ghost use Rattle.ee_value.specs.Chain.{highest_start};
 ghost use Rattle.ee_units.specs.Limits.{highest_rate};
 

@@ -20,7 +20,7 @@ impl Model for Powers {
     ghost use Rattle.std.specs.List.{range_with_len};
     ghost use Rattle.ee_roots.specs.Roots.{Bounds};
     ghost use Rattle.ee_roots.specs.Products.{power_down, power_up};
-    ghost use Rattle.ee_value.specs.Open.{AreNear};
+    ghost use Rattle.ee_value.specs.Inner.Open.{AreNear};
 
     ghost Value = { Bounds };
 

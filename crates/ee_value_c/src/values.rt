@@ -2,7 +2,8 @@
 
 ghost use Rattle.std.specs.Prelude.{◌≡◌, ◌≤◌, true, false, MatchResult, IfOk};
 ghost use Rattle.ee_units.specs.Denoms.{units_of};
-ghost use Rattle.ee_value.specs.Payment.{is_payment_open, IsQuoteOf, highest_value};
+ghost use Rattle.ee_value.specs.Payment.{is_payment_open, IsQuoteOf};
+ghost use Rattle.ee_value.specs.Inner.Payment.{highest_value};
 ghost use Rattle.ee_value_c.specs.Answers.{row_of, row_at, payment_of, payment_at};
 ghost use Rattle.ee_value_c.specs.declared.refusals.CallRefusal.TheVariants as refusal;
 

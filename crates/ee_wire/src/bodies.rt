@@ -3,7 +3,7 @@ ghost use Rattle.std.specs.Prelude.{◌≡◌, IfOk, string_bytes};
 ghost use Rattle.serde_json.specs.Written.{compact_text};
 ghost use Rattle.ee_calculator.specs.Sheets.{sheet_text};
 ghost use Rattle.ee_desk_texts.specs.Texts.{reply_text};
-ghost use Rattle.ee_desk_texts.specs.Writing.{AddsData};
+ghost use Rattle.ee_desk_texts.specs.Inner.Writing.{AddsData};
 ghost use Rattle.ee_wire.specs.Answers.{field_in, fault_data, fault_text, unserved_text, row_data, body_of};
 
 use crate::answers::Answer;

@@ -2,7 +2,8 @@
 
 ghost use Rattle.serde_json.specs.Data.{string};
 ghost use Rattle.ee_units.specs.Texts.{month_text, rate_text};
-ghost use Rattle.ee_desk_texts.specs.Writing.{AddsData, AddsMember};
+ghost use Rattle.ee_desk_texts.specs.Writing.{AddsMember};
+ghost use Rattle.ee_desk_texts.specs.Inner.Writing.{AddsData};
 ghost use Rattle.ee_wire.specs.Answers.{text_or_none, row_data};
 
 use ee_calculator::Row;

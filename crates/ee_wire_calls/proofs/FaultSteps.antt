@@ -9,7 +9,7 @@ use Rattle.ee_wire_calls.specs.declared.faults.BodyFault.{BodyFault}
 use Rattle.ee_wire_calls.specs.declared.faults.BodyFault.TheVariants as body
 use Rattle.ee_wire_calls.specs.declared.faults.WireFault.{WireFault}
 use Rattle.ee_wire_calls.specs.declared.faults.WireFault.TheVariants.{NoRoute}
-use Rattle.ee_wire_calls.specs.Bodies.{Fails}
+use Rattle.ee_wire_calls.specs.Inner.Bodies.{Fails}
 use Rattle.ee_wire_calls.specs.declared.routes.Route.{Route}
 use Rattle.ee_wire_calls.specs.Calls.{IsOfBody, IsUnlessMemory, as_call, in_text, decoded, routed, called, ◌>>=◌}
 

@@ -17,7 +17,7 @@ use Rattle.serde_json.specs.declared.error.Error.{Error}
 use Rattle.std.specs.Prelude.{◌↔◌, IsTrue}
 use Rattle.std.proofs.lemmas.Bool.{false≢true}
 use Rattle.ee_wire_calls.specs.Fields.{keys, no_other}
-use Rattle.ee_wire_calls.specs.Views.{text_at}
+use Rattle.ee_wire_calls.specs.Inner.Views.{text_at}
 use Rattle.ee_wire_calls.specs.Calls.{json_of}
 
 pub any_text : (names : List (Bor (List ℕ))) (k : List ℕ) → list_any (λ n. bytes_eq n k) (map text_at names) ≡ list_any (λ n. bytes_eq n.now k) names

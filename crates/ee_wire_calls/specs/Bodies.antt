@@ -1,5 +1,5 @@
 -- The request of a POST's body, as a function of its JSON.
-use Rattle.std.specs.Prelude.{◌≡◌, List, [], ◌∷◌, codes, Result, Ok, Err}
+use Rattle.std.specs.Prelude.{List, [], ◌∷◌, codes, Result, Ok}
 use Rattle.std.specs.Option.{ok_or}
 use Rattle.serde_json.specs.Data.{Data, Items, no_items, item}
 use Rattle.serde_json.specs.Find.{as_array}
@@ -13,8 +13,6 @@ use Rattle.ee_calculator.specs.declared.bonds.Bond.{Bond}
 use Rattle.ee_desk_model.specs.declared.acts.Request.{Request}
 use Rattle.ee_units.specs.Spelling.{SerialNumber}
 use Rattle.ee_desk_model.specs.declared.acts.Act.TheVariants as act
-use Rattle.ee_wire_calls.specs.declared.faults.BodyFault.{BodyFault}
-use Rattle.ee_wire_calls.specs.declared.faults.BodyFault.TheVariants as fault
 use Rattle.ee_wire_calls.specs.declared.routes.Post.{Post}
 use Rattle.ee_wire_calls.specs.declared.routes.Post.TheVariants as post
 
@@ -112,14 +110,3 @@ request_of post.Bonds d = add_bonds d
 request_of post.DayOpen d = open_day d
 request_of post.DayClose d = close_day d
 request_of post.Redeem d = redeem d
-
--- ---- the result of a function, if memory may be refused
-
-abbrev pub Fails : {Y : Type 0} → BodyFault → Result Y Field → Type 0
-Fails fault.NoMemory r = Unit {0}
-Fails (fault.Field f) r = r ≡ Err f
-
--- the result, seen by view, is that of the definition, unless memory was refused
-abbrev pub Gives : {X Y : Type 0} → (X → Y) → Result X BodyFault → Result Y Field → Type 0
-Gives view (Ok x) r = r ≡ Ok (view x)
-Gives view (Err e) r = Fails e r

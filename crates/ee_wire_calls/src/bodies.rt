@@ -1,20 +1,8 @@
 //! Bodies of POST messages.
 ghost use Rattle.std.specs.Prelude.{◌≡◌};
 ghost use Rattle.serde_json.specs.View.{view, items_view};
-ghost use Rattle.ee_wire_calls.specs.Bodies.{
-  rate_row,
-  rate_rows,
-  bond_of,
-  bonds_of,
-  serials_of,
-  add_rates,
-  add_bonds,
-  open_day,
-  close_day,
-  redeem,
-  request_of,
-  Gives,
-};
+ghost use Rattle.ee_wire_calls.specs.Bodies.{rate_row, rate_rows, bond_of, bonds_of, serials_of, add_rates, add_bonds, open_day, close_day, redeem, request_of};
+ghost use Rattle.ee_wire_calls.specs.Inner.Bodies.{Gives};
 
 use crate::faults::{BodyFault, Field};
 use crate::fields::{

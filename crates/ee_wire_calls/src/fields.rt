@@ -5,7 +5,7 @@ ghost use Rattle.std.specs.List.{list_all, list_any};
 ghost use Rattle.serde_json.specs.View.{view, items_view};
 ghost use Rattle.ee_wire_calls.specs.Kinds.{desk_in, number_in, day_in, issue_in, rate_in, serial_in, denom_in, customer_in};
 ghost use Rattle.ee_wire_calls.specs.Fields.{field, given_or, optional, optional_or, or_null, no_other, an_object};
-ghost use Rattle.ee_wire_calls.specs.Views.{map_ok, view_at, text_at};
+ghost use Rattle.ee_wire_calls.specs.Inner.Views.{map_ok, view_at, text_at};
 ghost use Rattle.serde_json.specs.Find.{as_array};
 
 use crate::faults::Field;

@@ -7,7 +7,8 @@ use Rattle.ee_wire_framing.specs.declared.buffer.WireEnd.TheVariants as wire
 use Rattle.ee_wire_framing.specs.declared.buffer.Next.TheVariants as next
 use Rattle.ee_wire_framing.specs.Stream.{Stream}
 use Rattle.ee_wire_framing.specs.Framing.{BeginsMessage, Message, EndsWith, end, fault}
-use Rattle.ee_wire_framing.specs.Reading.{message_in, left, Gives, NeedsMore, EndsAt, Answer, Answers, AreNeeded, Takes, Settles, most_read}
+use Rattle.ee_wire_framing.specs.Reading.{message_in, left, Gives, NeedsMore, Answer, Answers, AreNeeded, Takes, Settles, most_read}
+use Rattle.ee_wire_framing.specs.Inner.Reading.{EndsAt}
 use Rattle.ee_wire_framing.proofs.Messages.{BeginsMessage-append}
 
 -- what holds of what is held, whatever follows, holds of all that was left

@@ -17,7 +17,7 @@ use Rattle.std.proofs.lemmas.List.Elements.{All-get_or}
 use Rattle.std.proofs.lemmas.List.Folds.{list_any_at, list_all-append}
 use Rattle.httparse.specs.declared.spans.HeaderSpan.{HeaderSpan}
 use Rattle.ee_wire_framing.specs.Framing.{Pair, same_word, values_of, has_close}
-use Rattle.ee_wire_framing.specs.Heads.{AreValues, next}
+use Rattle.ee_wire_framing.specs.Inner.Heads.{AreValues, next}
 
 pub word_test : (r : Bool) (a b : List ℕ) → Decides r (map to_ascii_lowercase a ≡ map to_ascii_lowercase b) → r ≡ same_word a b
 unfolding same_word

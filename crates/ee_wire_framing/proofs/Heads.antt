@@ -12,7 +12,8 @@ use Rattle.httparse.specs.Grammar.{LineEnd, crlf, lf, print_end, print_blank, pr
 use Rattle.httparse.specs.Spans.{RequestExceeds, IsWithin, span_bytes}
 use Rattle.ee_wire_framing.specs.declared.head.Head.{Head}
 use Rattle.ee_wire_framing.specs.Framing.{IsUndecided, HasBadHead}
-use Rattle.ee_wire_framing.specs.Heads.{IsLines, IsHeadAt}
+use Rattle.ee_wire_framing.specs.Heads.{IsHeadAt}
+use Rattle.ee_wire_framing.specs.Inner.Heads.{IsLines}
 
 -- the lines begin no head, and more bytes may change that
 pub record IsOpen (lines : List ℕ) : Type 0 where

@@ -6,7 +6,8 @@ use Rattle.ee_wire_framing.specs.declared.FramingFault.TheVariants.{Truncated}
 use Rattle.ee_wire_framing.specs.declared.front.Front.TheVariants as front
 use Rattle.ee_wire_framing.specs.declared.buffer.Message as parts
 use Rattle.ee_wire_framing.specs.declared.FramingFault.{FramingFault}
-use Rattle.ee_wire_framing.specs.Reading.{IsFront, NeedsMore, message_in}
+use Rattle.ee_wire_framing.specs.Reading.{NeedsMore, message_in}
+use Rattle.ee_wire_framing.specs.Inner.Reading.{IsFront}
 use Rattle.ee_wire_framing.proofs.Heads.{request_is_lines}
 use Rattle.ee_wire_framing.proofs.More.{BeginsHead-append}
 

@@ -11,7 +11,8 @@ use Rattle.ee_wire_framing.specs.declared.head.Verdict.TheVariants.{Found, Bad, 
 use Rattle.ee_wire_framing.specs.declared.front.Progress.{Progress}
 use Rattle.ee_wire_framing.specs.declared.front.Progress.TheVariants as progress
 use Rattle.ee_wire_framing.specs.Framing.{IsUndecided}
-use Rattle.ee_wire_framing.specs.Heads.{AreEmptyLines, AreFieldLines, IsHeadAt, IsLastLineFeed, length_of, BeginsLines, AreLinesUpTo, Judges, Finds, Knows}
+use Rattle.ee_wire_framing.specs.Heads.{AreEmptyLines, AreFieldLines, IsHeadAt, IsLastLineFeed, length_of, BeginsLines, AreLinesUpTo, Knows}
+use Rattle.ee_wire_framing.specs.Inner.Heads.{Judges, Finds}
 use Rattle.ee_wire_framing.proofs.WholeLines.{open_empty_lines, open_field_lines}
 use Rattle.ee_wire_framing.proofs.Heads.{IsOpen, AreOpen, undecided, bad_in, head_in}
 

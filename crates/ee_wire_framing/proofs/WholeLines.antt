@@ -20,7 +20,8 @@ use Rattle.httparse.proofs.HeadLemmas.{at_complete}
 use Rattle.httparse.proofs.GrammarLemmas.{cons-append, RequestTree, request_tree, request_head, request_pieces, request_from_pieces}
 use Rattle.httparse.proofs.PieceLemmas.{RequestStart_deterministic, Section_skip, Stops_token, newline_not_stopped, print_end_unique}
 use Rattle.httparse.proofs.OpenLemmas.{Completes_first, line_blank, some_section}
-use Rattle.ee_wire_framing.specs.Heads.{IsLines, AreEmptyLines, AreFieldLines}
+use Rattle.ee_wire_framing.specs.Heads.{AreEmptyLines, AreFieldLines}
+use Rattle.ee_wire_framing.specs.Inner.Heads.{IsLines}
 use Rattle.ee_wire_framing.proofs.Heads.{IsOpen, end_length, fields_length}
 use Rattle.ee_wire_framing.proofs.Cuts.{IsPlain, plain_pass, plain_cons, line_cut, lines_cut, end_body, end_is, end_plain, empty_lines, field_body, field_lines, start_body, start_plain, start_text, request_text}
 

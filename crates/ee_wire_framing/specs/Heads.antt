@@ -1,23 +1,14 @@
 -- What is known about the front of some bytes.
-use Rattle.std.specs.Prelude.{◌≡◌, ◌≢◌, ℕ, ◌+◌, ◌<◌, ◌≤◌, min, List, [], ◌∷◌, ◌++◌, length, take, drop, get_or, Option, Some, None}
+use Rattle.std.specs.Prelude.{◌≡◌, ◌≢◌, ℕ, ◌<◌, ◌≤◌, List, [], ◌∷◌, ◌++◌, length, take, drop, get_or, Option, Some, None}
 use Rattle.httparse.specs.Ascii.{line_feed}
-use Rattle.httparse.specs.Grammar.{LineEnd, lf, print_blank, RequestHead, ReadsRequest, NeverHasRequest, print_request}
+use Rattle.httparse.specs.Grammar.{LineEnd, lf, print_blank, RequestHead, ReadsRequest, print_request}
 use Rattle.httparse.specs.Spans.{IsWithin, span_bytes}
-use Rattle.httparse.specs.declared.spans.Span.{Span}
-use Rattle.ee_wire_framing.specs.declared.fields.Values.{Values}
-use Rattle.ee_wire_framing.specs.declared.fields.Values.TheVariants as values
 use Rattle.ee_wire_framing.specs.declared.head.Head.{Head}
 use Rattle.ee_wire_framing.specs.declared.head.Lines.{Lines}
 use Rattle.ee_wire_framing.specs.declared.head.Lines.TheVariants as lines
-use Rattle.ee_wire_framing.specs.declared.head.Verdict.{Verdict}
-use Rattle.ee_wire_framing.specs.declared.head.Verdict.TheVariants.{Found, Bad, Partial}
 use Rattle.ee_wire_framing.specs.declared.front.Progress.{Progress}
 use Rattle.ee_wire_framing.specs.declared.front.Progress.TheVariants as progress
-use Rattle.ee_wire_framing.specs.Framing.{most_head, HasBadHead, IsUndecided, body_length_of, asks_to_close}
-
--- the bytes end with a line feed
-abbrev pub IsLines : List ℕ → Type 0
-IsLines bytes = (front : List ℕ) × (bytes ≡ front ++ line_feed ∷ [])
+use Rattle.ee_wire_framing.specs.Framing.{most_head, body_length_of, asks_to_close}
 
 -- the bytes begin with the head h, and `found` is its summary
 pub record IsHeadAt (bytes : List ℕ) (found : Head) (h : RequestHead) : Type 0 where
@@ -62,31 +53,7 @@ pub record AreLinesUpTo (bytes : List ℕ) (tested : Lines) (n : ℕ) : Type 0 w
   pub limit : n ≤ most_head
   pub none : IsLastLineFeed bytes (length_of tested) n None
 
--- `httparse` calls the lines a head, bad, or partial
-abbrev pub Judges : List ℕ → Verdict → Type 0
-Judges lines (Found found) = (h : RequestHead) × IsHeadAt lines found h
-Judges lines Bad = NeverHasRequest lines
-Judges lines (Partial tested) = (length_of tested ≡ length lines) × BeginsLines lines tested
-
--- what the bytes begin with
-abbrev pub Finds : List ℕ → Verdict → Type 0
-Finds bytes (Found found) = (h : RequestHead) × IsHeadAt bytes found h × (found.len ≤ most_head)
-Finds bytes Bad = HasBadHead bytes
-Finds bytes (Partial tested) = IsUndecided bytes × AreLinesUpTo bytes tested (min (length bytes) most_head)
-
 -- what earlier tests found in the bytes: lines within the first n bytes, or a head
 abbrev pub Knows : List ℕ → Progress → Type 0
 Knows bytes (progress.Tested tested n) = AreLinesUpTo bytes tested n
 Knows bytes (progress.Found found) = (h : RequestHead) × IsHeadAt bytes found h × (found.len ≤ most_head)
-
--- the values that were found for a name
-abbrev pub AreValues : List ℕ → List (List ℕ) → Values → Type 0
-AreValues lines vs values.None = vs ≡ []
-AreValues lines vs (values.One s) = IsWithin (length lines) s × (vs ≡ span_bytes lines s ∷ [])
-AreValues lines vs values.Many = 2 ≤ length vs
-
--- one more value
-abbrev pub next : Values → Span → Values
-next values.None s = values.One s
-next (values.One t) s = values.Many
-next values.Many s = values.Many

@@ -1,7 +1,8 @@
 //! Reading messages from a reader, however it cuts the bytes.
 ghost use Rattle.std.specs.Prelude.{◌≡◌, ◌≤◌, ◌<◌, ◌+◌, [], length, take, drop, slice_range, IfSome, IfErr, Some, None};
 ghost use Rattle.ee_wire_framing.specs.Framing.{most_head, most_body, most_held};
-ghost use Rattle.ee_wire_framing.specs.Reading.{Answers, Takes, Settles, IsFront, ReadsMore, NeedsMore, EndsAt, stop_of, answer_of};
+ghost use Rattle.ee_wire_framing.specs.Reading.{Answers, Takes, Settles, NeedsMore, stop_of, answer_of};
+ghost use Rattle.ee_wire_framing.specs.Inner.Reading.{IsFront, ReadsMore, EndsAt};
 
 use crate::front::{Front, Progress, judge_front, learn, read_front};
 use crate::head::Lines;

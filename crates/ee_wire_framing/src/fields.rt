@@ -3,7 +3,7 @@ ghost use Rattle.std.specs.Prelude.{◌≡◌, ◌+◌, length, map, All, if◌t
 ghost use Rattle.std.specs.Char.{is_ascii_digit, digit_value};
 ghost use Rattle.httparse.specs.Spans.{IsHeaderWithin, header_bytes};
 ghost use Rattle.ee_wire_framing.specs.Framing.{most_body, same_word, values_of, checked_length, body_length, has_close};
-ghost use Rattle.ee_wire_framing.specs.Heads.{AreValues, next};
+ghost use Rattle.ee_wire_framing.specs.Inner.Heads.{AreValues, next};
 
 use crate::{BODY_LIMIT, FramingFault, HEADER_LIMIT};
 use httparse::spans::{HeaderSpan, Span};

@@ -2,8 +2,9 @@
 ghost use Rattle.std.specs.Prelude.{◌≤◌};
 ghost use Rattle.httparse.specs.Grammar.{RequestHead};
 ghost use Rattle.ee_wire_framing.specs.Framing.{most_head};
-ghost use Rattle.ee_wire_framing.specs.Heads.{IsHeadAt, Finds, Knows};
-ghost use Rattle.ee_wire_framing.specs.Reading.{IsFront};
+ghost use Rattle.ee_wire_framing.specs.Heads.{IsHeadAt, Knows};
+ghost use Rattle.ee_wire_framing.specs.Inner.Heads.{Finds};
+ghost use Rattle.ee_wire_framing.specs.Inner.Reading.{IsFront};
 
 use crate::buffer::Message;
 use crate::head::{Head, Lines, Verdict, find_head};

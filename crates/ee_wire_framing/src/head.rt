@@ -5,18 +5,8 @@ ghost use Rattle.httparse.specs.Grammar.{RequestHead};
 ghost use Rattle.httparse.specs.Pieces.{is_newline};
 ghost use Rattle.httparse.specs.Spans.{IsRequestWithin, IsRequestAt};
 ghost use Rattle.ee_wire_framing.specs.Framing.{most_head};
-ghost use Rattle.ee_wire_framing.specs.Heads.{
-  IsLines,
-  IsHeadAt,
-  AreEmptyLines,
-  AreFieldLines,
-  BeginsLines,
-  length_of,
-  AreLinesUpTo,
-  Judges,
-  Finds,
-  IsLastLineFeed,
-};
+ghost use Rattle.ee_wire_framing.specs.Heads.{IsHeadAt, AreEmptyLines, AreFieldLines, BeginsLines, length_of, AreLinesUpTo, IsLastLineFeed};
+ghost use Rattle.ee_wire_framing.specs.Inner.Heads.{IsLines, Judges, Finds};
 
 use crate::fields::{body_length, has_close};
 use crate::{FramingFault, HEAD_LIMIT, HEADER_ROOM};

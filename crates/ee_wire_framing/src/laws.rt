@@ -1,6 +1,6 @@
 //! Laws of the definitions. The clauses state the laws.
 ghost use Rattle.std.specs.Prelude.{◌≡◌, List, ℕ};
-ghost use Rattle.ee_wire_framing.specs.Reading.{IsFront};
+ghost use Rattle.ee_wire_framing.specs.Inner.Reading.{IsFront};
 ghost use Rattle.ee_wire_framing.specs.Framing.{most_head, most_fields, most_body, most_held, Message, Ending, ending_of, Splits};
 
 use crate::front::{Front, read_front};

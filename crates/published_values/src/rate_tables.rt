@@ -5,7 +5,7 @@ ghost use Rattle.std.specs.Option.{option_copied};
 ghost use Rattle.std.specs.Ordering.{nat_cmp};
 ghost use Rattle.std.specs.BTreeMap.{get};
 ghost use Rattle.ee_units.specs.Calendar.{age_of, period_start};
-ghost use Rattle.published_values.specs.Agreement.{Pays, PaysOf};
+ghost use Rattle.published_values.specs.Inner.Agreement.{Pays, PaysOf};
 
 use crate::published::Published;
 use anyhow::{Context, Result};

@@ -5,8 +5,10 @@ use Rattle.sqlite.specs.State.{State, KeepsCommit}
 use Rattle.ee_store_tables.proofs.Lemmas.Transactions.{begun}
 use Rattle.ee_store_tables.specs.Rows.{Rows}
 use Rattle.ee_store_schema.specs.declared.forms.Form.{Form}
-use Rattle.ee_store_schema.specs.Forms.{HoldsIn, HasForm, HadIn, SeesForm, SeesIn}
-use Rattle.ee_store_schema.specs.Making.{IsBlank, SeesTables, no_tables}
+use Rattle.ee_store_schema.specs.Forms.{HoldsIn, HasForm, HadIn}
+use Rattle.ee_store_schema.specs.Inner.Forms.{SeesForm, SeesIn}
+use Rattle.ee_store_schema.specs.Making.{IsBlank, no_tables}
+use Rattle.ee_store_schema.specs.Inner.Making.{SeesTables}
 
 begun_blank : (old : State) → (IsTrue old.is_open → old.now ≡ old.committed) → IsBlank old → SeesTables (begun old) no_tables
 begun_blank old settled blank is_open = (ap (λ (d : Database). d.schema) (settled is_open) ∙ blank is_open, tt)

@@ -17,7 +17,7 @@ use Rattle.ee_store_tables.proofs.Lemmas.Causes.{cause_then}
 use Rattle.ee_store_schema.specs.declared.faults.OpenFault.{OpenFault}
 use Rattle.ee_store_schema.specs.declared.faults.OpenFault.TheVariants.{StoreFailed}
 use Rattle.ee_store_schema.specs.Faults.{fault_of, IsExcused}
-use Rattle.ee_store_schema.specs.Asking.{IsOneStatement, NeverRefuses, IsNeverRefused}
+use Rattle.ee_store_schema.specs.Inner.Asking.{IsOneStatement, NeverRefuses, IsNeverRefused}
 
 pub never_both : (b : Bool) → b ≡ true → b ≡ false → ⊥
 never_both b on off = let e = sym on ∙ off in cc

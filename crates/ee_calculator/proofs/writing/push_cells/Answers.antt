@@ -2,7 +2,7 @@ use Rattle.std.proofs.Common.{◌≡◌, ◌++◌, get_or, length, sym, ap, ◌�
 use Rattle.std.proofs.lemmas.List.{length-append}
 use Rattle.ee_io.proofs.Lemmas.{flat_map_more}
 use Rattle.ee_calculator.specs.Sheets.{placed}
-use Rattle.ee_calculator.specs.Lines.{cell_of}
+use Rattle.ee_calculator.specs.Inner.Lines.{cell_of}
 use Rattle.ee_calculator.specs.declared.columns.Column.TheVariants as column
 use Rattle.ee_calculator.proofs.Placed.{placed_short}
 use Rattle.ee_calculator.proofs.writing.push_cells.Goals as goal

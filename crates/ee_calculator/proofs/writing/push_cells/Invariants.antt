@@ -1,7 +1,7 @@
 use Rattle.std.proofs.Common.{take, length, ◌≡◌, ◌≤◌, ◌*◌}
 use Rattle.std.specs.List.{flat_map}
 use Rattle.ee_calculator.specs.Sheets.{placed}
-use Rattle.ee_calculator.specs.Lines.{cell_of}
+use Rattle.ee_calculator.specs.Inner.Lines.{cell_of}
 use Rattle.ee_calculator.proofs.writing.push_cells.Given as goal
 
 abbrev pub invariant-loop-column : goal.invariant-loop-column

@@ -1,6 +1,6 @@
 use Rattle.std.proofs.Common.{arith, refl, sym, subst}
 use Rattle.ee_cli_stores.specs.declared.files.Refused.TheVariants as refused
-use Rattle.ee_cli_stores.specs.Faults.{IsLeftOf}
+use Rattle.ee_cli_stores.specs.Inner.Faults.{IsLeftOf}
 use Rattle.ee_cli_stores.proofs.files.left_of.Goals as goal
 
 pub returns-in-Connection : goal.returns-in-Connection

@@ -1,8 +1,8 @@
 use Rattle.std.proofs.Common.{ap, sym, ◌∙◌}
 use Rattle.ee_desk_model.proofs.Lemmas.Maps.{serials_exact, serials_total, map_with_one_more}
 use Rattle.ee_desk_decide.specs.Noted.{held_in}
-use Rattle.ee_desk.specs.Added.{held_row}
-use Rattle.ee_desk_decide.specs.NewRows.{with_row}
+use Rattle.ee_desk.specs.Inner.Added.{held_row}
+use Rattle.ee_desk_decide.specs.Inner.NewRows.{with_row}
 use Rattle.ee_desk.proofs.additions.add_bond.Goals as goal
 
 pub returns-in_ok-insert-clause-ok : goal.returns-in_ok-insert-clause-ok

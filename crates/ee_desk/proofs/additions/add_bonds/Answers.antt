@@ -1,7 +1,7 @@
 use Rattle.std.proofs.Common.{◌∙◌}
 use Rattle.ee_desk_model.proofs.Lemmas.Maps.{serials_exact, serials_total}
 use Rattle.ee_desk_decide.specs.Noted.{held_in}
-use Rattle.ee_desk.specs.Added.{held_row}
+use Rattle.ee_desk.specs.Inner.Added.{held_row}
 use Rattle.ee_desk.proofs.Added.{woven, taken_back}
 use Rattle.ee_desk.proofs.additions.add_bonds.Goals as goal
 

@@ -4,8 +4,8 @@ use Rattle.std.specs.FinMap as finite
 use Rattle.ee_desk_model.specs.Serials.{serial_cmp}
 use Rattle.ee_desk_model.proofs.Lemmas.Maps.{serials_exact, serials_total}
 use Rattle.ee_desk_decide.specs.Noted.{held_in}
-use Rattle.ee_desk.specs.Added.{held_row, with_changes, every_second, is_row, adds_at}
-use Rattle.ee_desk_decide.specs.NewRows.{with_row}
+use Rattle.ee_desk.specs.Inner.Added.{held_row, with_changes, every_second, is_row, adds_at}
+use Rattle.ee_desk_decide.specs.Inner.NewRows.{with_row}
 use Rattle.ee_desk.proofs.Added.{next_turn, fewer_beside, get_beside}
 use Rattle.ee_desk.proofs.additions.add_every_second.Goals as goal
 

@@ -3,7 +3,7 @@ use Rattle.std.specs.FinMap as finite
 use Rattle.ee_units.specs.Spelling.{SerialNumber}
 use Rattle.ee_desk_model.specs.Serials.{serial_cmp}
 use Rattle.ee_desk_decide.specs.Noted.{held_in}
-use Rattle.ee_desk.specs.Added.{held_row, with_changes, every_second, adds_at}
+use Rattle.ee_desk.specs.Inner.Added.{held_row, with_changes, every_second, adds_at}
 use Rattle.ee_desk.proofs.additions.add_every_second.Given as goal
 
 abbrev pub invariant-loop-change : goal.invariant-loop-change

@@ -4,7 +4,7 @@ use Rattle.std.specs.FinMap.{nat_cmp-IsAntisymmetric}
 use Rattle.std.specs.Cmp.{nat_cmp_total}
 use Rattle.ee_desk_model.proofs.Lemmas.Maps.{map_with_one_more}
 use Rattle.ee_desk_decide.specs.Noted.{rates_in}
-use Rattle.ee_desk_decide.specs.NewRows.{rate_row, with_row}
+use Rattle.ee_desk_decide.specs.Inner.NewRows.{rate_row, with_row}
 use Rattle.ee_desk.proofs.additions.add_rate.Goals as goal
 
 pub returns-in_ok-insert-clause-ok : goal.returns-in_ok-insert-clause-ok

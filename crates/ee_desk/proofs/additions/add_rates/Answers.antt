@@ -2,8 +2,8 @@ use Rattle.std.proofs.Common.{ap, sym, ◌∙◌, take}
 use Rattle.std.specs.FinMap.{nat_cmp-IsAntisymmetric}
 use Rattle.std.specs.Cmp.{nat_cmp_total}
 use Rattle.ee_desk_decide.specs.Noted.{rates_in}
-use Rattle.ee_desk_decide.specs.NewRows.{rate_row, with_row}
-use Rattle.ee_desk.specs.Added.{without_changes}
+use Rattle.ee_desk_decide.specs.Inner.NewRows.{rate_row, with_row}
+use Rattle.ee_desk.specs.Inner.Added.{without_changes}
 use Rattle.ee_desk.proofs.Added.{undone, new_take, with_more}
 use Rattle.ee_desk.proofs.additions.add_rates.Goals as goal
 

@@ -1,7 +1,7 @@
 use Rattle.std.proofs.Common.{◌≡◌, take}
 use Rattle.ee_desk_decide.specs.Noted.{rates_in}
-use Rattle.ee_desk_decide.specs.NewRows.{rate_row}
-use Rattle.ee_desk.specs.Added.{with_changes}
+use Rattle.ee_desk_decide.specs.Inner.NewRows.{rate_row}
+use Rattle.ee_desk.specs.Inner.Added.{with_changes}
 use Rattle.ee_desk.proofs.additions.add_rates.Given as goal
 
 abbrev pub invariant-loop-i : goal.invariant-loop-i

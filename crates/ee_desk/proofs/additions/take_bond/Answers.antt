@@ -1,7 +1,7 @@
 use Rattle.std.proofs.Common.{ap, sym, ◌∙◌}
 use Rattle.ee_desk_model.proofs.Lemmas.Maps.{serials_exact, serials_total}
 use Rattle.ee_desk_decide.specs.Noted.{held_in}
-use Rattle.ee_desk.specs.Added.{held_row, without_row}
+use Rattle.ee_desk.specs.Inner.Added.{held_row, without_row}
 use Rattle.ee_desk.proofs.Added.{taken_out}
 use Rattle.ee_desk.proofs.additions.take_bond.Goals as goal
 

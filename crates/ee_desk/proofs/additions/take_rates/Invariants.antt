@@ -1,7 +1,7 @@
 use Rattle.std.proofs.Common.{◌≡◌, drop}
 use Rattle.ee_desk_decide.specs.Noted.{rates_in}
-use Rattle.ee_desk_decide.specs.NewRows.{rate_row}
-use Rattle.ee_desk.specs.Added.{without_changes}
+use Rattle.ee_desk_decide.specs.Inner.NewRows.{rate_row}
+use Rattle.ee_desk.specs.Inner.Added.{without_changes}
 use Rattle.ee_desk.proofs.additions.take_rates.Given as goal
 
 abbrev pub invariant-loop-change : goal.invariant-loop-change

@@ -3,7 +3,7 @@ use Rattle.std.specs.Option.{option_map}
 use Rattle.std.specs.List.{list_any}
 use Rattle.ee_units.specs.Spelling.{SerialNumber}
 use Rattle.ee_desk_model.specs.Serials.{same_serial}
-use Rattle.ee_desk.specs.Marks.{held_at, marked}
+use Rattle.ee_desk.specs.Inner.Marks.{held_at, marked}
 use Rattle.ee_desk.proofs.marks.mark_all.Given as goal
 
 abbrev pub invariant-loop-line : goal.invariant-loop-line

@@ -7,7 +7,7 @@ use Rattle.ee_desk_soundness.specs.Parts.{Parts, AreUnsound}
 use Rattle.ee_desk_soundness.specs.Checks.{parts_in}
 use Rattle.ee_desk_soundness.specs.Made.{IsMadeOf}
 use Rattle.ee_desk.specs.declared.parts.Checked.{Checked}
-use Rattle.ee_desk.specs.Parts.{held_bond}
+use Rattle.ee_desk.specs.Inner.Parts.{held_bond}
 use Rattle.ee_desk.proofs.parts.checked_parts.Goals as goal
 
 pub returns-clause-rows : goal.returns-clause-rows

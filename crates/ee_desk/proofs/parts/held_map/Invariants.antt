@@ -1,5 +1,5 @@
 use Rattle.std.proofs.Common.{◌≡◌, take}
-use Rattle.ee_desk.specs.Marks.{by_serial}
+use Rattle.ee_desk.specs.Inner.Marks.{by_serial}
 use Rattle.ee_desk.proofs.parts.held_map.Given as goal
 
 abbrev pub invariant-loop-held : goal.invariant-loop-held

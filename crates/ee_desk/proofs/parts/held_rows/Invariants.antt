@@ -1,5 +1,5 @@
 use Rattle.std.proofs.Common.{◌≡◌, map, take}
-use Rattle.ee_desk.specs.Parts.{held_bond}
+use Rattle.ee_desk.specs.Inner.Parts.{held_bond}
 use Rattle.ee_desk.proofs.parts.held_rows.Given as goal
 
 abbrev pub invariant-loop-bond : goal.invariant-loop-bond

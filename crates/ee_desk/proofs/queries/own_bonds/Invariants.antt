@@ -1,7 +1,7 @@
 use Rattle.std.proofs.Common.{◌≡◌, ◌++◌}
 use Rattle.std.specs.List.{filter_map}
 use Rattle.std.specs.BTreeMap as tree
-use Rattle.ee_desk.specs.Kept.{own_bond}
+use Rattle.ee_desk.specs.Inner.Kept.{own_bond}
 use Rattle.ee_desk.proofs.queries.own_bonds.Given as goal
 
 abbrev pub invariant-loop-held : goal.invariant-loop-held

@@ -2,7 +2,7 @@ use Rattle.std.proofs.Common.{sym, ◌∙◌}
 use Rattle.ee_calculator.specs.declared.bonds.Bond.{Bond}
 use Rattle.ee_desk_model.specs.Seen.{held_of}
 use Rattle.ee_desk_model.proofs.Lemmas.Maps.{serials_total, serials_exact}
-use Rattle.ee_desk_decide.specs.Noted.{noted}
+use Rattle.ee_desk_decide.specs.Inner.Noted.{noted}
 use Rattle.ee_desk_decide.proofs.Lemmas.{found_for_next_key}
 use Rattle.ee_desk.proofs.seeing.held_of_bonds.Goals as goal
 

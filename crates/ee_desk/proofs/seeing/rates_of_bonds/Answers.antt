@@ -4,7 +4,8 @@ use Rattle.std.specs.Cmp.{nat_cmp_total}
 use Rattle.std.specs.FinMap.{nat_cmp-IsAntisymmetric}
 use Rattle.ee_units.specs.Calendar.{period_start}
 use Rattle.ee_calculator.specs.declared.bonds.Bond.{Bond}
-use Rattle.ee_desk_decide.specs.Noted.{noted, rates_in}
+use Rattle.ee_desk_decide.specs.Noted.{rates_in}
+use Rattle.ee_desk_decide.specs.Inner.Noted.{noted}
 use Rattle.ee_desk_decide.proofs.Lemmas.{found_for_next_key}
 use Rattle.ee_desk.proofs.seeing.rates_of_bonds.Goals as goal
 

@@ -2,7 +2,7 @@ use Rattle.std.proofs.Common.{sym, ◌∙◌}
 use Rattle.std.specs.FinMap as finite
 use Rattle.std.specs.Cmp.{nat_cmp_total}
 use Rattle.std.specs.FinMap.{nat_cmp-IsAntisymmetric}
-use Rattle.ee_desk_decide.specs.Noted.{noted}
+use Rattle.ee_desk_decide.specs.Inner.Noted.{noted}
 use Rattle.ee_desk_decide.proofs.Lemmas.{found_for_next_key}
 use Rattle.ee_desk.proofs.seeing.rates_of_rows.Goals as goal
 

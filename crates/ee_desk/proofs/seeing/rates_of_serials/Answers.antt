@@ -6,7 +6,7 @@ use Rattle.std.specs.Cmp.{nat_cmp_total}
 use Rattle.ee_units.specs.Spelling.{SerialNumber}
 use Rattle.ee_desk_model.specs.Seen.{held_of}
 use Rattle.ee_desk_model.specs.Views.{period_of_held}
-use Rattle.ee_desk_decide.specs.Noted.{noted_at}
+use Rattle.ee_desk_decide.specs.Inner.Noted.{noted_at}
 use Rattle.ee_desk_decide.proofs.Lemmas.{found_for_next_if}
 use Rattle.ee_desk.proofs.seeing.rates_of_serials.Goals as goal
 

@@ -2,7 +2,7 @@ use Rattle.std.proofs.Common.{◌∙◌, rules, ap, arith}
 use Rattle.std.specs.Prelude.{option_and_then}
 use Rattle.ee_units.specs.Spelling.{in_range, is_number, number_of}
 use Rattle.ee_units.proofs.Lemmas.{parse_gives_number}
-use Rattle.ee_desk_model.specs.Desks.{is_desk}
+use Rattle.ee_desk_model.specs.Inner.Desks.{is_desk}
 use Rattle.ee_desk_model.proofs.desks.read_desk.Goals as goal
 
 pub returns-then-is_desk : goal.returns-then-is_desk

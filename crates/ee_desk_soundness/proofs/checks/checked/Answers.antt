@@ -3,7 +3,8 @@ use Rattle.std.specs.Result.{IfErr}
 use Rattle.std.proofs.lemmas.Result.{IfErr-weaker}
 use Rattle.ee_desk_soundness.specs.declared.faults.PartsFault.TheVariants.{Unsound}
 use Rattle.ee_desk_soundness.specs.Marks.{bond_of}
-use Rattle.ee_desk_soundness.specs.Checks.{parts_in, IsRegister, AreClosed}
+use Rattle.ee_desk_soundness.specs.Checks.{parts_in}
+use Rattle.ee_desk_soundness.specs.Inner.Checks.{IsRegister, AreClosed}
 use Rattle.ee_desk_soundness.proofs.Making.{small, marks_right, made_is, not_paid, not_register, not_closed}
 use Rattle.ee_desk_soundness.proofs.checks.checked.Goals as goal
 

@@ -1,6 +1,6 @@
 use Rattle.std.proofs.Common.{◌↔◌, drop}
 use Rattle.std.specs.List.{AllByRecursion}
-use Rattle.ee_desk_soundness.specs.Days.{IsCounted}
+use Rattle.ee_desk_soundness.specs.Inner.Days.{IsCounted}
 use Rattle.ee_desk_soundness.proofs.days.are_counted.Given as goal
 
 abbrev pub invariant-loop-batch : goal.invariant-loop-batch

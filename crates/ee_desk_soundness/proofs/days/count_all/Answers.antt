@@ -1,6 +1,6 @@
 use Rattle.std.proofs.Common.{◌≡◌, true, rules, subst}
 use Rattle.std.proofs.lemmas.List.{take_all}
-use Rattle.ee_desk_soundness.specs.Days.{counts_at, HasRoom, FitCounts}
+use Rattle.ee_desk_soundness.specs.Inner.Days.{counts_at, HasRoom, FitCounts}
 use Rattle.ee_desk_soundness.proofs.Counts.{no_room, space, known_more, few_more, counts_more}
 use Rattle.ee_desk_soundness.proofs.days.count_all.Goals as goal
 

@@ -2,7 +2,7 @@ use Rattle.std.proofs.Common.{◌≡◌, ◌==◌, ℕ, ◌≤◌, take}
 use Rattle.std.specs.Prelude.{count_by}
 use Rattle.std.specs.Option.{IsSome, option_map}
 use Rattle.std.specs.List.{AllByRecursion}
-use Rattle.ee_desk_soundness.specs.Days.{counts_at, counts_on}
+use Rattle.ee_desk_soundness.specs.Inner.Days.{counts_at, counts_on}
 use Rattle.ee_desk_soundness.proofs.days.count_all.Given as goal
 
 abbrev pub invariant-loop-ticket : goal.invariant-loop-ticket

@@ -1,5 +1,5 @@
 use Rattle.std.proofs.Common.{◌≡◌, true, rules}
-use Rattle.ee_desk_soundness.specs.Days.{days_of}
+use Rattle.ee_desk_soundness.specs.Inner.Days.{days_of}
 use Rattle.ee_desk_soundness.proofs.Counts.{nothing_at, fit_on, fit_back, all_counted}
 use Rattle.ee_desk_soundness.proofs.days.counts_of.Goals as goal
 

@@ -2,7 +2,7 @@ use Rattle.std.proofs.Common.{◌≡◌, ◌↔◌, ◌<◌, true, List, [], dro
 use Rattle.ee_desk_model.specs.declared.replies.Batch.{Batch}
 use Rattle.std.proofs.lemmas.List.{drop_all}
 use Rattle.ee_desk_soundness.specs.Checks.{InOrder}
-use Rattle.ee_desk_soundness.specs.Days.{days_of}
+use Rattle.ee_desk_soundness.specs.Inner.Days.{days_of}
 use Rattle.ee_desk_soundness.proofs.InOrder.{Follows, below_on, ordered_on, open_follows}
 use Rattle.ee_desk_soundness.proofs.days.days_rise.Goals as goal
 

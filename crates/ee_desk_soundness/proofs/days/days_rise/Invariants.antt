@@ -1,6 +1,6 @@
 use Rattle.std.proofs.Common.{◌↔◌, ◌<◌, drop}
 use Rattle.ee_desk_soundness.specs.Checks.{InOrder}
-use Rattle.ee_desk_soundness.specs.Days.{days_of}
+use Rattle.ee_desk_soundness.specs.Inner.Days.{days_of}
 use Rattle.ee_desk_soundness.proofs.InOrder.{Follows}
 use Rattle.ee_desk_soundness.proofs.days.days_rise.Given as goal
 

@@ -1,6 +1,6 @@
 use Rattle.std.proofs.Common.{map, take}
 use Rattle.ee_desk_model.specs.Sound.{day_of_batch}
-use Rattle.ee_desk_soundness.specs.Days.{AreNothing}
+use Rattle.ee_desk_soundness.specs.Inner.Days.{AreNothing}
 use Rattle.ee_desk_soundness.proofs.days.empty_counts.Given as goal
 
 abbrev pub invariant-loop-batch : goal.invariant-loop-batch

@@ -1,7 +1,7 @@
 use Rattle.std.proofs.Common.{drop}
 use Rattle.std.specs.List.{AllByRecursion}
 use Rattle.ee_desk_model.specs.Sound.{IsDay}
-use Rattle.ee_desk_soundness.specs.Days.{days_of}
+use Rattle.ee_desk_soundness.specs.Inner.Days.{days_of}
 use Rattle.ee_desk_soundness.proofs.days.in_range.Given as goal
 
 abbrev pub invariant-loop-batch : goal.invariant-loop-batch

@@ -1,6 +1,6 @@
 use Rattle.std.proofs.Common.{◌↔◌, drop}
 use Rattle.std.specs.List.{AllByRecursion}
-use Rattle.ee_desk_soundness.specs.Checks.{IsWhole}
+use Rattle.ee_desk_soundness.specs.Inner.Checks.{IsWhole}
 use Rattle.ee_desk_soundness.proofs.lines.are_whole.Given as goal
 
 abbrev pub invariant-loop-ticket : goal.invariant-loop-ticket

@@ -2,7 +2,7 @@ use Rattle.std.proofs.Common.{ap, ◌∙◌}
 use Rattle.std.specs.List.{AllByRecursion}
 use Rattle.std.specs.BTreeMap.{insert_entry}
 use Rattle.std.specs.Ordering.{nat_cmp}
-use Rattle.ee_desk_soundness.specs.Checks.{IsRightRow}
+use Rattle.ee_desk_soundness.specs.Inner.Checks.{IsRightRow}
 use Rattle.ee_desk_soundness.proofs.Walks.{all_on}
 use Rattle.ee_desk_soundness.proofs.Entries.{rates_more}
 use Rattle.ee_desk_soundness.proofs.register.terms_by_month.Goals as goal

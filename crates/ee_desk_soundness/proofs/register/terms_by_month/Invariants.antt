@@ -1,6 +1,7 @@
 use Rattle.std.proofs.Common.{◌≡◌, ◌↔◌, map, take, drop}
 use Rattle.std.specs.List.{AllByRecursion}
-use Rattle.ee_desk_soundness.specs.Checks.{IsRightRow, entry_of_row}
+use Rattle.ee_desk_soundness.specs.Checks.{entry_of_row}
+use Rattle.ee_desk_soundness.specs.Inner.Checks.{IsRightRow}
 use Rattle.ee_desk_soundness.proofs.register.terms_by_month.Given as goal
 
 abbrev pub invariant-loop-row : goal.invariant-loop-row

@@ -1,7 +1,7 @@
 use Rattle.std.proofs.Common.{◌↔◌, drop}
 use Rattle.std.specs.List.{AllByRecursion}
 use Rattle.std.specs.FinMap as finite
-use Rattle.ee_desk_soundness.specs.Checks.{IsRightlyPaid}
+use Rattle.ee_desk_soundness.specs.Inner.Checks.{IsRightlyPaid}
 use Rattle.ee_desk_soundness.proofs.rows.are_rightly_paid.Given as goal
 
 abbrev pub invariant-loop-held : goal.invariant-loop-held

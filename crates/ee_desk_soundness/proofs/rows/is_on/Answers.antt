@@ -3,7 +3,7 @@ use Rattle.std.specs.Option.{IsSomeAnd}
 use Rattle.std.specs.FinMap as finite
 use Rattle.ee_desk_model.specs.declared.replies.Line.{Line}
 use Rattle.ee_desk_model.specs.Serials.{same_serial}
-use Rattle.ee_desk_soundness.specs.Checks.{PaysBond}
+use Rattle.ee_desk_soundness.specs.Inner.Checks.{PaysBond}
 use Rattle.ee_desk_soundness.proofs.rows.is_on.Goals as goal
 
 pub returns-in-Some : goal.returns-in-Some

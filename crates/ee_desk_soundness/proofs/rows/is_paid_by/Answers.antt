@@ -6,7 +6,7 @@ use Rattle.std.specs.FinMap.{FinMap}
 use Rattle.ee_value.specs.declared.rates.Rates.{Rates}
 use Rattle.ee_calculator.specs.declared.bonds.Bond.{Bond}
 use Rattle.ee_desk_model.specs.declared.replies.Ticket.{Ticket}
-use Rattle.ee_desk_soundness.specs.Checks.{IsOn, IsPaidBy}
+use Rattle.ee_desk_soundness.specs.Inner.Checks.{IsOn, IsPaidBy}
 use Rattle.ee_desk_soundness.proofs.Places.{not_numbered, numbered_at}
 use Rattle.ee_desk_soundness.proofs.rows.is_paid_by.Goals as goal
 

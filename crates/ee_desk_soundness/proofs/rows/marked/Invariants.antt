@@ -1,6 +1,6 @@
 use Rattle.std.proofs.Common.{◌≡◌, take}
 use Rattle.std.specs.Prelude.{count_by}
-use Rattle.ee_desk_soundness.specs.Marks.{is_marked}
+use Rattle.ee_desk_soundness.specs.Inner.Marks.{is_marked}
 use Rattle.ee_desk_soundness.proofs.rows.marked.Given as goal
 
 abbrev pub invariant-loop-held : goal.invariant-loop-held

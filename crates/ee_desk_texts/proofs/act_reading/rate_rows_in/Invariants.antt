@@ -1,7 +1,7 @@
 use Rattle.std.proofs.Common.{◌≡◌, ◌++◌, drop, Some}
 use Rattle.json.specs.Value.{items_view}
 use Rattle.ee_units.specs.Spelling.{◌>>=◌}
-use Rattle.ee_desk_texts.specs.Reading.{each, rate_row_of}
+use Rattle.ee_desk_texts.specs.Inner.Reading.{each, rate_row_of}
 use Rattle.ee_desk_texts.proofs.act_reading.rate_rows_in.Given as goal
 
 abbrev pub invariant-loop-value : goal.invariant-loop-value

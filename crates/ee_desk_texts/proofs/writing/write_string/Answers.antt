@@ -2,7 +2,7 @@ use Rattle.std.proofs.Common.{rules, ◌++◌, ◌∙◌, ap, subst}
 use Rattle.std.proofs.lemmas.Option.{IfSome_then}
 use Rattle.std.proofs.lemmas.Fmt.{contents_after_writes}
 use Rattle.serde_json.specs.Data.{string}
-use Rattle.ee_desk_texts.specs.Writing.{AddsData}
+use Rattle.ee_desk_texts.specs.Inner.Writing.{AddsData}
 use Rattle.ee_desk_texts.proofs.writing.write_string.Goals as goal
 
 pub returns-in-Ok : goal.returns-in-Ok

@@ -3,7 +3,7 @@ use Rattle.std.specs.List.{flat_map}
 use Rattle.csv.specs.Writing.{row_text, default_writer, text_written}
 use Rattle.ee_files.specs.BondFile.{bond_columns, bond_fields}
 use Rattle.ee_files.specs.Rows.{header_of}
-use Rattle.ee_files.specs.WriterState.{IsBetweenRows}
+use Rattle.ee_files.specs.Inner.WriterState.{IsBetweenRows}
 use Rattle.ee_files.proofs.export.inventory_bytes.Given as goal
 
 -- the header and a line for each bond so far

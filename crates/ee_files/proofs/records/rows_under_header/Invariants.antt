@@ -1,6 +1,6 @@
 use Rattle.std.proofs.Common.{◌≡◌, ◌+◌, ◌-◌, List, ℕ, length}
 use Rattle.ee_files.specs.Rows.{rows_from}
-use Rattle.ee_files.specs.Left.{HasLeft}
+use Rattle.ee_files.specs.Inner.Left.{HasLeft}
 use Rattle.ee_files.proofs.Entries.{with_front}
 use Rattle.ee_files.proofs.records.rows_under_header.Given as goal
 

@@ -1,6 +1,6 @@
 use Rattle.std.proofs.Common.{◌≡◌, ◌-◌, List, ℕ}
 use Rattle.csv.specs.Reading.{default_config, records, strip_bom}
-use Rattle.ee_files.specs.Left.{HasLeft}
+use Rattle.ee_files.specs.Inner.Left.{HasLeft}
 use Rattle.ee_files.specs.Showing.{record_after}
 use Rattle.ee_files.proofs.showing.record_at.Given as goal
 

@@ -1,5 +1,5 @@
 use Rattle.std.proofs.Common.{rules, ◌≡◌, Some}
-use Rattle.ee_store_contents.specs.Reading.{each, days_in, rates_in, tickets_in, batch_in}
+use Rattle.ee_store_contents.specs.Inner.Reading.{each, days_in, rates_in, tickets_in, batch_in}
 use Rattle.ee_store_schema.specs.Forms.{version_of}
 use Rattle.ee_store_contents.proofs.FoundParts.{parts_found}
 use Rattle.ee_store_contents.proofs.contents.parts_in.Goals as goal

@@ -10,7 +10,8 @@ use Rattle.ee_store_load.specs.Whole.{AreRead}
 use Rattle.ee_store_load.specs.declared.whole.AllRows.{AllRows}
 use Rattle.ee_store_books.specs.Standing.{StandAt}
 use Rattle.ee_store_schema.specs.Forms.{version_of}
-use Rattle.ee_store_contents.specs.Contents.{KeepsAnswer, parts_of_read}
+use Rattle.ee_store_contents.specs.Contents.{KeepsAnswer}
+use Rattle.ee_store_contents.specs.Inner.Contents.{parts_of_read}
 use Rattle.ee_store_contents.specs.declared.contents.ContentFault.{ContentFault}
 use Rattle.ee_store_contents.specs.declared.contents.ContentFault.TheVariants.{Unusable}
 use Rattle.ee_store_contents.proofs.Founded.{same_parts, no_parts, not_kept, not_sound, tables_founded}

@@ -2,7 +2,7 @@ use Rattle.std.proofs.Common.{rules, ◌≡◌, ◌==◌, false, List, [], ◌�
 use Rattle.std.proofs.lemmas.List.{drop_all}
 use Rattle.ee_units.specs.Spelling.{◌>>=◌}
 use Rattle.ee_store_load.specs.declared.entries.StoredRate.{StoredRate}
-use Rattle.ee_store_contents.specs.Reading.{rates_in}
+use Rattle.ee_store_contents.specs.Inner.Reading.{rates_in}
 use Rattle.ee_store_contents.proofs.rates.rates_in.Goals as goal
 
 left_over : (rest : List StoredRate) → (length rest == 0) ≡ false → rates_in [] rest ≡ None

@@ -1,6 +1,6 @@
 use Rattle.std.proofs.Common.{◌≡◌, ◌+◌, ◌++◌, drop, Some}
 use Rattle.ee_units.specs.Spelling.{◌>>=◌}
-use Rattle.ee_store_contents.specs.Reading.{lines_at}
+use Rattle.ee_store_contents.specs.Inner.Reading.{lines_at}
 use Rattle.ee_store_contents.proofs.tickets.lines_in.Given as goal
 
 abbrev pub invariant-loop-i : goal.invariant-loop-i

@@ -6,7 +6,7 @@ use Rattle.ee_desk_texts.specs.Texts.{act_text, reply_text}
 use Rattle.ee_store_tables.specs.Rows.{Sees, ReplyRow, with_answer, FitsRow}
 use Rattle.ee_store_tables.proofs.Lemmas.Transactions.{clean_before}
 use Rattle.ee_store_books.specs.Standing.{rows_of, reply_row}
-use Rattle.ee_store_delivery.specs.Written.{applied_rows, CanWriteAll, all_added_rows}
+use Rattle.ee_store_delivery.specs.Inner.Written.{applied_rows, CanWriteAll, all_added_rows}
 use Rattle.ee_store_delivery.proofs.Served.{is_decided}
 use Rattle.ee_store_books.proofs.Lemmas.Lookups.{handed_on, excused_later, leaves_then}
 use Rattle.ee_store_delivery.proofs.Writable.{can_write, answers_stay}

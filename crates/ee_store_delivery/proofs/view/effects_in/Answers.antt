@@ -3,7 +3,7 @@ use Rattle.ee_desk_model.specs.declared.changes.Effects.{Effects}
 use Rattle.ee_desk_model.specs.Effects.{effects_of}
 use Rattle.ee_desk_model.specs.Views.{PlainView, shown_by}
 use Rattle.ee_desk_model.proofs.Lemmas.Books.{needed_enough}
-use Rattle.ee_store_delivery.specs.Written.{all_added_rows}
+use Rattle.ee_store_delivery.specs.Inner.Written.{all_added_rows}
 use Rattle.ee_store_delivery.proofs.NeededDays.{needed_day}
 use Rattle.ee_store_delivery.proofs.Writable.{few_rows}
 use Rattle.ee_store_delivery.proofs.view.effects_in.Goals as goal

@@ -1,7 +1,7 @@
 use Rattle.std.proofs.Common.{◌≡◌, Some, map, length, take}
 use Rattle.std.specs.Prelude.{All}
 use Rattle.ee_store_tables.specs.AsRows.{FitsUnpaid, entry_of_unpaid}
-use Rattle.ee_store_delivery.specs.Written.{added_entry}
+use Rattle.ee_store_delivery.specs.Inner.Written.{added_entry}
 use Rattle.ee_store_delivery.proofs.writing.first_bonds.Given as goal
 
 -- the changes before this one are bonds that have these rows

@@ -2,8 +2,8 @@ use Rattle.std.proofs.Common.{OnOk, sym, subst}
 use Rattle.sqlite.specs.Held.{state}
 use Rattle.sqlite.specs.State.{HasCleanDisk}
 use Rattle.ee_store_tables.specs.Rows.{Rows, Sees, HasRoom}
-use Rattle.ee_store_delivery.specs.Written.{changed_rows, CanWrite, added_rows}
-use Rattle.ee_store_delivery.specs.Causes.{LeavesRoom}
+use Rattle.ee_store_delivery.specs.Inner.Written.{changed_rows, CanWrite, added_rows}
+use Rattle.ee_store_delivery.specs.Inner.Causes.{LeavesRoom}
 use Rattle.ee_store_delivery.proofs.writing.write_change.Goals as goal
 
 pub returns-in-Rates-clause-written : goal.returns-in-Rates-clause-written

@@ -7,7 +7,7 @@ use Rattle.ee_store_tables.specs.Rows.{Sees, with_bonds}
 use Rattle.ee_store_tables.proofs.Lemmas.Transactions.{clean_before}
 use Rattle.ee_store_tables.proofs.Lemmas.Causes.{room_less}
 use Rattle.ee_store_books.proofs.Lemmas.Lookups.{statement_failed, excused_later}
-use Rattle.ee_store_delivery.specs.Written.{applied_rows, CanWriteAll, all_added_rows}
+use Rattle.ee_store_delivery.specs.Inner.Written.{applied_rows, CanWriteAll, all_added_rows}
 use Rattle.ee_store_delivery.proofs.Together.{AreEntries, bonds_first, rows_first, can_together}
 use Rattle.ee_store_delivery.proofs.writing.write_changes.Goals as goal
 

@@ -7,7 +7,7 @@ use Rattle.ee_store_tables.specs.Rows.{Sees, HasRoom}
 use Rattle.ee_store_tables.proofs.Lemmas.Transactions.{clean_before}
 use Rattle.ee_store_tables.proofs.Lemmas.Causes.{room_less}
 use Rattle.ee_store_tables.specs.Statements.{IsExcused}
-use Rattle.ee_store_delivery.specs.Written.{applied_rows, changed_rows, CanWriteAll, added_rows, all_added_rows}
+use Rattle.ee_store_delivery.specs.Inner.Written.{applied_rows, changed_rows, CanWriteAll, added_rows, all_added_rows}
 use Rattle.ee_store_books.proofs.Lemmas.Lookups.{excused_later, nothing_done, done_then, handed_on}
 use Rattle.ee_store_delivery.proofs.writing.write_each.Goals as goal
 

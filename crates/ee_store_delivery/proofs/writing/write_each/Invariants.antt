@@ -2,7 +2,7 @@ use Rattle.std.proofs.Common.{◌≡◌, ℕ, ◌+◌, drop}
 use Rattle.sqlite.specs.Held.{state}
 use Rattle.sqlite.specs.State.{HasCleanDisk}
 use Rattle.ee_store_tables.specs.Rows.{Rows, Sees, IsInside, HasRoom}
-use Rattle.ee_store_delivery.specs.Written.{applied_rows, CanWriteAll, all_added_rows}
+use Rattle.ee_store_delivery.specs.Inner.Written.{applied_rows, CanWriteAll, all_added_rows}
 use Rattle.ee_store_books.proofs.Lemmas.Lookups.{Stays}
 use Rattle.ee_store_delivery.proofs.writing.write_each.Given as goal
 

@@ -2,7 +2,7 @@ use Rattle.std.proofs.Common.{ℕ, Option, sym, subst}
 use Rattle.sqlite.specs.Held.{state}
 use Rattle.std.proofs.lemmas.Result.{on_ok_weaker}
 use Rattle.ee_store_tables.specs.Rows.{Sees, with_extension}
-use Rattle.ee_store_delivery.specs.Written.{with_named}
+use Rattle.ee_store_delivery.specs.Inner.Written.{with_named}
 use Rattle.ee_store_delivery.proofs.writing.write_extension.Goals as goal
 
 pub returns-in-None-clause-written : goal.returns-in-None-clause-written

@@ -6,7 +6,7 @@ use Rattle.ee_store_tables.proofs.Lemmas.Transactions.{clean_before}
 use Rattle.ee_store_tables.proofs.Lemmas.Causes.{room_less}
 use Rattle.std.proofs.lemmas.Result.{on_ok_weaker, IfErr-weaker}
 use Rattle.ee_store_books.proofs.Lemmas.Lookups.{statement_failed, excused_later}
-use Rattle.ee_store_delivery.specs.Written.{with_named}
+use Rattle.ee_store_delivery.specs.Inner.Written.{with_named}
 use Rattle.ee_store_delivery.proofs.writing.write_terms.Goals as goal
 
 pub returns-clause-writes_inside : goal.returns-clause-writes_inside

@@ -2,8 +2,8 @@ use Rattle.std.proofs.Common.{rules, arith, ◌≡◌, ◌+◌, ◌-◌, ◌<◌
 use Rattle.std.proofs.lemmas.Bool.{false≢true, cases_lt}
 use Rattle.sqlite_wal.specs.Reads.{IsClean}
 use Rattle.sqlite_wal.specs.Recovery.{frame_at}
-use Rattle.ee_store_files.specs.Damage.{IsFrameAt}
-use Rattle.ee_store_files.specs.Opening.{IsLongFor}
+use Rattle.ee_store_files.specs.Inner.Damage.{IsFrameAt}
+use Rattle.ee_store_files.specs.Inner.Opening.{IsLongFor}
 use Rattle.ee_store_files.proofs.Failing.{frames_before}
 use Rattle.ee_store_files.proofs.Frames.{count_at, counts_none}
 use Rattle.ee_store_files.proofs.damage.finds_count.Goals as goal

@@ -1,6 +1,6 @@
 use Rattle.std.proofs.Common.{◌≡◌, ◌+◌, ◌<◌, ℕ, length}
 use Rattle.sqlite_wal.specs.Reads.{IsClean, OnlyReads}
-use Rattle.ee_store_files.specs.Damage.{IsFrameAt}
+use Rattle.ee_store_files.specs.Inner.Damage.{IsFrameAt}
 use Rattle.ee_store_files.proofs.Frames.{AreUncounted}
 use Rattle.ee_store_files.proofs.damage.finds_count.Given as goal
 

@@ -3,7 +3,7 @@ use Rattle.std.proofs.lemmas.Bool.{and_parts}
 use Rattle.std.proofs.lemmas.Result.{IfOk-weaker}
 use Rattle.sqlite_wal.specs.PageSize.{bytes_of}
 use Rattle.sqlite.specs.Files.{image_of}
-use Rattle.ee_store_files.specs.Damage.{IsLateCountAt}
+use Rattle.ee_store_files.specs.Inner.Damage.{IsLateCountAt}
 use Rattle.ee_store_files.proofs.Frames.{counts_behind}
 use Rattle.ee_store_files.proofs.damage.has_count_behind.Goals as goal
 

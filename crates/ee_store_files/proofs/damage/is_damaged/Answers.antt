@@ -5,7 +5,8 @@ use Rattle.sqlite_wal.specs.Format.{be32, IsSigned}
 use Rattle.sqlite_wal.specs.Recovery.{header, Replays}
 use Rattle.sqlite_wal.specs.PageSize.{bytes_of}
 use Rattle.sqlite.specs.Files.{image_of}
-use Rattle.ee_store_files.specs.Damage.{AreNumbersOf, IsWrongAt}
+use Rattle.ee_store_files.specs.Damage.{IsWrongAt}
+use Rattle.ee_store_files.specs.Inner.Damage.{AreNumbersOf}
 use Rattle.ee_store_files.proofs.Failing.{fails_beside, fails_wider, foreign_if, log_fails, replayed_within, too_long}
 use Rattle.ee_store_files.proofs.Frames.{not_begun, named_by, numbers_of, damaged_if}
 use Rattle.ee_store_files.proofs.damage.is_damaged.Goals as goal

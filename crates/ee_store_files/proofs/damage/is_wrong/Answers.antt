@@ -2,7 +2,8 @@ use Rattle.std.proofs.Common.{◌∙◌, List, ℕ, length, refl, sym, subst, in
 use Rattle.std.proofs.lemmas.Bool.{false≢true, iff_false, and_parts, and_from}
 use Rattle.std.proofs.lemmas.Result.{IfOk-weaker}
 use Rattle.sqlite_wal.specs.PageSize.{bytes_of}
-use Rattle.ee_store_files.specs.Damage.{AreNumbersOf, HasTwoMore, HasCountBehind}
+use Rattle.ee_store_files.specs.Damage.{HasTwoMore, HasCountBehind}
+use Rattle.ee_store_files.specs.Inner.Damage.{AreNumbersOf}
 use Rattle.ee_store_files.proofs.damage.is_wrong.Goals as goal
 
 pub returns-then-branch-clause-ok : goal.returns-then-branch-clause-ok

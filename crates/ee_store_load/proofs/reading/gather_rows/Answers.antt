@@ -8,7 +8,7 @@ use Rattle.sqlite.proofs.StateLemmas.{survives_then}
 use Rattle.sqlite.proofs.Callers.{given_begin, unchanged_then}
 use Rattle.ee_store_tables.proofs.Lemmas.Transactions.{query_keeps}
 use Rattle.ee_store_schema.specs.Faults.{IsExcused}
-use Rattle.ee_store_schema.specs.Asking.{IsNeverRefused}
+use Rattle.ee_store_schema.specs.Inner.Asking.{IsNeverRefused}
 use Rattle.ee_store_schema.proofs.Lemmas.Faults.{query_usable, told_as, handed_on}
 use Rattle.ee_store_load.proofs.TestLemmas.{shown_more}
 use Rattle.ee_store_schema.proofs.Lemmas.Causes.{query_excused}

@@ -6,7 +6,7 @@ use Rattle.sqlite.specs.Held.{state}
 use Rattle.sqlite.specs.Given.{IsPlain}
 use Rattle.sqlite.specs.Listing.{understood}
 use Rattle.ee_store_schema.specs.Faults.{IsExcused}
-use Rattle.ee_store_schema.specs.Asking.{IsNeverRefused}
+use Rattle.ee_store_schema.specs.Inner.Asking.{IsNeverRefused}
 use Rattle.ee_store_schema.proofs.Lemmas.Causes.{excused_if_open}
 use Rattle.ee_store_schema.proofs.Lemmas.Faults.{handed_on}
 use Rattle.ee_store_load.proofs.ScanLemmas.{is_plain, answers, shows_all, unreadable}

@@ -6,7 +6,7 @@ use Rattle.ee_store_tables.specs.Keyed.{HoldsPairs}
 use Rattle.ee_store_tables.specs.Rows.{paid_columns}
 use Rattle.ee_store_tables.proofs.Lemmas.Transactions.{clean_before}
 use Rattle.ee_store_load.specs.declared.entries.Rowid.{Rowid}
-use Rattle.ee_store_load.specs.Reading.{ShowsAll}
+use Rattle.ee_store_load.specs.Inner.Reading.{ShowsAll}
 use Rattle.ee_store_schema.specs.Forms.{schema_of}
 use Rattle.ee_store_load.proofs.AskLemmas.{only_lines, only_line_rowids}
 use Rattle.ee_store_load.proofs.QuestionLemmas.{by_key, by_pair, line_terms, rowid_terms, asks_lines, asks_line_rowids}

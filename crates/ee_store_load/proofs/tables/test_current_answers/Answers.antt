@@ -7,7 +7,7 @@ use Rattle.ee_store_tables.specs.Keyed.{pair_cmp, HoldsPairs}
 use Rattle.ee_store_tables.specs.Rows.{reply_columns}
 use Rattle.ee_store_tables.proofs.Lemmas.Transactions.{clean_before}
 use Rattle.ee_store_load.specs.declared.entries.Rowid.{Rowid}
-use Rattle.ee_store_load.specs.Reading.{ShowsAll}
+use Rattle.ee_store_load.specs.Inner.Reading.{ShowsAll}
 use Rattle.ee_store_load.specs.Shown.{answer_map}
 use Rattle.ee_store_tables.specs.Tables.{counter_schema}
 use Rattle.ee_store_schema.specs.declared.forms.Form.TheVariants.{Current}

@@ -1,5 +1,5 @@
 use Rattle.std.proofs.Common.{◌≡◌, ◌++◌, map}
-use Rattle.ee_store_load.specs.Shown.{first_answer}
+use Rattle.ee_store_load.specs.Inner.Shown.{first_answer}
 use Rattle.ee_store_load.proofs.tables.with_first_desk.Given as goal
 
 abbrev pub invariant-loop-reply : goal.invariant-loop-reply

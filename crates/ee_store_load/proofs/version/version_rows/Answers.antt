@@ -5,8 +5,8 @@ use Rattle.sqlite.specs.Listing.{understood}
 use Rattle.sqlite.proofs.Callers.{IsPlain}
 use Rattle.sqlite.proofs.InsideLemmas.{unchanged_keeps}
 use Rattle.sqlite.specs.Held.{state}
-use Rattle.ee_store_schema.specs.Forms.{HasOurTables}
-use Rattle.ee_store_schema.specs.Asking.{IsNeverRefused}
+use Rattle.ee_store_schema.specs.Inner.Forms.{HasOurTables}
+use Rattle.ee_store_schema.specs.Inner.Asking.{IsNeverRefused}
 use Rattle.ee_store_schema.specs.declared.faults.OpenFault.TheVariants.{Unusable}
 use Rattle.ee_store_tables.proofs.Lemmas.Transactions.{query_keeps, shown_open}
 use Rattle.ee_store_load.proofs.AskLemmas.{only_version, commits_nothing, shown_same}

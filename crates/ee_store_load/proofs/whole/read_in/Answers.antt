@@ -7,8 +7,9 @@ use Rattle.ee_store_schema.specs.Faults.{IsExcused}
 use Rattle.ee_store_schema.specs.Forms.{HoldsIn}
 use Rattle.ee_store_load.specs.Shown.{answer_map}
 use Rattle.std.specs.Prelude.{⊤}
-use Rattle.ee_store_load.specs.Reading.{OnlyLoads}
-use Rattle.ee_store_load.specs.Whole.{rows_with, HoldsPayments, HoldsRecords, HoldsExtensions}
+use Rattle.ee_store_load.specs.Inner.Reading.{OnlyLoads}
+use Rattle.ee_store_load.specs.Whole.{rows_with}
+use Rattle.ee_store_load.specs.Inner.Whole.{HoldsPayments, HoldsRecords, HoldsExtensions}
 use Rattle.ee_store_schema.proofs.Lemmas.Causes.{excused_then, then_survives}
 use Rattle.ee_store_schema.proofs.Lemmas.Faults.{handed_on}
 use Rattle.ee_store_load.proofs.ReadLemmas.{sound_after, still_form, loads_then, loads_made, loads_failed}

@@ -2,7 +2,7 @@ use Rattle.std.proofs.Common.{sym, subst, ◌∙◌}
 use Rattle.sqlite.specs.Effect.{Database}
 use Rattle.sqlite.specs.Held.{state}
 use Rattle.ee_store_tables.proofs.Lemmas.Transactions.{clean_before}
-use Rattle.ee_store_load.specs.Whole.{HoldsTested}
+use Rattle.ee_store_load.specs.Inner.Whole.{HoldsTested}
 use Rattle.ee_store_load.proofs.WholeLemmas.{holds_kept}
 use Rattle.ee_store_schema.specs.Forms.{HoldsIn}
 use Rattle.ee_store_schema.proofs.Lemmas.Forms.{common}

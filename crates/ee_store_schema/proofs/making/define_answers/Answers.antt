@@ -1,6 +1,6 @@
 use Rattle.std.proofs.lemmas.Result.{on_ok_weaker}
 use Rattle.ee_store_schema.specs.Forms.{first_tables}
-use Rattle.ee_store_schema.specs.Making.{both_tables}
+use Rattle.ee_store_schema.specs.Inner.Making.{both_tables}
 use Rattle.ee_store_schema.proofs.Lemmas.Faults.{each_fault}
 use Rattle.ee_store_schema.proofs.TakesLemmas.{takes_answers}
 use Rattle.ee_store_schema.proofs.TextLemmas.{adds_answers}

@@ -3,7 +3,7 @@ use Rattle.sqlite.specs.Held.{state}
 use Rattle.ee_store_tables.proofs.Lemmas.Transactions.{clean_before}
 use Rattle.std.proofs.lemmas.Result.{on_ok_weaker}
 use Rattle.ee_store_schema.specs.Faults.{IsExcused}
-use Rattle.ee_store_schema.specs.Making.{register_tables, payment_tables}
+use Rattle.ee_store_schema.specs.Inner.Making.{register_tables, payment_tables}
 use Rattle.ee_store_schema.proofs.TextLemmas.{with_tickets, with_days, adds_tickets, adds_day, adds_paid}
 use Rattle.ee_store_schema.proofs.TakesLemmas.{takes_tickets, takes_day, takes_paid}
 use Rattle.ee_store_schema.proofs.Lemmas.Causes.{excused_then, then_survives}

@@ -3,7 +3,7 @@ use Rattle.sqlite.specs.Held.{state}
 use Rattle.ee_store_tables.proofs.Lemmas.Transactions.{clean_before}
 use Rattle.std.proofs.lemmas.Result.{on_ok_weaker}
 use Rattle.ee_store_schema.specs.Faults.{IsExcused}
-use Rattle.ee_store_schema.specs.Making.{payment_tables}
+use Rattle.ee_store_schema.specs.Inner.Making.{payment_tables}
 use Rattle.ee_store_schema.specs.Forms.{earliest_tables}
 use Rattle.ee_store_schema.proofs.TextLemmas.{with_batches, adds_batches, adds_replies}
 use Rattle.ee_store_schema.proofs.TakesLemmas.{takes_batches, takes_replies}

@@ -3,7 +3,8 @@ use Rattle.sqlite.specs.Held.{state}
 use Rattle.ee_store_tables.proofs.Lemmas.Transactions.{clean_before}
 use Rattle.std.proofs.lemmas.Result.{on_ok_weaker}
 use Rattle.ee_store_schema.specs.Faults.{IsExcused}
-use Rattle.ee_store_schema.specs.Making.{no_tables, register_tables}
+use Rattle.ee_store_schema.specs.Making.{no_tables}
+use Rattle.ee_store_schema.specs.Inner.Making.{register_tables}
 use Rattle.ee_store_schema.proofs.TextLemmas.{with_desk, with_rates, with_bonds, adds_desk, adds_rates, adds_bonds, adds_owner}
 use Rattle.ee_store_schema.proofs.TakesLemmas.{takes_desk, takes_rates, takes_bonds, takes_owner}
 use Rattle.ee_store_schema.proofs.Lemmas.Causes.{excused_then, then_survives}

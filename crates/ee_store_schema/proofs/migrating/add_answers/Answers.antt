@@ -7,7 +7,8 @@ use Rattle.sqlite.proofs.InsideLemmas.{keeps_then}
 use Rattle.ee_store_tables.specs.Rows.{Sees}
 use Rattle.ee_store_tables.specs.Statements.{IsExcused}
 use Rattle.ee_store_tables.proofs.Lemmas.Transactions.{clean_before}
-use Rattle.ee_store_schema.specs.Migrating.{answer_entry, copied, CanAddAll}
+use Rattle.ee_store_schema.specs.Migrating.{answer_entry}
+use Rattle.ee_store_schema.specs.Inner.Migrating.{copied, CanAddAll}
 use Rattle.ee_store_schema.proofs.CopyLemmas.{next_answer, next_count, place_for_one}
 use Rattle.ee_store_schema.proofs.MigrateLemmas.{survives_itself, same_place, same_room, passed_on, failure_then}
 use Rattle.ee_store_schema.proofs.migrating.add_answers.Goals as goal

@@ -4,7 +4,8 @@ use Rattle.sqlite.specs.State.{HasCleanDisk, KeepsCommit, Survives}
 use Rattle.sqlite.specs.Held.{state}
 use Rattle.ee_store_tables.specs.Keyed.{pair_cmp}
 use Rattle.ee_store_tables.specs.Rows.{Rows, ReplyRow, HasRoom, IsInside, Sees}
-use Rattle.ee_store_schema.specs.Migrating.{answer_entry, copied, CanAddAll, HasPlace}
+use Rattle.ee_store_schema.specs.Migrating.{answer_entry}
+use Rattle.ee_store_schema.specs.Inner.Migrating.{copied, CanAddAll, HasPlace}
 use Rattle.ee_store_schema.proofs.migrating.add_answers.Given as goal
 
 abbrev pub invariant-loop-answer : goal.invariant-loop-answer

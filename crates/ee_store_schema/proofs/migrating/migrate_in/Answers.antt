@@ -5,7 +5,8 @@ use Rattle.sqlite.specs.Held.{state}
 use Rattle.ee_store_tables.specs.Rows.{Sees}
 use Rattle.ee_store_tables.specs.Statements.{IsExcused}
 use Rattle.ee_store_tables.proofs.Lemmas.Transactions.{clean_before}
-use Rattle.ee_store_schema.specs.Migrating.{answer_entry, unanswered, migrated, copied}
+use Rattle.ee_store_schema.specs.Migrating.{answer_entry, migrated}
+use Rattle.ee_store_schema.specs.Inner.Migrating.{unanswered, copied}
 use Rattle.ee_store_schema.proofs.Lemmas.Causes.{then_survives}
 use Rattle.ee_store_schema.proofs.Lemmas.Faults.{each_fault}
 use Rattle.ee_store_schema.proofs.CopyLemmas.{copied_all, can_add_all, all_have_place}

@@ -2,7 +2,7 @@ use Rattle.std.proofs.Common.{sym, subst}
 use Rattle.sqlite.specs.Held.{state}
 use Rattle.ee_store_tables.specs.Rows.{Rises}
 use Rattle.ee_store_tables.proofs.Lemmas.Transactions.{clean_before}
-use Rattle.ee_store_schema.specs.Forms.{SeesForm, SeesIn}
+use Rattle.ee_store_schema.specs.Inner.Forms.{SeesForm, SeesIn}
 use Rattle.ee_store_schema.proofs.MigrateLemmas.{extended, replaced, extended_room, replaced_room}
 use Rattle.ee_store_schema.proofs.migrating.replace_tables.Goals as goal
 

@@ -5,7 +5,7 @@ use Rattle.std.proofs.lemmas.Result.{on_ok_weaker, IfErr-weaker}
 use Rattle.sqlite.specs.Held.{state}
 use Rattle.ee_store_tables.specs.AsRows.{FitsLine, row_of_line}
 use Rattle.ee_store_tables.specs.Rows.{Sees, HasRoom, with_paid}
-use Rattle.ee_store_tables.specs.Places.{CanPlaceAll, with_places}
+use Rattle.ee_store_tables.specs.Inner.Places.{CanPlaceAll, with_places}
 use Rattle.ee_store_tables.specs.Statements.{IsExcused}
 use Rattle.ee_store_tables.proofs.CauseLemmas.{from_err, excused_after}
 use Rattle.ee_store_tables.proofs.RoomLemmas.{room_less}

@@ -5,7 +5,7 @@ use Rattle.std.proofs.lemmas.Result.{on_ok_weaker, IfErr-weaker}
 use Rattle.sqlite.specs.Held.{state}
 use Rattle.ee_store_tables.specs.AsRows.{FitsLine, row_of_line}
 use Rattle.ee_store_tables.specs.Rows.{Sees, marked}
-use Rattle.ee_store_tables.specs.Places.{all_marked}
+use Rattle.ee_store_tables.specs.Inner.Places.{all_marked}
 use Rattle.ee_store_tables.proofs.CauseLemmas.{excused_after}
 use Rattle.ee_store_tables.proofs.KeepLemmas.{clean_before}
 use Rattle.ee_store_tables.proofs.lines.+mark_lines.Goals as goal

@@ -3,7 +3,7 @@ use Rattle.std.proofs.lemmas.Result.{on_ok_weaker}
 use Rattle.sqlite.specs.Held.{state}
 use Rattle.ee_store_tables.specs.AsRows.{row_of_line}
 use Rattle.ee_store_tables.specs.Rows.{Sees}
-use Rattle.ee_store_tables.specs.Places.{with_places}
+use Rattle.ee_store_tables.specs.Inner.Places.{with_places}
 use Rattle.ee_store_tables.specs.Statements.{IsExcused}
 use Rattle.ee_store_tables.proofs.CauseLemmas.{from_err, excused_from}
 use Rattle.ee_store_tables.proofs.RoomLemmas.{room_less}

@@ -1,6 +1,6 @@
 use Rattle.std.proofs.Common.{true, false, map, sym, ◌∙◌}
 use Rattle.serde_json.specs.View.{view, members_view}
-use Rattle.ee_wire_calls.specs.Views.{text_at}
+use Rattle.ee_wire_calls.specs.Inner.Views.{text_at}
 use Rattle.ee_wire_calls.proofs.Names.{all_named, of_object}
 use Rattle.ee_wire_calls.proofs.fields.no_other.Goals as goal
 

@@ -2,7 +2,8 @@ use Rattle.std.proofs.Common.{◌≡◌, ◌++◌, ◌∙◌, ap, arith, sym, su
 use Rattle.std.specs.Io.KnownBytes.{Keeps, prepend_known}
 use Rattle.ee_wire_framing.specs.Stream.{Stream}
 use Rattle.ee_wire_framing.specs.Framing.{BeginsFault}
-use Rattle.ee_wire_framing.specs.Reading.{left, NeedsMore, EndsAt, ShowsFault}
+use Rattle.ee_wire_framing.specs.Reading.{left, NeedsMore, ShowsFault}
+use Rattle.ee_wire_framing.specs.Inner.Reading.{EndsAt}
 use Rattle.ee_wire_framing.proofs.Calls.{kept_fact, moved, answers_at, same_left, given_shown, none_read, read_more, read_kept, takes_held, takes_shown, settles_at}
 use Rattle.ee_wire_framing.proofs.Messages.{more_needed}
 use Rattle.ee_wire_framing.proofs.buffer.next_message.Goals as goal

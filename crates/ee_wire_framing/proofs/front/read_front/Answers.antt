@@ -1,5 +1,5 @@
 use Rattle.std.proofs.Common.{subst}
-use Rattle.ee_wire_framing.specs.Heads.{Finds}
+use Rattle.ee_wire_framing.specs.Inner.Heads.{Finds}
 use Rattle.ee_wire_framing.proofs.More.{bad_head, too_long}
 use Rattle.ee_wire_framing.proofs.front.read_front.Goals as goal
 

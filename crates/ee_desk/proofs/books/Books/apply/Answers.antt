@@ -5,7 +5,7 @@ use Rattle.ee_desk_model.specs.declared.changes.Change.{Change}
 use Rattle.ee_desk_model.specs.PlainBooks.{PlainBooks}
 use Rattle.ee_desk_model.specs.Acts.{applied}
 use Rattle.ee_desk_model.specs.Ranges.{IsInRange}
-use Rattle.ee_desk_decide.specs.Applicable.{AreApplicable}
+use Rattle.ee_desk_decide.specs.Inner.Applicable.{AreApplicable}
 use Rattle.ee_desk_decide.proofs.Lemmas.{AreDecided, decided_are_applicable, decided_keep_sound}
 use Rattle.ee_desk.proofs.books.Books.apply.Goals as goal
 

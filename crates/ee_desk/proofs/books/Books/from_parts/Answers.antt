@@ -5,7 +5,7 @@ use Rattle.ee_desk_soundness.specs.Checks.{HaveRisingSerials}
 use Rattle.ee_desk_soundness.specs.Marks.{bond_of}
 use Rattle.ee_desk_soundness.specs.Parts.{parts_of}
 use Rattle.ee_desk_soundness.proofs.Lemmas.{parts_of-books_of}
-use Rattle.ee_desk.specs.Marks.{by_serial, AreMarked}
+use Rattle.ee_desk.specs.Inner.Marks.{by_serial, AreMarked}
 use Rattle.ee_desk.specs.Parts.{as_lists}
 use Rattle.ee_desk.proofs.HeldRows.{bonds_back, entries_marked, books_made}
 use Rattle.ee_desk.proofs.books.Books.from_parts.Goals as goal

@@ -2,11 +2,11 @@ use Rattle.std.proofs.Common.{sym, ap, ◌∙◌, subst}
 use Rattle.std.specs.List.{AllByRecursion}
 use Rattle.std.proofs.lemmas.Result.{on_ok_weaker, on_err_weaker}
 use Rattle.ee_desk_model.specs.PlainBooks.{PlainBooks}
-use Rattle.ee_desk.specs.Marks.{AreMarked}
-use Rattle.ee_desk.specs.Kept.{books_of}
-use Rattle.ee_desk_decide.specs.NewRows.{bond_row, AreNew}
-use Rattle.ee_desk.specs.Added.{with_changes}
-use Rattle.ee_desk_decide.specs.Applicable.{IsUnpaid}
+use Rattle.ee_desk.specs.Inner.Marks.{AreMarked}
+use Rattle.ee_desk.specs.Inner.Kept.{books_of}
+use Rattle.ee_desk_decide.specs.Inner.NewRows.{bond_row, AreNew}
+use Rattle.ee_desk.specs.Inner.Added.{with_changes}
+use Rattle.ee_desk_decide.specs.Inner.Applicable.{IsUnpaid}
 use Rattle.ee_desk.proofs.Outcomes.{either_way}
 use Rattle.ee_desk.proofs.Registered.{new_in_memory, bonds_gain, bonds_stay, marks_gain, marks_stay}
 use Rattle.ee_desk.proofs.ledger.Ledger.add_bonds.Goals as goal

@@ -3,8 +3,8 @@ use Rattle.std.specs.List.{list_any}
 use Rattle.std.specs.Option.{option_map}
 use Rattle.ee_desk_model.specs.Serials.{same_serial}
 use Rattle.ee_desk_model.specs.PlainBooks.{PlainBooks}
-use Rattle.ee_desk.specs.Marks.{held_at, marked}
-use Rattle.ee_desk_decide.specs.Applicable.{IsNextTicket}
+use Rattle.ee_desk.specs.Inner.Marks.{held_at, marked}
+use Rattle.ee_desk_decide.specs.Inner.Applicable.{IsNextTicket}
 use Rattle.ee_desk.proofs.PaidMarks.{ticket_kept}
 use Rattle.ee_desk.proofs.Counts.{counts_more}
 use Rattle.ee_desk.proofs.ledger.Ledger.add_ticket.Goals as goal

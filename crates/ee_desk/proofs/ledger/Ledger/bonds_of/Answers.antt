@@ -1,7 +1,7 @@
 use Rattle.std.proofs.Common.{sym, ap, ◌∙◌, subst}
 use Rattle.std.proofs.lemmas.Result.{IfOk-weaker}
 use Rattle.ee_desk_model.specs.Queries.{bonds_of}
-use Rattle.ee_desk.specs.Kept.{AreKeyed}
+use Rattle.ee_desk.specs.Inner.Kept.{AreKeyed}
 use Rattle.ee_desk.proofs.OwnBonds.{own_is}
 use Rattle.ee_desk.proofs.ledger.Ledger.bonds_of.Goals as goal
 

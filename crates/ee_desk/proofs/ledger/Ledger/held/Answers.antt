@@ -1,6 +1,6 @@
 use Rattle.std.proofs.Common.{rules, ◌≡◌, sym, ap, ◌∙◌}
 use Rattle.ee_desk_model.specs.Seen.{held_of}
-use Rattle.ee_desk.specs.Marks.{held_at}
+use Rattle.ee_desk.specs.Inner.Marks.{held_at}
 use Rattle.ee_desk.proofs.HeldBonds.{held_is}
 use Rattle.ee_desk.proofs.ledger.Ledger.held.Goals as goal
 

@@ -6,7 +6,7 @@ use Rattle.ee_desk_model.specs.Acts.{applied, books_after, reply_to}
 use Rattle.ee_desk_model.specs.Repeats.{Content}
 use Rattle.ee_desk_model.proofs.Lemmas.Books.{seen_enough, applied_are_books_after}
 use Rattle.ee_desk_model.proofs.Lemmas.Requests.{content_after-decided, remove-insert_kept}
-use Rattle.ee_desk.specs.Kept.{kept_in}
+use Rattle.ee_desk.specs.Inner.Kept.{kept_in}
 use Rattle.ee_desk.proofs.list.ListKeeper.decide.Goals as goal
 
 pub apply-requires : goal.apply-requires

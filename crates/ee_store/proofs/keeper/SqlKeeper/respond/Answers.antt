@@ -15,7 +15,8 @@ use Rattle.ee_store_tables.proofs.Lemmas.Transactions.{clean_before}
 use Rattle.ee_store_books.specs.Seen.{StandsFor, HasContent}
 use Rattle.ee_store_books.proofs.Lemmas.Lookups.{stands_committed}
 use Rattle.ee_store_delivery.specs.Known.{IsInformed}
-use Rattle.ee_store.specs.Served.{FollowsWorld, unserved_as}
+use Rattle.ee_store.specs.Served.{FollowsWorld}
+use Rattle.ee_store.specs.Inner.Served.{unserved_as}
 use Rattle.ee_store.proofs.Following.{follows_decided}
 use Rattle.ee_store.proofs.History.{goes_decided, goes_lost, goes_unserved}
 use Rattle.ee_store.proofs.keeper.SqlKeeper.respond.Goals as goal

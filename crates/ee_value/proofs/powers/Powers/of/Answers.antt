@@ -1,6 +1,6 @@
 use Rattle.std.proofs.Common.{◌≡◌, ◌+◌, ◌*◌, ◌^◌, ◌<◌, ◌≤◌, ℕ, zero, suc, arith, List, ◌∷◌, []}
 use Rattle.ee_roots.specs.Products.{power_down, power_up}
-use Rattle.ee_value.specs.Open.{AreNear}
+use Rattle.ee_value.specs.Inner.Open.{AreNear}
 use Rattle.ee_value.proofs.powers.Powers.of.Goals as goal
 
 same_five : (a b c d e v w x y z : ℕ) → a ≡ v → b ≡ w → c ≡ x → d ≡ y → e ≡ z

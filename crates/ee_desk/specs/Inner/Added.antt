@@ -9,7 +9,7 @@ use Rattle.ee_units.specs.Spelling.{SerialNumber}
 use Rattle.ee_desk_model.specs.declared.changes.Held.{Held}
 use Rattle.ee_desk_model.specs.declared.changes.Change.{Change}
 use Rattle.ee_desk_model.specs.declared.changes.Change.TheVariants as change
-use Rattle.ee_desk_decide.specs.NewRows.{with_row}
+use Rattle.ee_desk_decide.specs.Inner.NewRows.{with_row}
 
 -- the row that a change adds to the bonds in memory
 abbrev pub held_row : Change → Option (SerialNumber × Held)

@@ -11,7 +11,7 @@ use Rattle.ee_desk_model.specs.declared.replies.Batch.{Batch}
 use Rattle.ee_desk_model.specs.declared.changes.Kept.{Kept}
 use Rattle.ee_desk_decide.specs.declared.views.DayCounts.{DayCounts}
 use Rattle.ee_desk_model.specs.Numbers.{RequestKey, number_cmp}
-use Rattle.ee_desk.specs.Marks.{bonds_held}
+use Rattle.ee_desk.specs.Inner.Marks.{bonds_held}
 use Rattle.ee_desk_model.specs.PlainBooks.{PlainBooks}
 use Rattle.ee_desk_decide.specs.Noted.{rates_in}
 

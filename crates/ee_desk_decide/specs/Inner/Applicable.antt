@@ -5,7 +5,7 @@ use Rattle.ee_desk_model.specs.declared.changes.Change.{Change}
 use Rattle.ee_desk_model.specs.declared.changes.Change.TheVariants as change
 use Rattle.ee_desk_model.specs.declared.replies.Ticket.{Ticket}
 use Rattle.ee_desk_model.specs.PlainBooks.{PlainBooks, ticket_of, of_day, bonds_on, total_of}
-use Rattle.ee_desk_decide.specs.NewRows.{rate_row, bond_row, AreNew}
+use Rattle.ee_desk_decide.specs.Inner.NewRows.{rate_row, bond_row, AreNew}
 
 abbrev pub IsRate : Change → Type 0
 IsRate (change.Rates from rates) = ⊤

@@ -1,0 +1,4 @@
+pub mod Added
+pub mod Kept
+pub mod Marks
+pub mod Parts

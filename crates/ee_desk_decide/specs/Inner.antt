@@ -1,0 +1,3 @@
+pub mod Applicable
+pub mod NewRows
+pub mod Noted

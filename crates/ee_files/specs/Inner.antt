@@ -1,0 +1,4 @@
+pub mod Answers
+pub mod Left
+pub mod Rows
+pub mod WriterState

@@ -1,0 +1,4 @@
+pub mod Causes
+pub mod Delivered
+pub mod Known
+pub mod Written

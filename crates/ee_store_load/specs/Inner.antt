@@ -1,0 +1,4 @@
+pub mod Opening
+pub mod Reading
+pub mod Shown
+pub mod Whole

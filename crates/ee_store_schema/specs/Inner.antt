@@ -1,0 +1,4 @@
+pub mod Asking
+pub mod Forms
+pub mod Making
+pub mod Migrating
