@@ -45,7 +45,7 @@ class Gate:
         for name in COPIED:
             (top / name).parent.mkdir(parents=True, exist_ok=True)
             shutil.copy(TOP / name, top / name)
-        for name in ("lemmas", "one_opening"):
+        for name in ("lemmas", "inner", "one_opening"):
             (top / ".ci" / name).write_text("#!/bin/sh\n")
         self.tools.mkdir()
         shutil.copy(TOP / "tests/documents/gate_rt", self.tools / "rt")

@@ -1,4 +1,5 @@
-"""`.ci/inner` lists the definitions that no exported contract reaches, and says what reaches them."""
+"""`.ci/inner` tells where a definition stands: `specs/` if an exported contract reaches it,
+`specs/Inner/` if private ones alone do, and neither if none does."""
 
 import shutil
 import subprocess
@@ -6,7 +7,8 @@ from pathlib import Path
 
 from tests.conftest import TOP
 
-CODE = """ghost use Rattle.one.specs.Words.{IsShown, IsInner};
+CODE = """ghost use Rattle.one.specs.Words.{IsShown};
+ghost use Rattle.one.specs.PLACEWords.{IsInner};
 
 pub fn shown() -> u8
     ensures { IsShown result }
@@ -20,36 +22,39 @@ fn inner() -> u8
     1
 }
 """
-WORDS = "".join(
-    f"abbrev pub {name} : ℕ → Bool\n{name} n = {means}\n\n"
-    for name, means in {
-        "IsUnder": "n == 1",
-        "IsShown": "IsUnder n",
-        "IsInner": "n == 1",
-        "IsAlone": "n == 1",
-    }.items()
-)
+WORDS = "abbrev pub IsUnder : ℕ → Bool\nIsUnder n = n == 1\n\nabbrev pub IsShown : ℕ → Bool\nIsShown n = IsUnder n\n\n"
+INNER = "abbrev pub IsInner : ℕ → Bool\nIsInner n = n == 1\n\n"
+ALONE = "abbrev pub IsAlone : ℕ → Bool\nIsAlone n = n == 1\n\n"
 
 
-def listed(top: Path, exports: str) -> list[str]:
-    (top / "crates/one/src/lib.rt").write_text(f"mod code;\n\n{exports}\n")
-    ran = subprocess.run([top / ".ci/inner"], capture_output=True, text=True)
-    assert ran.returncode == 0, ran.stderr
-    return ran.stdout.splitlines()
+def faults(crate: Path, place: str, more: str = "", shows: str = "") -> list[str]:
+    """With `IsInner` in this place, more definitions in `specs/Words.antt`, and `inner` private or
+    not."""
+    texts = {"Words": WORDS + more, "Inner/Words": ""}
+    texts[f"{place.replace('.', '/')}Words"] += INNER
+    for name, text in texts.items():
+        (crate / f"specs/{name}.antt").write_text(text)
+    code = CODE.replace("PLACE", place).replace("\nfn inner", f"\n{shows}fn inner")
+    (crate / "src/code.rt").write_text(code)
+    ran = subprocess.run([crate.parent.parent / ".ci/inner"], capture_output=True, text=True)
+    *told, last = ran.stdout.splitlines()
+    assert last.endswith(f" definitions: {1 if place else 0} in specs/Inner"), ran.stderr
+    assert ran.returncode == (1 if told else 0)
+    return [line.removeprefix("crates/one/specs/") for line in told]
 
 
 def test_inner_definitions(folder: Path) -> None:
-    for name in ("src", "specs"):
-        (folder / "crates/one" / name).mkdir(parents=True)
-    (folder / ".ci").mkdir()
+    crate = folder / "crates/one"
+    for path in (folder / ".ci", crate / "src", crate / "specs/Inner"):
+        path.mkdir(parents=True)
     for name in ("inner", "contracts.py"):
         shutil.copy(TOP / ".ci" / name, folder / ".ci")
-    (folder / "crates/one/src/code.rt").write_text(CODE)
-    (folder / "crates/one/specs/Words.antt").write_text(WORDS)
-    file = "crates/one/specs/Words.antt"
-    assert listed(folder, "pub use code::shown;") == [
-        f"{file}, 2 of 4: IsInner (private), IsAlone (none)",
-        "4 definitions: 1 private, 1 none",
-        "1 files: 0 whole, 1 in part",
-    ]
-    assert listed(folder, "use code::shown;")[-1] == "1 files: 1 whole, 0 in part", "control"
+    (crate / "src/lib.rt").write_text("mod code;\n\npub use code::{inner, shown};\n")
+    assert faults(crate, "Inner.") == [], "control"
+    private = "private contracts alone reach it: move it to specs/Inner/"
+    assert faults(crate, "") == [f"Words.antt: IsInner: {private}"]
+    none = "no contract reaches it: move it to proofs/"
+    assert faults(crate, "Inner.", ALONE) == [f"Words.antt: IsAlone: {none}"]
+    public = "a public contract reaches it: move it to specs/"
+    assert faults(crate, "Inner.", "", "pub ") == [f"Inner/Words.antt: IsInner: {public}"]
+    assert faults(crate, "", "", "pub ") == [], "control"
