@@ -25,7 +25,7 @@ BY_HAND: dict[str, set[int]] = {
     "crates/ee_desk_model/src/refusals.rt": set(),
     "crates/ee_desk_decide/src/checks.rt": NO_NUMBERS,
     "crates/ee_desk_texts/specs/Data.antt": set(),
-    "crates/ee_desk_texts/specs/Reading.antt": set(),
+    "crates/ee_desk_texts/specs/Inner/Reading.antt": set(),
     "crates/ee_desk_texts/src/refusals.rt": set(),
     "crates/ee_desk_texts/src/refusal_reading.rt": set(),
     "crates/library_tests/src/texts.rt": set(),
