@@ -12,16 +12,11 @@ from ee_counter_client.plausible import LAST_PAPER, LETTERS
 from tests.conftest import TOP
 
 WHERE = (
-    "*.md docs/*.md docs/openapi.json samples/*.md samples/*.csv samples/*/*.md packaging/man/*"
+    "*.md docs/*.md docs/openapi.json docs/pictures/make docs/pictures/*.csv samples/*.md samples/*.csv samples/*/*.md packaging/man/*"
     " packaging/*.md clients/*/*.md clients/value/ee_value/*.py clients/value/examples/*"
     " clients/python/src/ee_counter_client/*.py include/*"
     " crates/ee_cli_commands/src/rows.rt"
 )
-#: The data of the pictures in docs/pictures: a file of tests, from this line on.
-PICTURES = {
-    "tests/clients/test_page_looks.py": "# ---- pictures for docs/pictures",
-    "tests/clients/test_calculator_looks.py": "# ---- the pictures of docs/pictures",
-}
 MONTH = r"(?P<month>\d{4}-\d\d|\d\d/\d{4})"
 RATE = r"(?P<rate>\d{1,2}\.\d{1,2})%?"
 EXTENSION = RATE.replace("rate", "extension")
@@ -57,8 +52,6 @@ def texts() -> Iterator[tuple[str, str]]:
             if path.is_file():
                 name = str(path.relative_to(TOP))
                 yield name, f"{name}\n{path.read_text()}"
-    for name, mark in PICTURES.items():
-        yield name, (TOP / name).read_text().partition(mark)[2]
 
 
 def of_month(text: str) -> str:
