@@ -1,7 +1,11 @@
 """A page in a browser, as a person sees it and a keyboard works it."""
 
+import os
+import re
+import subprocess
 import tempfile
 import time
+import unicodedata
 from pathlib import Path
 from typing import Any, Callable
 
@@ -17,11 +21,13 @@ from tests.browser.engines import ENGINES, Engine, Size
 
 PATIENCE = 60
 MONTHS = "Jan Feb Mar Apr May Jun Jul Aug Sep Oct Nov Dec".split()
-#: Runs a script that may await, and gives back what it returned.
-AWAITING = """
-    const done = arguments[arguments.length - 1];
-    (async (...given) => {%s})(...arguments).then(done, (error) => done("ERROR " + error));
-"""
+FILES = [path.read_text() for path in Path(__file__).parent.glob("*.js")]
+#: The functions that run within a page, by their names: the text of the file beside this one.
+SCRIPTS = {
+    name: text.replace("export ", "")
+    for text in FILES
+    for name in re.findall(r"^export (?:async )?function (\w+)", text, re.M)
+}
 
 
 class Browser:
@@ -42,10 +48,16 @@ class Browser:
         self.profile = profile or Path(tempfile.mkdtemp(prefix="profile.", dir=folder))
         self.engine = engine or ENGINES[name](self.profile, size, certificate)
         self.driver = self.engine.driver
+        self.saves_in(self.profile / "downloads")
         self.open(url)
 
     def quit(self) -> None:
         self.engine.quit()
+
+    def saves_in(self, folder: Path) -> None:
+        self.downloads = folder
+        folder.mkdir(exist_ok=True)
+        self.engine.downloads(folder)
 
     # ---- what is loaded
 
@@ -81,30 +93,33 @@ class Browser:
         self.engine.resize(width, height)
         self.until(lambda: self.run("return innerWidth") == width, f"the window is {width} wide")
 
-    def picture(self, path: Path) -> None:
-        path.parent.mkdir(parents=True, exist_ok=True)
-        self.driver.save_screenshot(str(path))
+    def pictured(self, name: str) -> None:
+        """Leaves a picture for people in the folder that $PICTURES names, if it does."""
+        if folder := os.environ.get("PICTURES"):
+            time.sleep(0.3)
+            os.makedirs(folder, exist_ok=True)
+            self.driver.save_screenshot(f"{folder}/{name}-{self.name}.png")
 
-    def pictured(self, folder: Path | None, name: str) -> None:
-        """Pictures for people, 1440 and 360 pixels wide, if there is a folder for them."""
-        if folder is not None:
-            for width, height in ((1440, 900), (360, 740), (1100, 820)):
-                self.resize(width, height)
-                if width != 1100:
-                    time.sleep(0.3)
-                    self.picture(folder / f"{name}_{width}-{self.name}.png")
+    def printed(self, width: float = 8.5, height: float = 11, colored: bool = False) -> list[str]:
+        """The text of each sheet of the printed page, on paper of this size in inches."""
+        path = self.profile / "printed.pdf"
+        path.write_bytes(self.engine.pdf(width, height, colored))
+        words = ["pdftotext", "-layout", str(path), "-"]
+        text = subprocess.run(words, capture_output=True, text=True, check=True).stdout
+        return unicodedata.normalize("NFKC", text).split("\f")[:-1]
 
     def saved(self, name: str, press: str) -> str:
         """The text of a file that the page saves as that button is pressed."""
-        folder = self.profile / "downloads"
-        folder.mkdir(exist_ok=True)
-        self.engine.downloads(folder)
-        (folder / name).unlink(missing_ok=True)
+        file = self.downloads / name
+        file.unlink(missing_ok=True)
         self.press(press)
-        file = folder / name
-        is_whole = lambda: file.exists() and file.read_text().endswith("\n")
+
+        def is_whole() -> bool:
+            parts = [*self.downloads.glob("*.part"), *self.downloads.glob("*.crdownload")]
+            return file.exists() and file.stat().st_size > 0 and parts == []
+
         self.until(is_whole, f"{name} is saved")
-        return file.read_text()
+        return file.read_bytes().decode()
 
     # ---- what is there
 
@@ -133,9 +148,9 @@ class Browser:
     def run(self, script: str, *arguments: object) -> Any:
         return self.driver.execute_script(script, *arguments)
 
-    def run_module(self, script: str, *arguments: object) -> Any:
-        """A script that may import the page's own modules and await; what it returns."""
-        return self.driver.execute_async_script(AWAITING % script, *arguments)
+    def calls(self, name: str, *arguments: object) -> Any:
+        """What a function of the files beside this one returns, which may await."""
+        return self.run(f"{SCRIPTS[name]}\nreturn {name}(...arguments);", *arguments)
 
     def until(self, condition: Callable[[], Any], what: str, patience: float | None = None) -> None:
         seconds, passing = patience or self.patience, [StaleElementReferenceException]

@@ -5,7 +5,7 @@ from typing import Any, Callable
 
 from selenium.webdriver.common.action_chains import ActionChains
 
-from tests.browser.browser import Browser, Keys
+from tests.browser.browser import SCRIPTS, Browser, Keys
 
 #: Dollars of the bonds of `bank.bonds_of` in February 2012, by the published rates, in cents.
 VALUES = {"L": 2516, "K": 3807, "M": 502400}
@@ -14,58 +14,6 @@ DOUBT = "Do these bonds agree with the paper?"
 DOUBTS = (DOUBT, " the right day?", " right?")
 #: What a reply that came late or twice adds.
 EARLIER = "The connection was interrupted."
-#: Opens the page's own databases.
-OPEN = """
-    const opened = (request) => new Promise((resolve) => { request.onsuccess = () => resolve(request.result); });
-    const database = await opened(indexedDB.open(given[0]));
-"""
-READ_JOURNAL = """
-    const record = await opened(database.transaction("journal").objectStore("journal").get("journal"));
-    database.close();
-    return record ?? {};
-"""
-READ_RECEIPTS = """
-    const records = await opened(database.transaction("payments").objectStore("payments").index("ticket").getAll());
-    database.close();
-    return records;
-"""
-#: Writes another journal, which a function makes of the one that is there.
-WRITE_JOURNAL = """
-    const change = database.transaction("journal", "readwrite");
-    const store = change.objectStore("journal");
-    const record = await opened(store.get("journal"));
-    store.put((%s)(record), "journal");
-    await new Promise((resolve) => { change.oncomplete = resolve; });
-    database.close();
-"""
-#: When the button that confirms began to rest, and when it ended.
-RESTS = """
-    window.rests = [];
-    const button = document.getElementById("confirm-yes");
-    new MutationObserver(() => window.rests.push([button.hasAttribute("aria-disabled"), performance.now()])).observe(button, { attributeFilter: ["aria-disabled"] });
-"""
-
-#: No dialogue of the browser's; how often the page printed.
-NO_PRINTER = "window.prints = 0; window.print = () => { window.prints += 1; };"
-#: Counts tones in place of making them.
-BEEPS = """
-    window.beeps = 0;
-    const tone = () => ({ frequency: {}, connect() {}, stop() {}, start() { window.beeps += 1; } });
-    window.AudioContext = class {
-        get currentTime() { return performance.now() / 1000; }
-        resume() { return Promise.resolve(); }
-        createOscillator() { return tone(); }
-    };
-"""
-#: Keeps each step that the page says of a request, also one that is in sight for half a second alone.
-STEPS = """
-    const progress = document.getElementById("progress-text");
-    window.steps = [];
-    new MutationObserver(() => window.steps.push(progress.textContent)).observe(progress, { childList: true });
-"""
-
-
-BONDS_ASKED = "return [...document.querySelectorAll('#confirm .bonds li')].map((line) => [...line.children].map((part) => part.textContent))"
 
 
 def dollars(cents: int) -> str:
@@ -79,17 +27,11 @@ class Page(Browser):
     # ---- what it keeps
 
     def journal(self) -> dict[str, Any]:
-        found: dict[str, Any] = self.run_module(OPEN + READ_JOURNAL, "ladwenpik-teller")
-        return found
+        return dict(self.calls("journal"))
 
     def write_journal(self, change: str) -> None:
         """Changes the journal behind the page's back, by a function in JavaScript."""
-        self.run_module(OPEN + WRITE_JOURNAL % change, "ladwenpik-teller")
-
-    def receipts(self) -> list[dict[str, Any]]:
-        """What the browser keeps of payments, in the order of the tickets."""
-        found: list[dict[str, Any]] = self.run_module(OPEN + READ_RECEIPTS, "ladwenpik-receipts")
-        return found
+        self.run(f"{SCRIPTS['write_journal']}\nreturn write_journal({change});")
 
     def settled(self) -> None:
         """Nothing is open, and no step is shown."""
@@ -108,10 +50,8 @@ class Page(Browser):
         self.settled()
         return self.text("#notices")
 
-    def watch_steps(self) -> None:
-        self.run(STEPS)
-
     def has_said(self, words: str) -> None:
+        """Since `watch_steps`."""
         steps = "return window.steps.some((step) => step.includes(arguments[0]))"
         self.until(lambda: self.run(steps, words), f"the page says: {words}")
 
@@ -249,7 +189,7 @@ class Page(Browser):
 
     def pay(self, payee: int | None = None) -> str:
         question = self.ask_to_pay(payee)
-        self.asked = self.bonds_asked()
+        self.asked = self.calls("bonds_asked")
         self.press("#confirm-yes")
         return question
 
@@ -291,12 +231,8 @@ class Page(Browser):
             chain = chain.send_keys(letter).pause(0.02)
         chain.perform()
 
-    def watch_beeps(self) -> None:
-        """From here on, for `beeps`."""
-        self.run(BEEPS)
-
     def beeps(self) -> int:
-        """How many tones were begun."""
+        """How many tones were begun since `watch_beeps`."""
         return int(self.run("return window.beeps"))
 
     # ---- walk-ins
@@ -318,12 +254,8 @@ class Page(Browser):
         else:
             self.answered(lambda: self.is_shown("#confirm"), "the page asks", again, patience)
 
-    def watch_rests(self) -> None:
-        """From here on, for `has_rested`."""
-        self.run(RESTS)
-
     def has_rested(self) -> None:
-        """The button that confirms rested for a second, and the keyboard is on Back."""
+        """The button that confirms rested for a second since `watch_rests`, and the keyboard is on Back."""
         self.until(lambda: len(self.run("return window.rests")) == 2, "the button has rested")
         (begins, first), (ends, last) = self.run("return window.rests")
         assert (begins, ends) == (True, False) and last - first > 900
@@ -331,11 +263,6 @@ class Page(Browser):
 
     def question(self) -> str:
         return f"{self.text('#confirm-title')}\n{self.text('#confirm-text')}"
-
-    def bonds_asked(self) -> list[list[str]]:
-        """The bonds of the question: of each the texts of its line."""
-        lines: list[list[str]] = self.run(BONDS_ASKED)
-        return lines
 
     def asked_without_doubt(self) -> str:
         """The texts of the page's question. Before it the page asks about letters that don't fit the denomination, as many here, about issue months, the open day and large sums."""

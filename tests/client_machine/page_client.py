@@ -72,7 +72,7 @@ class InBrowser(Node):
 
     def said(self) -> Json:
         given, self.given = json.dumps(self.given), []
-        found: Json = json.loads(self.browser.run_module("return exchanged(given[0])", given))
+        found: Json = json.loads(self.browser.run("return exchanged(arguments[0])", given))
         return found
 
 

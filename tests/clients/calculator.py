@@ -25,12 +25,6 @@ Changes = tuple[Change, ...]
 SIZE = (1280, 900)
 WIDTHS = (13, 6, 6, 7, 7, 7, 12, 14, 6, 14, 0)
 RIGHT = (2, 6, 7, 8, 9)
-#: Money as the counter prints it: the page writes it with a dollar sign and commas.
-ROWS = "return [...document.querySelectorAll('#table tbody tr')].map((row) => [...row.children].map((cell) => (cell.querySelector('.code') ?? cell).textContent.replace(/[$,]/g, '')));"
-#: What the browser keeps is read and written beside the page.
-OPENED = "const request = indexedDB.open('savings-bond-calculator', 1); request.onupgradeneeded = () => request.result.createObjectStore('kept'); await new Promise((resolve) => { request.onsuccess = resolve; }); const database = request.result;"
-RECORD = f"{OPENED} const got = database.transaction('kept').objectStore('kept').get('inventory'); await new Promise((resolve) => {{ got.onsuccess = resolve; }}); database.close(); return got.result ?? null;"
-PUT = f"{OPENED} const act = database.transaction('kept', 'readwrite'); act.objectStore('kept').put(given[0], 'inventory'); await new Promise((resolve) => {{ act.oncomplete = resolve; }}); database.close();"
 
 
 def variants(**changes: Change | Changes) -> pytest.MarkDecorator:
@@ -96,9 +90,7 @@ class Calculator(Browser):
 
     def begins(self, folder: Path) -> None:
         self.folder, self.patience = folder, 60.0
-        self.downloads = folder / "downloads"
-        self.downloads.mkdir()
-        self.engine.downloads(self.downloads)
+        self.saves_in(folder / "downloads")
 
     def ends(self) -> None:
         first, *others = self.driver.window_handles
@@ -159,7 +151,7 @@ class Calculator(Browser):
     # ---- what it shows
 
     def told(self) -> str:
-        return str(self.run("return document.querySelector('#told-text').textContent"))
+        return self.texts("#told-text")[0]
 
     def is_told(self, words: str) -> None:
         self.until(lambda: words in self.told(), f"it is told: {words}")
@@ -167,16 +159,16 @@ class Calculator(Browser):
     def rows(self) -> list[list[str]]:
         busy = "return document.querySelector('#table').getAttribute('aria-busy') !== 'true'"
         self.until(lambda: self.run(busy), "all rows are written")
-        found: list[list[str]] = self.run(ROWS)
-        return found
+        rows = self.calls("cells", "#table")
+        # Money as the counter prints it: the page writes it with a dollar sign and commas.
+        return [[re.sub("[$,]", "", text) for text in row] for row in rows]
 
     def serials(self) -> list[str]:
         return [row[0] for row in self.rows()]
 
     def texts(self, selector: str) -> list[str]:
         words = "return [...document.querySelectorAll(arguments[0])].map((one) => one.textContent);"
-        found: list[str] = self.run(words, selector)
-        return found
+        return list(self.run(words, selector))
 
     def total(self) -> list[str]:
         return [re.sub("[$,]", "", text) for text in self.texts("#table tfoot tr > *")]
@@ -206,11 +198,9 @@ class Calculator(Browser):
         self.run(words, text)
 
     def choose_module(self, bits: int) -> None:
-        words = "const field = document.querySelector('#module'); field.value = arguments[0]; field.dispatchEvent(new Event('input'))"
-        self.run(words, str(bits))
+        self.set_field("module", str(bits))
         named = f"the module of {bits} bits"
-        told = "return document.querySelector('#module-told').textContent"
-        self.until(lambda: named in self.run(told), named)
+        self.until(lambda: named in self.texts("#module-told")[0], named)
 
     def remove_all(self) -> None:
         self.run("window.confirm = () => true; document.querySelector('#remove-all').click()")
@@ -222,36 +212,22 @@ class Calculator(Browser):
         self.choose_month(month)
 
     def set_field(self, name: str, text: str) -> None:
-        words = "const field = document.querySelector(`#${arguments[0]}`); field.value = arguments[1]; field.dispatchEvent(new Event('input', { bubbles: true }))"
-        self.run(words, name, text)
+        self.calls("write", f"#{name}", text)
 
     def click(self, selector: str) -> None:
         self.run("document.querySelector(arguments[0]).click()", selector)
 
     def open_bond(self, serial: str) -> None:
-        words = "const button = [...document.querySelectorAll('#table .open')].find((one) => one.textContent === arguments[0]); button.focus(); button.click();"
-        self.run(words, serial)
-
-    def saved(self, name: str, press: str) -> str:
-        path = self.downloads / name
-        path.unlink(missing_ok=True)
-        self.click(press)
-
-        def is_whole() -> bool:
-            parts = [*self.downloads.glob("*.part"), *self.downloads.glob("*.crdownload")]
-            return path.exists() and path.stat().st_size > 0 and parts == []
-
-        self.until(is_whole, f"{name} is saved")
-        return path.read_bytes().decode()
+        self.calls("open_bond", serial)
 
     # ---- what the browser keeps
 
     def record(self) -> dict[str, Any] | None:
-        found: dict[str, Any] | None = self.run_module(RECORD)
+        found: dict[str, Any] | None = self.calls("record")
         return found
 
     def put(self, record: object) -> None:
-        self.run_module(PUT, record)
+        self.calls("put_record", record)
 
     def inventory(self) -> str:
         found = self.record()

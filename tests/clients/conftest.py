@@ -2,7 +2,6 @@
 
 from __future__ import annotations
 
-import os
 from pathlib import Path
 from typing import TYPE_CHECKING, Callable, Iterator
 
@@ -62,11 +61,6 @@ def page(bank: Bank, new_page: NewPage) -> Page:
     """The page at a desk that has joined February 6, 2012. Customers 7, 9 and 11 have three bonds each."""
     bank.begin()
     return new_page(day=DAY)
-
-
-@pytest.fixture
-def pictures() -> Path | None:
-    return Path(os.environ["PICTURES"]) if "PICTURES" in os.environ else None
 
 
 @pytest.fixture

@@ -5,7 +5,6 @@ import copy
 import json
 import re
 import shutil
-import subprocess
 from pathlib import Path
 from typing import Any, Callable, Iterator, NamedTuple
 
@@ -16,6 +15,7 @@ import ee_counter_client as client
 from ee_counter_client import answers, errors, sheets
 from ee_counter_client.spelling import serial_of
 from tests.clients.desk import DAY, Desk
+from tests.clients.node import node
 from tests.conftest import TOP
 
 #: The description.
@@ -191,10 +191,7 @@ def page_does(desk: Desk, api: Api) -> None:
     shutil.copytree(TOP / "clients/teller", modules, dirs_exist_ok=True)
     (modules / "package.json").write_text('{"type":"module"}')
     plan = {"modules": modules.as_uri(), "calls": calls, "answers": [one._asdict() for one in told]}
-    words = ["node", "--no-warnings", str(Path(__file__).parent / "api_page.mjs")]
-    ran = subprocess.run(words, input=json.dumps(plan), capture_output=True, text=True)
-    assert ran.returncode == 0, ran.stderr[-800:]
-    found = json.loads(ran.stdout)
+    found = json.loads(node(Path(__file__).parent / "api_page.mjs", text=json.dumps(plan)))
     sent = [message_fits(api, one["method"], one["path"], one["body"]) for one in found["sent"]]
     assert sorted(sent) == sorted(OF_PAGE)
     assert all("X-Counter-Client" in one["headers"] for one in found["sent"])

@@ -4,20 +4,13 @@ import datetime
 import json
 from typing import Any
 
-
 from tests.clients.calculator import NEEDS, Calculator, Changes, script, variants
 from tests.clients.calculator_data import INVENTORY
 from tests.clients.test_calculator_uses import add_pasted, put
-from tests.clients.scripts import scripts
 
 pytestmark = NEEDS
-SCRIPTS = scripts("calculator_scripts.js")
 #: A 50-dollar bond at 3.40 % is worth 50.14 at 241 months, by hand.
 BY_HAND = b"from,rate,extension\n2010-05,3.40,\n"
-FILTER = "document.querySelector('#filter').value = 'C'; document.querySelector('#filter').dispatchEvent(new Event('input')); document.querySelector('#month-on').click();"
-#: The browser's answers of its storage are held back, until `held` is let go.
-HELD = "const open = IDBFactory.prototype.open; window.held = []; IDBFactory.prototype.open = function (...given) { const request = open.apply(this, given); let told; Object.defineProperty(request, 'onsuccess', { set(tell) { request.addEventListener('success', (event) => { window.held === null ? tell(event) : window.held.push(() => tell(event)); }); } }); return request; };"
-LET_GO = "const held = window.held; window.held = null; for (const tell of held) tell();"
 EARLIER = {
     "inventory": f"{INVENTORY.decode()}C7EE,50,2010-05,7,\n",
     "rates": BY_HAND.decode(),
@@ -70,7 +63,7 @@ def test_unreadable(calc: Calculator, changes: Changes) -> None:
             calc.again()
             assert "can't read what an earlier visit kept" in calc.told()
             calc.adds("C1EE")
-            calc.run(FILTER)
+            calc.calls("filter")
             assert not calc.is_ticked() and calc.record() == record
             saved = calc.saved("kept.txt", "#keep-save")
             assert saved.startswith(str(record.get("inventory", "undefined")))
@@ -92,7 +85,7 @@ def test_earlier_version(calc: Calculator, changes: Changes) -> None:
         calc.run(put, "{ no JSON")
         calc.again()
         calc.adds("C1EE")
-        calc.run(FILTER)
+        calc.calls("filter")
         assert not calc.is_ticked() and calc.record() is None
         got = "return localStorage.getItem('savings-bond-calculator')"
         assert calc.run(got) == "{ no JSON"
@@ -118,7 +111,7 @@ def test_two_tabs(calc: Calculator, changes: Changes) -> None:
         calc.adds("C2EE", "C3EE")
         calc.is_written()
         calc.driver.switch_to.window(first)
-        calc.run(FILTER)
+        calc.calls("filter")
         calc.is_written()
         assert calc.kept_serials() == ["C1EE", "C2EE", "C3EE"]
         calc.until(lambda: len(calc.rows()) == 3, "the first tab has the bonds of the second")
@@ -130,13 +123,13 @@ def both_at_once(calc: Calculator, first: str, second: str) -> None:
     wanted = ["C1EE", "C3EE", "C4EE", "C5EE"]
     for tab, serial in ((first, "C4EE"), (second, "C5EE")):
         calc.driver.switch_to.window(tab)
-        calc.run(HELD)
+        calc.calls("hold_databases")
         calc.adds(serial)
     calc.open_bond("C2EE")
     calc.click("#bond-remove")
     for tab in (first, second):
         calc.driver.switch_to.window(tab)
-        calc.run(LET_GO)
+        calc.calls("let_go")
         calc.is_written()
     for tab in (first, second):
         calc.driver.switch_to.window(tab)
@@ -163,7 +156,7 @@ def differing(calc: Calculator, first: str, second: str) -> None:
 @variants(no_more_than_a_file=script("), Infinity))", ")))"))
 def test_many(calc: Calculator, changes: Changes) -> None:
     calc.serve(changes)
-    calc.run(SCRIPTS["many_pasted"])
+    calc.calls("many_pasted")
     is_read = lambda: "Add these 50,000" in calc.texts("#paste-add")[0]
     calc.until(is_read, "50,000 bonds are understood", 120)
     calc.run("document.querySelector('#paste-form').requestSubmit()")
@@ -228,7 +221,7 @@ def test_cleared_data(calc: Calculator, changes: Changes) -> None:
     assert not calc.run(ASKED)
     with calc.holds_not(changes):
         for wakes in ("dispatchEvent(new Event('focus'))", ""):
-            assert calc.run_module(SCRIPTS["clear"]) is True
+            assert calc.calls("clear") is True
             calc.run(wakes)
             calc.until(lambda: not calc.is_said(), "the page sees that nothing is kept", 15)
             assert "the browser's data was cleared" in calc.told() and calc.run(ASKED)

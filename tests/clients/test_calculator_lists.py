@@ -7,10 +7,8 @@ import pytest
 
 from tests.clients.calculator import NEEDS, Calculator, Changes, script, variants
 from tests.clients.test_calculator_uses import add_pasted, put
-from tests.clients.scripts import scripts
 
 pytestmark = NEEDS
-SCRIPTS = scripts("calculator_scripts.js")
 LIST = """Serial\tDenomination\tIssued
 L1EE\t50\t05/2010
 L2EE\t60\t05/2010
@@ -100,7 +98,7 @@ def test_fifty_thousand_bonds(calc: Calculator) -> None:
     """They are read and added in 3 seconds, below a bar that moves. On a machine that does other work it may take longer."""
     calc.serve()
     before = processor_seconds()
-    found = calc.run_module(SCRIPTS["fifty_thousand"])
+    found = calc.calls("fifty_thousand")
     assert isinstance(found, dict), found
     waiting = 2 * os.getloadavg()[0] / (os.cpu_count() or 1)
     slower = max(1.0, max(before, processor_seconds()) / 0.25, waiting)

@@ -1,11 +1,9 @@
-"""How the calculator looks and reads: 320 pixels, 200 % zoom, paper, names and contrast, a bond's dialog, and the pictures of docs/pictures."""
+"""How the calculator looks and reads: 320 pixels, 200 % zoom, paper, names and contrast, and a bond's dialog."""
 
 import datetime
 import random
-import subprocess
 import time
-from pathlib import Path
-from typing import Any, Iterable
+from typing import Any
 
 import pytest
 from selenium.webdriver.common.keys import Keys
@@ -14,14 +12,10 @@ from tests.browser.engines import Chromium, said
 from tests.clients.calculator import NEEDS, SIZE, Calculator, Changes, script, variants
 from tests.clients.calculator_data import INVENTORY, KNOWN, inventory_file, random_bonds
 from tests.clients.test_calculator_uses import put
-from tests.clients.scripts import scripts
+from tests.conftest import TOP
 
 pytestmark = NEEDS
-SCRIPTS = scripts("calculator_scripts.js")
-BONDS = """C1204415EE,100,2006-03,7, C1204416EE,100,2006-03,7, K20488EE,75,2010-10,7,8
-L77031EE,50,2010-11,7, L77032EE,50,2010-11,7,8 D9910EE,500,2005-05,7, D9911EE,500,2007-12,7,
-M801EE,1000,2011-08,7, R802EE,200,2011-11,7, V4400127EE,5000,2009-06,7, X300519EE,10000,2011-02,7,"""
-FILE = INVENTORY + "".join(f"{line}\n" for line in BONDS.split()).encode()
+FILE = (TOP / "docs/pictures/inventory.csv").read_bytes()
 DETAILS = "for (const one of document.querySelectorAll('details')) one.open = true"
 LONG = "Serial\tDenom\tIssued\tOwner\tCoowner\nW9999999999EE\t10000\tSeptember 2010\t999999999\t999999998\nC1EE\t50\t5/2010\t7\t\n"
 SHORT = "W9999999999EE\t10000\tSeptember 2010\nC1EE\t50\t5/2010\n"
@@ -29,9 +23,9 @@ SHORT = "W9999999999EE\t10000\tSeptember 2010\nC1EE\t50\t5/2010\n"
 
 def fits(calc: Calculator) -> None:
     """Nothing goes over the edge, no cell is cut, no word and no sum is broken."""
-    assert calc.run(SCRIPTS["broken"]) == []
-    assert calc.run(SCRIPTS["over"]) == [False, []]
-    assert calc.run(SCRIPTS["cut"]) == []
+    assert calc.calls("broken") == []
+    assert calc.calls("over") == [False, []]
+    assert calc.calls("cut") == []
 
 
 def widest(calc: Calculator) -> None:
@@ -64,7 +58,7 @@ def test_narrow(calc: Calculator, changes: Changes) -> None:
                 put(calc, text)
                 fits(calc)
             put(calc, "")
-            assert calc.run(SCRIPTS["small"]) == [] and calc.run(SCRIPTS["value_first"])
+            assert calc.calls("small") == [] and calc.calls("value_first")
             calc.open_inventory(INVENTORY + b"x" * 200 + b",50,2010-05,7,\n")
             fits(calc)
         widest(calc)
@@ -107,7 +101,7 @@ def whole_dialog(calc: Calculator, serial: str) -> None:
     fits(calc)
     for _ in range(3):
         calc.keys(Keys.TAB)
-        assert not calc.run(SCRIPTS["outside"])
+        assert not calc.calls("outside")
     assert calc.has_keyboard("#bond-remove")
     calc.keys(Keys.ESCAPE)
     focused = "return document.activeElement.textContent"
@@ -144,13 +138,6 @@ def test_dialogs(calc: Calculator, changes: Changes) -> None:
             whole_dialog(calc, "W9999999999EE")
 
 
-def paper(calc: Calculator) -> list[str]:
-    path = calc.folder / "page.pdf"
-    path.write_bytes(calc.engine.pdf(colored=True))
-    words = ["pdftotext", "-layout", str(path), "-"]
-    return subprocess.run(words, capture_output=True, text=True, check=True).stdout.split("\f")[:-1]
-
-
 NOT_PRINTED = ["Add a list of bonds", "The value of a bond", "Save the inventory", "Open rates"]
 NOT_PRINTED += ["Filter", "Choose"]
 
@@ -165,7 +152,7 @@ def test_paper(calc: Calculator, changes: Changes) -> None:
     calc.choose_month("2030-06")
     time.sleep(1)
     with calc.holds_not(changes):
-        pages = paper(calc)
+        pages = calc.printed(colored=True)
         text = "\n".join(pages)
         assert [bond[0] for bond in bonds if bond[0] not in text] == []
         value = f"${float(calc.total()[9]):,.2f}"
@@ -194,7 +181,10 @@ def test_last_pages(calc: Calculator, changes: Changes) -> None:
             calc.open_inventory(INVENTORY + lines.encode())
             calc.choose_month("2026-11")
             time.sleep(0.5)
-            pages = [[line for line in text.splitlines() if line.strip()] for text in paper(calc)]
+            pages = [
+                [line for line in text.splitlines() if line.strip()]
+                for text in calc.printed(colored=True)
+            ]
             assert f"Printed {today:%B} {today.day}, {today.year}" in pages[0][2]
             for printed in pages:
                 has_total = any(line.startswith("Total") for line in printed)
@@ -208,8 +198,8 @@ WANTED = [[0] * 6, 1, 0, ["told-text", "one-told"], "en"]
 
 def reads_well(calc: Calculator) -> None:
     """Each field, button and drawing has a name, headings are in order, there are two live regions, and each text has a contrast of 4.5 to 1."""
-    assert calc.run(SCRIPTS["names"]) == WANTED
-    count, poor = calc.run(SCRIPTS["poor"])
+    assert calc.calls("names") == WANTED
+    count, poor = calc.calls("poor")
     assert count > 50 and poor == []
 
 
@@ -232,9 +222,9 @@ def test_reading(calc: Calculator) -> None:
     reads_well(calc)
     calc.engine.dark(False)
     calc.run("document.querySelector('#told-text').style.color = '#999999'")
-    assert calc.run(SCRIPTS["poor"])[1] != [], "control: a pale text"
+    assert calc.calls("poor")[1] != [], "control: a pale text"
     calc.run("document.querySelector('label[for=serial]').remove()")
-    assert calc.run(SCRIPTS["names"]) != WANTED, "control: a field without a label"
+    assert calc.calls("names") != WANTED, "control: a field without a label"
 
 
 def roles_of(engine: Chromium) -> list[Any]:
@@ -250,40 +240,3 @@ def screen_reader(calc: Calculator, engine: Chromium) -> None:
     calc.run("scrollTo(0, 0)")
     assert roles_of(engine).count("rowheader") >= bonds + 1, "rows in a narrow window too"
     calc.resize(*SIZE)
-
-
-def few_colors(paths: Iterable[Path]) -> None:
-    from PIL import Image
-
-    for path in paths:
-        picture = Image.open(path).convert("RGB").quantize(48, dither=Image.Dither.NONE)
-        picture.save(path, optimize=True)
-
-
-@pytest.mark.needs("module:PIL", "pdftoppm")
-def test_pictures(calc: Calculator, pictures: Path | None) -> None:
-    """By Chromium, if $PICTURES names their folder."""
-    if pictures is None or calc.name != "chromium":
-        pytest.skip("PICTURES names no folder")
-    folder = pictures
-    calc.serve()
-    calc.open_inventory(FILE)
-    calc.choose_month("2026-11")
-    calc.run("document.querySelector('#told-close').click(); document.activeElement.blur()")
-
-    def takes(name: str, width: int, height: int, scroll: str = "scrollTo(0, 0)") -> None:
-        calc.resize(width, height)
-        calc.run(scroll)
-        time.sleep(0.6)
-        calc.picture(folder / name)
-
-    takes("calculator.png", 1160, 1640)
-    calc.click("#table .open")
-    takes("calculator-bond.png", 820, 880)
-    calc.run("document.querySelector('#bond').close(); document.activeElement.blur()")
-    takes("calculator-phone.png", 320, 900, "document.querySelector('#shown').scrollIntoView()")
-    calc.resize(*SIZE)
-    (calc.folder / "page.pdf").write_bytes(calc.engine.pdf(colored=True))
-    words = ["pdftoppm", "-r", "70", "-png", "-singlefile", str(calc.folder / "page.pdf")]
-    subprocess.run([*words, str(pictures / "calculator-print")], check=True)
-    few_colors(pictures.glob("calculator*.png"))

@@ -14,6 +14,7 @@ import pytest
 from tests.clients import calculator_lists as lists
 from tests.clients.calculator_data import INVENTORIES, PUBLISHED, RATE_FILES, KNOWN, SHIPPED, Case
 from tests.clients.calculator_data import answers, damaged, inventory_file, random_bonds, sheets
+from tests.clients.node import node
 from tests.conftest import TOP
 from tests.shared import exact
 from tests.shared.counter_calls import run
@@ -27,13 +28,6 @@ MODULES: dict[int, tuple[Path, list[str]]] = {
     32: (OUT / "ee_value.wasm", []),
     64: (OUT / "ee_value64.wasm", ["--experimental-wasm-memory64"]),
 }
-
-
-def node(*words: object, text: str | None = None) -> str:
-    line = ["node", "--no-warnings", *map(str, words)]
-    done = subprocess.run(line, input=text, capture_output=True, text=True)
-    assert done.returncode == 0, done.stderr
-    return done.stdout
 
 
 def compared(module: Path, flags: list[str], published: Path, questions: Path) -> None:

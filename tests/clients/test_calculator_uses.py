@@ -15,11 +15,9 @@ from tests.clients.calculator import NEEDS, Calculator, Changes, Site, script, v
 from tests.clients.calculator_data import INVENTORY, KNOWN, PUBLISHED, inventory_file, random_bonds
 from tests.clients.calculator_data import random_rates, rates_file
 from tests.clients.calculator_lists import LETTERS
-from tests.clients.scripts import scripts
 from tests.conftest import TOP
 
 pytestmark = NEEDS
-SCRIPTS = scripts("calculator_scripts.js")
 #: A 50-dollar bond at 3.40 % is worth 48.90 at 239 months, 50.00 at 240 and 50.14 at 241, by hand.
 BY_HAND = b"from,rate,extension\n2010-05,3.40,\n"
 TABLE = tomllib.loads((TOP / "tests/clients/pastes.toml").read_text())
@@ -66,14 +64,16 @@ def test_typing(calc: Calculator, changes: Changes) -> None:
 
 
 NAMES = "Row 1 names the columns."
-PREVIEW = "return [...document.querySelectorAll('#understood-rows tbody tr')].map((row) => [...row.children].slice(1, 4).map((cell) => cell.textContent));"
 NOTES = "#understood-notes li"
-PASTE = "document.querySelector('#paste-form').closest('details').open = true; document.querySelector('#pasted').value = arguments[0]; document.querySelector('#pasted').dispatchEvent(new InputEvent('input', { inputType: 'insertFromPaste' }))"
 
 
 def put(calc: Calculator, text: str) -> str:
-    calc.run(PASTE, text)
+    calc.calls("paste", text)
     return calc.told()
+
+
+def preview(calc: Calculator) -> list[list[str]]:
+    return [row[1:4] for row in calc.calls("cells", "#understood-rows")]
 
 
 def add_pasted(calc: Calculator) -> str:
@@ -101,7 +101,7 @@ def test_pasting(calc: Calculator, changes: Changes) -> None:
         for text, bonds, said in TABLE["pasted"]:
             told, wanted = put(calc, text), as_shown(bonds)
             assert told.startswith(f"{len(wanted)} bond") and "understood" in told, text
-            assert calc.run(PREVIEW) == wanted, text
+            assert preview(calc) == wanted, text
             assert set(calc.texts(NOTES)) == {line for line in said.split("|") if line}, text
             assert len(calc.rows()) == count, "nothing is added before it is shown"
             button = "Add this bond" if len(wanted) == 1 else f"Add these {len(wanted)} bonds"
@@ -121,13 +121,12 @@ def test_pasting(calc: Calculator, changes: Changes) -> None:
         # A CSV file that a spreadsheet wrote.
         file = b'\xef\xbb\xbf"Serial","Denomination","Issue date"\r\nM23EE,"$1,000.00 ",May-10\r\n'
         assert "1 bond understood" in calc.open_inventory(file)
-        assert calc.run(PREVIEW) == [["M23EE", "$1,000", "May 2010"]]
+        assert preview(calc) == [["M23EE", "$1,000", "May 2010"]]
         assert "read the file as a list of a spreadsheet" in calc.texts("#told-list")[0]
         assert add_pasted(calc).startswith("1 bond added") and len(calc.rows()) == count + 1
 
 
 SOLD = "Paper bonds were sold until December 2011."
-FACTS = "return [...document.querySelectorAll('#bond-facts dt')].map((one) => `${one.textContent}: ${one.nextSibling.textContent}`);"
 
 
 def bond_line(serial: str, dollars: int, issued: str = "2011-12") -> bytes:
@@ -175,10 +174,10 @@ def remarked_as_typed(calc: Calculator, count: int) -> None:
     assert calc.texts("#one-words")[0].endswith(SOLD), "the next bond has no serial number yet"
     assert "begin with" not in calc.texts("#one-words")[0]
     calc.open_bond("C12EE")
-    assert calc.run(FACTS)[-1] == f"To check: {words}"
+    assert list(calc.calls("terms", "#bond-facts").items())[-1] == ("To check", words)
     calc.run("document.querySelector('#bond').close()")
     calc.open_bond("L1EE")
-    assert not [line for line in calc.run(FACTS) if line.startswith("To check")]
+    assert "To check" not in calc.calls("terms", "#bond-facts")
     calc.run("document.querySelector('#bond').close()")
     calc.set_field("issued", "Dec 2011")
     assert not calc.texts("#one-words")[0].endswith(SOLD)
@@ -247,7 +246,6 @@ def units() -> dict[tuple[str, str], int]:
     return {(row["issued"], row["redeemed"]): int(row["unit_cents"]) for row in rows}
 
 
-ABOVE = "const top = (one) => one.getBoundingClientRect().top; const [first, ...others] = document.querySelectorAll('main > section'); return first.id === 'one' && others.every((one) => !one.checkVisibility() || top(one) > top(first)) && document.querySelector('#one-words').getBoundingClientRect().bottom < innerHeight;"
 ON_INPUT = 'addEventListener("input", showOne)'
 
 
@@ -279,10 +277,9 @@ def test_value_at_once(calc: Calculator, changes: Changes) -> None:
         for width, height in ((1440, 900), (1024, 768), (768, 1024), (360, 640)):
             calc.resize(width, height)
             calc.run("document.querySelector('#told-close').click(); scrollTo(0, 0)")
-            assert calc.run(ABOVE), f"it is above everything else in {width} by {height}"
+            assert calc.calls("is_above"), f"it is above everything else in {width} by {height}"
 
 
-SUMS = "return Object.fromEntries([...document.querySelectorAll('#sums dt')].map((one) => [one.textContent, one.nextSibling.textContent]));"
 YEAR = "Math.floor(state.month / 12)"
 
 
@@ -302,7 +299,7 @@ def test_interest_of_the_year(calc: Calculator, changes: Changes) -> None:
             for issued, units_of in (("2010-05", 20), ("2006-03", 2)):
                 now, then = (published.get((issued, at), 1250) for at in (month, december))
                 cents += units_of * (now - then)
-            shown = calc.run(SUMS)[f"Interest of {month[:4]}"]
+            shown = calc.calls("terms", "#sums")[f"Interest of {month[:4]}"]
             assert shown == f"${cents / 100:,.2f}, {said}"
 
 
@@ -330,10 +327,6 @@ def test_clocks(calc: Calculator, changes: Changes) -> None:
         assert (calc.told(), calc.value("#month")) == ("", f"{last[5:]}/{last[:4]}")
 
 
-AHEAD = "return [...document.querySelectorAll('#bond-ahead tbody tr')].map((row) => [...row.children].slice(1).map((cell) => cell.textContent));"
-POINTS = "return [...document.querySelectorAll(`${arguments[0]} tbody tr`)].map((row) => [...row.children].map((cell) => cell.textContent))"
-
-
 @variants(doubled_a_month_late=script("DOUBLES = 240", "DOUBLES = 241"))
 def test_ahead(calc: Calculator, changes: Changes) -> None:
     """What a bond will be worth, against values worked out by hand; the charts' 31 yearly values as tables."""
@@ -341,10 +334,10 @@ def test_ahead(calc: Calculator, changes: Changes) -> None:
     calc.shows_only(BY_HAND, INVENTORY + b"C1EE,50,2010-05,7,8\n", "2014-06")
     with calc.holds_not(changes):
         calc.open_bond("C1EE")
-        found = calc.run(AHEAD)
+        found = [row[1:] for row in calc.calls("cells", "#bond-ahead")]
         assert [row[0] for row in found] == ["July 2014", "May 2015", "May 2030", "May 2040"]
         assert found[2][1] == "$50.00"
-        points = calc.run(POINTS, "#bond-figure")
+        points = calc.calls("cells", "#bond-figure")
         assert len(points) == 31 and points[0] == ["May 2010", "$25.00"]
         assert points[20] == ["May 2030", "$50.00"]
         label = calc.find("#bond-figure svg").get_attribute("aria-label")
@@ -354,9 +347,9 @@ def test_ahead(calc: Calculator, changes: Changes) -> None:
         for at, value in (("2030-04", "48.90"), ("2030-06", "50.14")):
             calc.choose_month(at)
             assert calc.rows()[0][9] == value
-        is_whole = lambda: len(calc.run(POINTS, "#curve-figure")) == 31
+        is_whole = lambda: len(calc.calls("cells", "#curve-figure")) == 31
         calc.until(is_whole, "the inventory's curve")
-        assert calc.run(POINTS, "#curve-figure") == points
+        assert calc.calls("cells", "#curve-figure") == points
 
 
 @variants(worker_that_keeps_nothing=("sw.js", "With(answer(event", "With(fetch(event"))
@@ -389,7 +382,7 @@ def test_fences(calc: Calculator, changes: Changes) -> None:
     assert names and all(name.startswith(url) for name in names)
     assert calc.run(STORED) == 0
     with calc.holds_not(changes):
-        found = calc.run_module(SCRIPTS["attempts"], other.url)
+        found = calc.calls("attempts", other.url)
         assert found == ["stopped"] * 3 and other.asked == []
 
 
@@ -397,19 +390,16 @@ def test_speed(calc: Calculator, dice: random.Random) -> None:
     calc.serve()
     bonds = random_bonds(dice, 10_000, months=KNOWN)
     assert "10,000 bonds added" in calc.open_inventory(inventory_file(bonds))
-    scrolled, median = calc.run_module(SCRIPTS["frames"])
+    scrolled, median = calc.calls("frames")
     assert scrolled > 100_000 and median < 100
 
 
-FOCUSED = "const one = document.activeElement; const { outlineStyle, outlineWidth } = getComputedStyle(one); return one === document.body ? ['', ''] : [one.id || one.dataset.column || one.dataset.text || one.textContent, `${outlineStyle} ${outlineWidth}`];"
-
-
 def all_reached(calc: Calculator) -> None:
-    wanted, reached = set(calc.run(SCRIPTS["controls"])), set()
+    wanted, reached = set(calc.calls("controls")), set()
     calc.run("document.querySelector('.skip').focus()")
     for _ in range(len(wanted) + 15):
         calc.keys(Keys.TAB)
-        name, outline = calc.run(FOCUSED)
+        name, outline = calc.calls("outline")
         if name in ("", "skip"):
             break
         reached.add(name)

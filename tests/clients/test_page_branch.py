@@ -7,10 +7,8 @@ from typing import Any, Mapping
 import pytest
 
 from tests.browser.bank import DAY, PAGE, Bank, Front, bond
-from tests.clients.conftest import NewPage
-
-pytest.importorskip("selenium")
 from tests.browser.page import VALUES, dollars
+from tests.clients.conftest import NewPage
 
 pytestmark = [pytest.mark.browser, pytest.mark.nginx, pytest.mark.slow]
 TICKETS = 900

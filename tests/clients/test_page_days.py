@@ -6,14 +6,10 @@ import re
 import pytest
 
 from tests.browser.bank import DAY, USER, Bank
-from tests.clients.conftest import NewPage
-from tests.clients.scripts import scripts
-
-pytest.importorskip("selenium")
 from tests.browser.page import EARLIER, VALUES, Page, dollars
+from tests.clients.conftest import NewPage
 
 pytestmark = [pytest.mark.browser, pytest.mark.nginx]
-SCRIPTS = scripts("page_scripts.js")
 SUM = sum(VALUES.values())
 JOURNAL = {"desk", "next", "open", "day", "closed", "last", "paid", "tally"}
 TICKET = {"ticket", "bonds", "total", "number", "at", "teller", "printed"}
@@ -22,7 +18,7 @@ TICKET = {"ticket", "bonds", "total", "number", "at", "teller", "printed"}
 def keeps_nothing(page: Page) -> None:
     """No bond number and no customer in any storage of the browser, receipts apart."""
     page.settled()
-    others, databases, address = page.run_module(SCRIPTS["storages"])
+    others, databases, address = page.calls("storages")
     assert others == [[], [], [], ""]
     assert databases == ["ladwenpik-receipts", "ladwenpik-teller"]
     assert re.search(r"/teller/(#[a-z]+)?$", address)
@@ -47,7 +43,7 @@ def names_all(page: Page) -> None:
 def test_a_day(bank: Bank, new_page: NewPage) -> None:
     bank.begin([7], day=None)
     page = new_page(3)
-    page.run(SCRIPTS["heard"])
+    page.calls("heard")
     page.open_day(DAY)
     page.waits_for("February 6, 2012 is open.")
     page.show_sheet(7)
@@ -98,7 +94,7 @@ def test_usual_day(bank: Bank, new_page: NewPage) -> None:
     bank.opens("2012-02-03")
     bank.closes("2012-02-03")
     page = new_page()
-    page.run(SCRIPTS["server_date"], "Mon, 06 Feb 2012 14:00:00 GMT")
+    page.calls("server_date", "Mon, 06 Feb 2012 14:00:00 GMT")
     distance = "3 days after the last closed day, Friday, February 3, 2012."
     asks(page, DAY, f"Open February 6, 2012?\nMonday, February 6, 2012: {distance}", ONCE)
     assert bank.gate.bodies == [] and page.journal()["open"] is None, "Back sends nothing"
@@ -145,7 +141,7 @@ def test_far_from_today(bank: Bank, new_page: NewPage) -> None:
         ("Wed, 01 Feb 2012", "Friday, February 3, 2012.", ONCE),
         ("Tue, 31 Jan 2012", f"{CLOCK} January 31, 2012, which can't be right", TWICE),
     ):
-        page.run(SCRIPTS["server_date"], f"{today} 14:00:00 GMT")
+        page.calls("server_date", f"{today} 14:00:00 GMT")
         asked = page.ask_to_open(DAY)
         assert words in asked and page.text("#confirm-yes") == times
         assert ("today" in asked or CLOCK in asked) == (times == TWICE)
@@ -166,7 +162,7 @@ def test_wrong_year(bank: Bank, new_page: NewPage) -> None:
     far = "Thursday, February 6, 2121: no closed day was found in the 7 days before it."
     assert far in page.ask_to_open("2121-02-06")
     page.rested("#confirm-yes")
-    page.watch_rests()
+    page.calls("watch_rests")
     page.press("#confirm-yes")
     page.until(lambda: "Is the year 2121 right?" in page.question(), "it asks again")
     said = ("values in February 2121", "no earlier day can ever be opened", "mistyped, choose Back")

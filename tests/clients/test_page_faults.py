@@ -7,14 +7,11 @@ from typing import Callable
 
 import pytest
 from ee_counter_client.testing.gate import AFTER, BEFORE
-
 from tests.browser.bank import DAY, RATE, USER, Bank, Front
 from tests.browser.gate import Relay
+from tests.browser.page import EARLIER, VALUES, Page, dollars
 from tests.clients.conftest import NewPage
 from tests.conftest import at_once
-
-pytest.importorskip("selenium")
-from tests.browser.page import EARLIER, VALUES, Page, dollars
 
 pytestmark = [pytest.mark.browser, pytest.mark.nginx]
 SUM = sum(VALUES.values())
@@ -128,7 +125,7 @@ def test_silent_counter(bank: Bank, new_page: NewPage) -> None:
     bank.begin([7], day=None)
     page = new_page()
     bank.gate.faults = ["silent"]
-    page.watch_steps()
+    page.calls("watch_steps")
     page.open_day(DAY)
     begun = time.monotonic()
     page.waits_for("sent, waiting for the reply", "#progress")
@@ -155,8 +152,8 @@ RESENT = {
 
 
 MAY_BE = "no reply yet. Nothing may be paid out yet. The payment may have been made already."
-#: No pause ends but by its button.
-HELD = "const real = window.setTimeout; window.setTimeout = (act, wait, ...more) => (wait >= 500 && wait % 500 === 0 && wait !== 1500 ? 0 : real(act, wait, ...more));"
+#: No pause of these milliseconds ends but by its button.
+PAUSES = (500, 1000, 2000, 4000, 8000, 15000)
 
 
 def sends_now(page: Page) -> None:
@@ -167,7 +164,7 @@ def sends_now(page: Page) -> None:
 def test_faults_on_resend(bank: Bank, page: Page) -> None:
     """A payment whose answer is lost after the commit; each resend meets a fault; then the true reply comes. So it does if nginx misses a certificate on the first sending."""
     bank.registers_many(60, 2)
-    page.run(HELD)
+    page.calls("hold", *PAUSES)
     rounds = {"lost answer": list(RESENT), "no certificate": ["no certificate"]}
     for ticket, (first, faults) in enumerate(rounds.items(), 1):
         sent = len(bank.gate.bodies)
@@ -333,7 +330,7 @@ def test_chosen_twice(bank: Bank, page: Page) -> None:
     page.sleep(1)
     page.shows_sum(3, VALUES["L"] + 2 * VALUES["K"])
     page.ask_to_pay(8)
-    assert sorted(serial for serial, *_ in page.bonds_asked()) == ["K7EE", "K9EE", "L7EE"]
+    assert sorted(serial for serial, *_ in page.calls("bonds_asked")) == ["K7EE", "K9EE", "L7EE"]
     page.press("#confirm-no")
     others = page.text("#others")
     assert "K7EE" not in others and others.count("K9EE:") + others.count("K9EE, owner") == 1

@@ -11,18 +11,10 @@ from statistics import median
 import pytest
 
 from tests.browser.bank import PAGE, USER, Bank
-from tests.conftest import TOP
-
-pytest.importorskip("selenium")
 from tests.browser.engines import Chromium
 from tests.browser.gate import Relay
 from tests.browser.page import Page
-
-#: The files that came over the network, and their bytes.
-LOADED = """
-    const files = performance.getEntriesByType("resource").filter((one) => one.transferSize > 0 && !one.name.endsWith("/user"));
-    return [files.map((one) => one.name.split("/").at(-1)).sort(), files.reduce((sum, one) => sum + one.transferSize, 0)];
-"""
+from tests.conftest import TOP
 
 
 def imported(folder: Path, name: str = "main.js") -> set[str]:
@@ -104,7 +96,7 @@ class Trusting(Chromium):
         page.open("about:blank")
         page.open(url)
         page.until(lambda: page.is_shown("#start form"), "the page is there")
-        files, size = page.run(LOADED)
+        files, size = page.calls("loaded")
         return files, size
 
 

@@ -4,7 +4,6 @@ import itertools
 import json
 import re
 import string
-import subprocess
 import tomllib
 from email.utils import parsedate_to_datetime
 from pathlib import Path
@@ -13,21 +12,17 @@ from typing import Any
 import pytest
 
 from tests.browser.bank import OLDEST, PAGE, TOO_YOUNG, UNISSUED, Bank, released_in
-from tests.clients.scripts import scripts
+from tests.clients.node import node
 from tests.conftest import TOP
 from tests.shared.hostile import desk
 
 pytestmark = pytest.mark.needs("node")
-SCRIPTS = scripts("page_scripts.js")
-MODULES = ["words", "answers", "sheet", "spelling", "doubts", "papers"]
 
 
-def in_node(script: str, *given: object) -> Any:
-    text = json.dumps([str(PAGE), MODULES, script, given])
-    words = ["node", "--no-warnings", str(Path(__file__).parent / "page_modules.mjs"), text]
-    ran = subprocess.run(words, capture_output=True, text=True, timeout=60)
-    assert ran.returncode == 0, ran.stderr
-    return json.loads(ran.stdout)
+def in_node(name: str, *given: object) -> Any:
+    """What a function of page_modules.mjs returns."""
+    text = json.dumps([str(PAGE), name, given])
+    return json.loads(node(Path(__file__).parent / "page_modules.mjs", text))
 
 
 # ---- words
@@ -40,7 +35,6 @@ NAMES = {
     "unserved": {1: "NoMemory", 2: "StoreFailed"},
 }
 UNKNOWN = "which this page doesn't know"
-SENTENCES = "return given[0].map((answer) => { const { says, advises } = page.inWords(answer); return [says, advises]; });"
 
 
 def test_words_of_codes() -> None:
@@ -61,13 +55,13 @@ def test_words_of_codes() -> None:
         for kind, names in NAMES.items()
         for code, name in names.items()
     ]
-    found = in_node(SENTENCES, answers)
+    found = in_node("sentences", answers)
     for says, advises in found:
         assert len(says) > 10 and len(advises) > 10 and "undefined" not in says + advises
         assert UNKNOWN not in says
     assert len({says for says, _ in found}) == len(answers)
     others = [{"kind": "refused", "code": code, "name": "Other"} for code in (99, 52)]
-    assert all(UNKNOWN in says for says, _ in in_node(SENTENCES, others))
+    assert all(UNKNOWN in says for says, _ in in_node("sentences", others))
 
 
 #: nginx's reasons to pass a request on to nobody, with their statuses.
@@ -75,7 +69,6 @@ REASONS = [
     *(("certificate", 400), ("request", 400), ("request", 414), ("origin", 403), ("client", 403)),
     *(("type", 403), ("group", 403), ("chunks", 411), ("size", 413), ("host", 421)),
 ]
-READ_ANSWERS = "return given[0].map(([status, text]) => page.readAnswer(status, text, () => null)).map(({ kind, why }) => [kind, why]);"
 
 
 def test_words_of_nginx() -> None:
@@ -90,15 +83,14 @@ def test_words_of_nginx() -> None:
     texts = ('{"forbidden":"x"}', '{"forbidden":["group"]}', "{}", "", "null", "[]")
     others = [*((403, text) for text in texts), (200, '{"forbidden":"group"}'), (404, gone)]
     wanted += [(*other, ["none", "status"]) for other in others]
-    assert in_node(READ_ANSWERS, [row[:2] for row in wanted]) == [row[2] for row in wanted]
-    script = "return given[0].map((why) => { const { says, advises } = page.forbiddenInWords(why, '/redeem'); return [says, advises]; });"
-    sentences = in_node(script, [why for why, _ in REASONS])
+    assert in_node("answers", [row[:2] for row in wanted]) == [row[2] for row in wanted]
+    sentences = in_node("forbidden", [why for why, _ in REASONS])
     assert all(len(says) > 10 and len(advises) > 10 for says, advises in sentences)
     assert len({says for says, _ in sentences}) == len(dict(REASONS))
 
 
 def test_words_of_a_first_attempt() -> None:
-    says, why = in_node(SCRIPTS["first_attempt"])[:2]
+    says, why = in_node("first_attempt")[:2]
     assert "This attempt did nothing." in says and "earlier" not in why
     assert "This browser sent no certificate of the staff, or it was revoked or has run out." in why
 
@@ -110,22 +102,21 @@ def test_entries() -> None:
     """Only 32 hex digits are an entry of the log; without a header there is none."""
     other = "fedcba9876543210" * 2
     texts = [None, "", "x", ENTRY[1:], ENTRY + "0", "<b>" + ENTRY, ENTRY, f"{other}, {ENTRY}"]
-    found = in_node("return given[0].map(page.readEntry);", texts)
+    found = in_node("entries", texts)
     assert found == [None] * 6 + [ENTRY] * 2
 
 
 def test_amounts_and_times() -> None:
-    words = "return given[0].map((cents) => page.amountInWords(BigInt(cents)));"
     amounts = tomllib.loads((TOP / "tests/clients/page.toml").read_text())["amounts"]
-    assert dict(zip(amounts, in_node(words, [*amounts]))) == amounts
+    assert dict(zip(amounts, in_node("amounts", [*amounts]))) == amounts
     times = ("12:05 AM", "9:30 AM", "12:00 PM", "11:59 PM")
     wanted = [*(f"February 6, 2012, {time}" for time in times), "December 31, 2012"]
-    assert in_node(SCRIPTS["times"]) == wanted
+    assert in_node("times") == wanted
 
 
 def test_rows_of_sheets() -> None:
     """Up to 1,000 rows are put on sheets that have room for them, with five at least on the last."""
-    splits = in_node("return Array.from({ length: 1001 }, (_, count) => page.rowsOfSheets(count));")
+    splits = in_node("splits")
     for count, sizes in enumerate(splits):
         assert sum(sizes) == count and max(sizes) <= 38 and sizes[0] <= 26, (count, sizes)
         assert len(sizes) == 1 or 5 <= sizes[-1] <= 29, (count, sizes)
@@ -134,14 +125,13 @@ def test_rows_of_sheets() -> None:
 # ---- doubts
 #: The letters of paper bonds of Series EE, by their denominations.
 LETTERS = {"L": 50, "K": 75, "C": 100, "R": 200, "D": 500, "M": 1000, "V": 5000, "X": 10000}
-DOUBTS = "return given[0].map((bonds) => page.doubtsOf(bonds.map(([serial, denom, issued]) => ({ serial, denom: String(denom), issued }))));"
 
 
 def test_doubts() -> None:
     """Each letter with each denomination, and issue months around the last of paper."""
     pairs = list(itertools.product(string.ascii_uppercase, LETTERS.values()))
     bonds = [[(f"{letter}1EE", denom, "05/2010")] for letter, denom in pairs]
-    doubts = dict(zip(pairs, in_node(DOUBTS, bonds)))
+    doubts = dict(zip(pairs, in_node("doubts", bonds)))
     for (letter, denom), said in doubts.items():
         assert len(said) == (LETTERS.get(letter) != denom), (letter, denom, said)
     is_wrong = "M1EE: the letter M means $1,000, and the denomination here is $10,000."
@@ -149,11 +139,11 @@ def test_doubts() -> None:
     none = "no denomination has the letter S, and the denomination here is $50."
     assert doubts["S", 50] == [f"S1EE: {none}"]
     months = ("05/2005", "11/2011", "12/2011", "01/2012", "02/2012", "12/2099")
-    found = in_node(DOUBTS, [[("L1EE", 50, month)] for month in months])
+    found = in_node("doubts", [[("L1EE", 50, month)] for month in months])
     assert [len(said) for said in found] == [0, 0, 0, 1, 1, 1]
     assert found[3] == ["L1EE: issued 01/2012, and paper was sold only until 12/2011."]
     many = [(f"S{number}EE", 50, "05/2010") for number in range(1, 6)]
-    assert in_node(DOUBTS, [many]) == [[f"S1EE, S2EE, S3EE and 2 more: {none}"]]
+    assert in_node("doubts", [many]) == [[f"S1EE, S2EE, S3EE and 2 more: {none}"]]
 
 
 def test_the_release_is_dated() -> None:
@@ -176,7 +166,7 @@ def test_sheets(bank: Bank) -> None:
     bank.registers(TOO_YOUNG, UNISSUED, OLDEST)
     for month in ("2005-05", "2010-12", "2012-02", "2025-06", "2041-02", "2199-12"):
         text = bank.ask("GET", f"/inventory/7/{month}")[1]
-        rows, total, tried, read = in_node(SCRIPTS["sheets"], text)
+        rows, total, tried, read = in_node("sheets", text)
         lines = text.splitlines()[1:-1]
         notes = ["".join(re.findall("(?:NI|NE|P5|MA)$", line)) for line in lines]
         assert [row[:2] for row in rows] == [[x.split()[0], y] for x, y in zip(lines, notes)]

@@ -1,25 +1,18 @@
 """What is printed and saved: tickets and batches as PDF on Letter and A4, read by Debian's pdftotext, with all that a bank, a payee and the tax form need; and interest as CSV. Nothing is guessed."""
 
 import re
-import subprocess
 import time
-import unicodedata
-from pathlib import Path
 from typing import Iterable
 
 import pytest
 
 from tests.browser.bank import BANK, BRANCH, DAY, USER, Bank, bonds_of
-from tests.clients.conftest import NewPage
-from tests.clients.scripts import scripts
-
-pytest.importorskip("selenium")
 from tests.browser.page import VALUES, Page, dollars
+from tests.clients.conftest import NewPage
 
 pytestmark = [pytest.mark.browser, pytest.mark.nginx, pytest.mark.needs("pdftotext")]
-SCRIPTS = scripts("page_scripts.js")
 L, K, M = VALUES["L"], VALUES["K"], VALUES["M"]
-PAPERS = {"Letter": (8.5, 11.0), "A4": (8.27, 11.69)}
+LETTER, A4 = (8.5, 11.0), (8.27, 11.69)
 #: Of each kind of bond, by docs/FIRST_DAY.md: denomination, issue month, price, interest and value in February 2012.
 FACTS = {
     "K": ["$75", "10/2010", "$37.50", "$0.57", "$38.07"],
@@ -27,18 +20,6 @@ FACTS = {
     "M": ["$10,000", "02/2011", "$5,000.00", "$24.00", "$5,024.00"],
 }
 LACKS = "Without denominations, issue months, prices and interest"
-
-
-def sheets(page: Page, paper: str = "Letter", to: Path | None = None, name: str = "") -> list[str]:
-    path = page.profile / "printed.pdf"
-    path.write_bytes(page.engine.pdf(*PAPERS[paper]))
-    if to is not None:
-        to.mkdir(parents=True, exist_ok=True)
-        words = ["pdftoppm", "-r", "60", "-png", str(path), str(to / f"{name}-{page.name}")]
-        subprocess.run(words, check=True)
-    words = ["pdftotext", "-layout", str(path), "-"]
-    text = subprocess.run(words, capture_output=True, text=True, check=True).stdout
-    return unicodedata.normalize("NFKC", text).split("\f")[:-1]
 
 
 def flat(text: str) -> str:
@@ -56,7 +37,7 @@ def has_heads(found: list[str], title: str) -> None:
 
 
 # ---- tickets
-def test_hundred_bonds(bank: Bank, page: Page, pictures: Path | None) -> None:
+def test_hundred_bonds(bank: Bank, page: Page) -> None:
     """A ticket of 100 bonds, then its copy; the total once, heads and pages on each sheet."""
     bank.registers_many(60, 100)
     page.show_sheet(60)
@@ -65,7 +46,7 @@ def test_hundred_bonds(bank: Bank, page: Page, pictures: Path | None) -> None:
     page.is_paid(1, 100 * L)
     page.until(lambda: len(page.all("#ticket tbody tr")) >= 100, "all lines are shown")
     total, title = dollars(100 * L), "Ticket 1, February 6, 2012, customer 60"
-    first = sheets(page, "Letter", pictures, "letter")
+    first = page.printed()
     has_heads(first, title)
     whole = "\n".join(first)
     assert len(first) == 4 and whole.count(total) == 1 and whole.count("Total") == 1
@@ -78,12 +59,12 @@ def test_hundred_bonds(bank: Bank, page: Page, pictures: Path | None) -> None:
     ends = ("Two thousand five hundred sixteen dollars and 00/100", "Received by: the payee's name")
     assert all(words in first[-1] for words in (*ends, "Signature"))
     page.until(lambda: "COPY" in page.text("#ticket h2"), "it was printed")
-    again = sheets(page, "A4", pictures, "copy")
+    again = page.printed(*A4)
     has_heads(again, title)
     assert len(again) == 4 and all("COPY" in text for text in again) and "Printed" in again[0]
     assert "\n".join(again).count(total) == 1
-    page.run(SCRIPTS["total_in_each_foot"])
-    assert "\n".join(sheets(page, "A4")).count(total) > 1, "control: a total in each foot"
+    page.calls("total_in_each_foot")
+    assert "\n".join(page.printed(*A4)).count(total) > 1, "control: a total in each foot"
     page.reload()
     page.go("tickets")
     page.press("#ticket-list tbody tr button")
@@ -98,17 +79,17 @@ def test_originals(bank: Bank, page: Page) -> None:
     page.go("tickets")
     page.press("#ticket-list tbody tr button")
     page.is_paid(1, K)
-    (one,) = sheets(page)
+    (one,) = page.printed()
     assert "COPY" not in one and "Page 1 of 1" in one
     page.until(lambda: page.journal()["paid"]["tickets"][0]["printed"], "it was printed")
     bank.registers_many(60, 3)
     bank.pays(60, "S1EE")
     page.look_up(2)
     page.is_paid(2, L)
-    other = sheets(page)[0]
+    other = page.printed()[0]
     assert "COPY" in other and "Teller" not in other and "Request" not in other
     # The browser's own printing is counted.
-    page.run(SCRIPTS["prints"])
+    page.calls("prints")
     page.pays(3, 7, "L7EE")
     page.press("#ticket .print")
     page.until(lambda: page.run("return window.prints") == [False], "it prints, and no copy")
@@ -116,7 +97,7 @@ def test_originals(bank: Bank, page: Page) -> None:
     assert entry["printed"]
 
 
-def test_batch(bank: Bank, page: Page, pictures: Path | None) -> None:
+def test_batch(bank: Bank, page: Page) -> None:
     """The batch with the list of its tickets, the total once, and a line to sign."""
     bank.registers_many(60, 45)
     for number in range(1, 46):
@@ -124,8 +105,8 @@ def test_batch(bank: Bank, page: Page, pictures: Path | None) -> None:
     page.close_day()
     page.waits_for("Tickets of February 6, 2012", "#batch")
     total = dollars(45 * L)
-    for paper in PAPERS:
-        found = sheets(page, paper, pictures, f"batch_{paper}")
+    for paper in (LETTER, A4):
+        found = page.printed(*paper)
         has_heads(found, "Batch of February 6, 2012")
         whole = "\n".join(found)
         lines = re.findall(r"^ *(\d+) +customer 60 +1 +\$25\.16$", whole, re.M)
@@ -141,7 +122,7 @@ def test_batch(bank: Bank, page: Page, pictures: Path | None) -> None:
 SERIES = "United States Savings Bonds, Series EE"
 
 
-def test_receipt(bank: Bank, page: Page, pictures: Path | None) -> None:
+def test_receipt(bank: Bank, page: Page) -> None:
     """Twelve bonds on one sheet of either paper: each with what the sheet of its owner had of it, the sums, and the server's time; the machine's own clock says 1970."""
     bank.write_own(today=None)
     page.reload()
@@ -160,8 +141,8 @@ def test_receipt(bank: Bank, page: Page, pictures: Path | None) -> None:
     wanted = sorted([one["serial"], *FACTS[one["serial"][0]]] for one in twelve)
     # Four of each kind: 4 x 5,062.50, 4 x 24.73, and 4 x 5,087.23.
     sums = ["Total", "$20,250.00", "$98.92", "$20,348.92"]
-    for paper in PAPERS:
-        (text,) = sheets(page, paper, pictures, f"receipt_{paper}")
+    for paper in (LETTER, A4):
+        (text,) = page.printed(*paper)
         assert sorted(lines_of(text)) == wanted
         assert sums in [line.split() for line in text.splitlines()]
         facts = [
@@ -176,7 +157,7 @@ def test_receipt(bank: Bank, page: Page, pictures: Path | None) -> None:
         assert re.search(zone, flat(text)) and "1970" not in text
     assert len(page.all("#ticket .paper tbody tr")) == 12
     assert SERIES in page.text("#ticket") and sums[2] in page.text("#ticket tfoot")
-    page.pictured(pictures, "receipt")
+    page.pictured("receipt")
 
 
 def next_day(bank: Bank, page: Page) -> None:
@@ -196,16 +177,16 @@ def test_receipt_after_reload(bank: Bank, page: Page) -> None:
     page.reload()
     page.is_paid(1, K, L)
     wanted = [["K7EE", *FACTS["K"]], ["L7EE", *FACTS["L"]]]
-    text = sheets(page)[0]
+    text = page.printed()[0]
     assert lines_of(text) == wanted and f"Teller {USER}" in flat(text)
     next_day(bank, page)
     page.pays(2, 7, "M7EE")
     page.reload()
     page.look_up(1)
     page.is_paid(1, K, L)
-    text = sheets(page)[0]
+    text = page.printed()[0]
     assert "COPY" in text and lines_of(text) == wanted and f"Teller {USER}" in flat(text)
-    records = page.receipts()
+    records = page.calls("receipts")
     assert [one["ticket"] for one in records] == [1, 2]
     names = {"ticket", "day", "payee", "desk", "number", "at", "teller", "bonds"}
     assert set(records[0]) == names
@@ -220,18 +201,18 @@ OPEN = (
 EARLIER_OPEN = f"(record) => ({{ ...record, next: record.next + 1, open: {OPEN} }})"
 
 
-def test_receipt_unknown(bank: Bank, page: Page, pictures: Path | None) -> None:
+def test_receipt_unknown(bank: Bank, page: Page) -> None:
     """A ticket whose bonds this browser doesn't know: another desk's, another store's, one of an earlier version. The paper says so, and nothing is guessed."""
     bank.pays(9, "K9EE")
     page.look_up(1)
     page.is_paid(1, K)
-    text = sheets(page, "Letter", pictures, "unknown")[0]
+    text = page.printed()[0]
     assert LACKS in text and "COPY" in text and "$37.50" not in text
     assert "Interest" not in text.replace(LACKS, "")
     page.write_journal(EARLIER_OPEN)
     page.reload()
     page.is_paid(2, L)
-    text = sheets(page)[0]
+    text = page.printed()[0]
     assert LACKS in text and "COPY" not in text and "$25.00" not in text
     page.pays(3, 7, "M7EE")
     for is_known in (True, False):
@@ -326,7 +307,7 @@ def test_interest_files(bank: Bank, page: Page, new_page: NewPage) -> None:
     assert text == text_of(unknown)
 
 
-def test_interest_of_a_long_span(bank: Bank, page: Page, pictures: Path | None) -> None:
+def test_interest_of_a_long_span(bank: Bank, page: Page) -> None:
     """A span with more tickets than are read: what this browser has no record of is named."""
     bank.change_page("interest.js", ("MOST_TICKETS = 1000", "MOST_TICKETS = 3"))
     page.reload()
@@ -338,15 +319,15 @@ def test_interest_of_a_long_span(bank: Bank, page: Page, pictures: Path | None) 
     assert text == text_of(FIRST, LATER)
     assert WHOLE in interest_of(page, 7, DAY, DAY), "of three tickets each is read"
     interest_of_day(page, DAY)
-    page.pictured(pictures, "interest")
+    page.pictured("interest")
 
 
 # ---- records that are deleted
 def kept(page: Page) -> list[int]:
-    return [one["ticket"] for one in page.receipts()]
+    return [one["ticket"] for one in page.calls("receipts")]
 
 
-def test_records_deleted(bank: Bank, page: Page, pictures: Path | None) -> None:
+def test_records_deleted(bank: Bank, page: Page) -> None:
     """Records of earlier days are deleted by a button, after a question, all or none; what is in use stays."""
     page.pays(1, 7, "K7EE")
     page.pays(2, 7, "L7EE")
@@ -361,17 +342,17 @@ def test_records_deleted(bank: Bank, page: Page, pictures: Path | None) -> None:
     page.press("#delete-records button")
     used = "Enter a day before February 7, 2012: the records of that day are in use"
     assert page.text("#records-to-error").endswith(used) and not page.is_shown("#confirm")
-    page.run(SCRIPTS["at_first"])
+    page.calls("at_first")
     page.type("#records-to", DAY)
     page.press("#delete-records button")
     page.asks()
     asked = "Delete 2 records?\nPayments of this browser on February 6, 2012."
     assert page.question().startswith(asked) and page.text("#confirm-yes") == "Delete 2 records"
     assert page.run("return window.at_first") == ["true", "confirm-no"]
-    page.pictured(pictures, "records_question")
+    page.pictured("records_question")
     page.press("#confirm-no")
     assert kept(page) == [1, 2, 3]
-    page.run(SCRIPTS["deleting"])
+    page.calls("deleting")
     page.press("#delete-records button")
     page.press("#confirm-yes")
     page.waits_for("nothing was changed", "#notices")
@@ -380,14 +361,14 @@ def test_records_deleted(bank: Bank, page: Page, pictures: Path | None) -> None:
     page.press("#delete-records button")
     page.press("#confirm-yes")
     page.waits_for("2 records are deleted.", "#notices")
-    above, below = page.run(SCRIPTS["room"])
+    above, below = page.calls("room")
     assert above >= 4 and abs(above - below) <= 1, "as much room below Close as above it"
     page.run("document.querySelector('#notices .notice').style.minHeight = 0")
-    above, below = page.run(SCRIPTS["room"])
+    above, below = page.calls("room")
     assert below < above - 1, "control: without the least height of a notice"
     page.waits_for("1 record is kept.", "#records-kept")
     assert kept(page) == [3]
-    page.pictured(pictures, "records")
+    page.pictured("records")
     page.reload()
     page.go("interest")
     page.waits_for("1 record is kept.", "#records-kept")

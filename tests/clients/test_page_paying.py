@@ -2,17 +2,12 @@
 
 import pytest
 from ee_counter_client.testing.gate import response
-
 from tests.browser.bank import DAY, TOO_YOUNG, UNISSUED, Bank, bond
-from tests.clients.conftest import NewPage
-from tests.clients.scripts import scripts
-
-pytest.importorskip("selenium")
 from tests.browser.browser import Keys
 from tests.browser.page import DOUBT, EARLIER, VALUES, Page, dollars
+from tests.clients.conftest import NewPage
 
 pytestmark = [pytest.mark.browser, pytest.mark.nginx]
-SCRIPTS = scripts("page_scripts.js")
 L, K, M = VALUES["L"], VALUES["K"], VALUES["M"]
 ROW = "return document.querySelector(`[data-serial='${arguments[0]}']`).closest('tr').innerText"
 
@@ -56,7 +51,7 @@ def test_double_clicks(bank: Bank, new_page: NewPage) -> None:
         choose_all(page, count)
         for width, height in windows():
             page.resize(width, height)
-            near, tried = page.run_module(SCRIPTS["near"])
+            near, tried = page.calls("near")
             assert near == [] and tried > 0, (count, width, height)
             page.double_click("#pay-button")
             page.asks()
@@ -70,7 +65,7 @@ def test_presses_of_a_resting_button(bank: Bank, page: Page) -> None:
     """Eight presses, one each 0.4 seconds, confirm nothing: each starts the rest anew. After its rest it pays."""
     page.chooses(7, "L7EE")
     page.ask_to_pay()
-    page.run_module(SCRIPTS["presses"])
+    page.calls("presses")
     assert page.is_shown("#confirm") and bank.gate.bodies == []
     page.press("#confirm-yes")
     page.is_paid(1, L)
@@ -274,7 +269,7 @@ def test_doubts_asked(bank: Bank, new_page: NewPage) -> None:
     bank.registers({**UNISSUED, "serial": "R7EE"})
     page = new_page(day="2013-06-03")
     page.chooses(7, "M7EE", "R7EE", "L7EE")
-    page.watch_rests()
+    page.calls("watch_rests")
     page.press("#pay-button")
     page.asks()
     letter = "M7EE: the letter M means $1,000, and the denomination here is $10,000."

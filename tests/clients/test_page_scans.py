@@ -6,13 +6,10 @@ import time
 import pytest
 
 from tests.browser.bank import DAY, Bank, bond
+from tests.browser.browser import Keys
+from tests.browser.page import VALUES, Page, dollars
 from tests.clients.conftest import NewPage
 from tests.clients.test_page_faults import held
-
-pytest.importorskip("selenium")
-from tests.browser.browser import Keys
-from tests.browser.measures import in_window
-from tests.browser.page import NO_PRINTER, VALUES, Page, dollars
 
 pytestmark = [pytest.mark.browser, pytest.mark.nginx]
 L, K, M = VALUES["L"], VALUES["K"], VALUES["M"]
@@ -27,7 +24,7 @@ def scan_in_question(page: Page, button: str, serial: str) -> None:
 
 def test_scans_in_questions(bank: Bank, page: Page) -> None:
     """A scan answers no question, with either button under the keyboard: it is named and heard, and is chosen once the teller goes back."""
-    page.watch_beeps()
+    page.calls("watch_beeps")
     page.show_sheet(7)
     page.press("#in-hand")
     page.scan("L7EE")
@@ -76,8 +73,8 @@ def test_a_scan_that_answers_is_found(bank: Bank, new_page: NewPage) -> None:
 
 def test_scans_wait(bank: Bank, page: Page) -> None:
     """For a sheet: on each view, in a field for something else, and while the counter is asked, half of a scan too."""
-    page.run(NO_PRINTER)
-    page.watch_beeps()
+    page.calls("count_prints")
+    page.calls("watch_beeps")
     page.go("day")
     page.scan("L7EE")
     page.go("pay")
@@ -118,25 +115,17 @@ def test_scans_wait(bank: Bank, page: Page) -> None:
     assert not page.is_shown("#scanned")
 
 
-#: Counts how often the page comes to the field for bonds in hand.
-JUMPS = """
-    window.jumps = 0;
-    const field = document.getElementById("in-hand");
-    addEventListener("scroll", () => { window.jumps += field.getBoundingClientRect().bottom > 0 ? 1 : 0; });
-"""
-
-
 def jumps(page: Page) -> int:
     """Scans bonds at the end of a long sheet, with the keyboard in the field and elsewhere: how often the page goes back to the field."""
     page.resize(1366, 768)
     page.show_sheet(60)
     page.scan("S50EE")
     page.waits_for("1 bond", "#chosen")
-    page.run(JUMPS)
+    page.calls("watch_jumps")
     for count, number in enumerate((60, 42, 58), 2):
         page.scan_in_steps(f"S{number}EE")
         page.waits_for(f"{count} bonds", "#chosen")
-        assert in_window(page, f"input[data-serial='S{number}EE']")
+        assert page.calls("in_window", f"input[data-serial='S{number}EE']")
         if count == 3:
             page.run("document.activeElement.blur()")
     return int(page.run("return window.jumps"))
@@ -147,7 +136,7 @@ def test_a_long_sheet_scanned(bank: Bank, page: Page) -> None:
     bank.registers_many(60, 60)
     assert jumps(page) == 0
     page.keys("S", "5")
-    page.until(lambda: in_window(page, "#in-hand"), "the field is shown")
+    page.until(lambda: page.calls("in_window", "#in-hand"), "the field is shown")
     page.keys("9", Keys.ENTER)
     page.waits_for("5 bonds", "#chosen")
 
@@ -185,7 +174,7 @@ def scan_into(page: Page, place: str, serials: list[str]) -> None:
 @pytest.mark.parametrize("count", [1, 60])
 def test_keys_and_seconds(bank: Bank, page: Page, count: int) -> None:
     """From one customer's number to the next one's: six keys, next to the number's digits and the scanner's own, which come at full speed into anything. The seconds are printed."""
-    page.run(NO_PRINTER)
+    page.calls("count_prints")
     of = {owner: [f"L{owner}{place:02}EE" for place in range(count)] for owner in ("61", "62")}
     for owner, serials in of.items():
         bank.registers(*(bond(serial, 50, "2010-11", int(owner)) for serial in serials))

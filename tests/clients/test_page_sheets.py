@@ -7,17 +7,12 @@ from typing import Callable
 import pytest
 
 from tests.browser.bank import DAY, TOO_YOUNG, Bank
+from tests.browser.browser import Keys
+from tests.browser.page import VALUES, Page, dollars
 from tests.clients.conftest import NewPage
-from tests.clients.scripts import scripts
 from tests.conftest import TOP
 
-pytest.importorskip("selenium")
-from tests.browser.browser import Keys
-from tests.browser.measures import headings, scroll
-from tests.browser.page import VALUES, Page, dollars
-
 pytestmark = [pytest.mark.browser, pytest.mark.nginx]
-SCRIPTS = scripts("page_scripts.js")
 L, K, M = VALUES["L"], VALUES["K"], VALUES["M"]
 
 
@@ -81,13 +76,13 @@ def test_headings_seen(bank: Bank, page: Page) -> None:
     page.resize(1280, 800)
     page.show_sheet(60)
     for part in (0.2, 0.5, 0.9):
-        scroll(page, part)
-        assert headings(page) == 6
+        page.calls("scroll_to", part)
+        assert page.calls("headings_on_top") == 6
     page.choose("S100EE")
     page.pay(99)
     page.refuses("neither the owner nor the coowner")
-    scroll(page, 0.5)
-    assert headings(page) == 6, "below a notice"
+    page.calls("scroll_to", 0.5)
+    assert page.calls("headings_on_top") == 6, "below a notice"
     page.press(".notice .close")
     page.run("document.querySelector('input[data-serial=S120EE]').focus()")
     under = "return document.activeElement.getBoundingClientRect().top < document.querySelector('#sheet thead th').getBoundingClientRect().bottom"
@@ -95,8 +90,8 @@ def test_headings_seen(bank: Bank, page: Page) -> None:
         page.tab(back=True)
         assert not page.run(under), "what has the keyboard is under the headings"
     page.run("document.querySelector('#sheet thead').style.position = 'static'")
-    scroll(page, 0.5)
-    assert headings(page) == 0, "control: if they didn't stick"
+    page.calls("scroll_to", 0.5)
+    assert page.calls("headings_on_top") == 0, "control: if they didn't stick"
 
 
 # ---- long sheets
@@ -126,7 +121,7 @@ def longest_stop(page: Page, act: Callable[[], object]) -> float:
     """The longest stop of the page in milliseconds while it does `act`: the least of some tries, since other work has the machine's processors too."""
     found: list[float] = []
     while len(found) < 3 and (not found or found[-1] >= limit()):
-        page.run(SCRIPTS["watch"])
+        page.calls("watch")
         act()
         found.append(page.run("return window.longest"))
     return min(found)
@@ -138,18 +133,18 @@ def written(page: Page, owner: int) -> None:
 
 def shows(page: Page, owner: int) -> None:
     page.run("document.getElementById('sheet').replaceChildren()")
-    page.run(SCRIPTS["type"], "#customer", str(owner), True)
+    page.calls("type", "#customer", str(owner), True)
     written(page, owner)
 
 
 def filters(page: Page, owner: int) -> None:
     for text in ("11/2010", "S9", "S99", ""):
-        page.run(SCRIPTS["type"], "#filter", text, False)
+        page.calls("type", "#filter", text, False)
         written(page, owner)
 
 
 def chooses(page: Page, owner: int) -> None:
-    page.run(SCRIPTS["type"], "#in-hand", "S999EE", True)
+    page.calls("type", "#in-hand", "S999EE", True)
     page.sleep(0.3)
 
 
@@ -171,12 +166,12 @@ def test_sheet_of_a_thousand(bank: Bank, page: Page) -> None:
     page.press("#in-hand")
     page.scan("S998EE")
     page.shows_sum(1, L)
-    assert page.run(SCRIPTS["rows"]) == [1000, True, 1002]
+    assert page.calls("rows") == [1000, True, 1002]
     given = page.engine.rows()
     assert given is None or 52 <= given <= 1002, "a screen reader is given"
     assert page.box("S998EE").is_selected()
-    scroll(page, 0.7)
-    assert headings(page) == 6
+    page.calls("scroll_to", 0.7)
+    assert page.calls("headings_on_top") == 6
     page.run("document.querySelector('input[data-serial=S998EE]').focus()")
     keys = {Keys.ARROW_DOWN: 999, Keys.ARROW_UP: 998, Keys.PAGE_UP: 978, Keys.HOME: 1}
     keys |= {Keys.END: 1000}

@@ -3,14 +3,10 @@
 import pytest
 
 from tests.browser.bank import DAY, Bank
-from tests.clients.conftest import NewPage
-from tests.clients.scripts import scripts
-
-pytest.importorskip("selenium")
 from tests.browser.page import EARLIER, VALUES, Page, dollars
+from tests.clients.conftest import NewPage
 
 pytestmark = [pytest.mark.browser, pytest.mark.nginx]
-SCRIPTS = scripts("page_scripts.js")
 L, K = VALUES["L"], VALUES["K"]
 
 # ---- writings that fail
@@ -20,19 +16,19 @@ UNWRITTEN = "This browser couldn't write the journal of this page."
 
 def test_storage_fails(bank: Bank, page: Page) -> None:
     """Before a sending, between two, after the reply: what the page says is true, the page goes on by itself, and the bond is paid once."""
-    page.run(SCRIPTS["unhandled"])
-    page.run(SCRIPTS["failing"], 0, 1, "QuotaExceededError")
+    page.calls("unhandled")
+    page.calls("failing", 0, 1, "QuotaExceededError")
     page.sends(7, "L7EE")
     page.refuses(f"{QUOTA} Nothing was sent, and nothing was changed.")
     assert bank.gate.bodies == [] and page.text("#sum") == dollars(L)
     assert all(button.is_enabled() for button in page.all("fieldset.acts button"))
-    page.run(SCRIPTS["failing"], 1, 4, "QuotaExceededError")
+    page.calls("failing", 1, 4, "QuotaExceededError")
     page.pay()
     page.waits_for("the request is open. It wasn't sent.", "#progress")
     assert QUOTA in page.text("#progress") and bank.gate.bodies == []
     page.is_paid(1, L)
     assert len(bank.gate.bodies) == 1 and EARLIER not in page.text("#notices")
-    page.run(SCRIPTS["failing"], 2, 4, "UnknownError")
+    page.calls("failing", 2, 4, "UnknownError")
     page.sends(7, "K7EE")
     page.waits_for("the reply has come.", "#progress")
     assert UNWRITTEN in page.text("#progress")
@@ -41,7 +37,7 @@ def test_storage_fails(bank: Bank, page: Page) -> None:
     assert len(bank.gate.bodies) == 2 and page.journal()["last"] == 2, "and sent no more"
     page.chooses(9, "L9EE")
     bank.gate.faults = ["lost answer"]
-    page.run(SCRIPTS["failing"], 2, 4, "QuotaExceededError")
+    page.calls("failing", 2, 4, "QuotaExceededError")
     page.pay()
     may = "Nothing may be paid out yet. The payment may have been made already."
     page.waits_for(f"the request is open. {may}", "#progress")
@@ -54,20 +50,22 @@ def test_storage_fails(bank: Bank, page: Page) -> None:
 
 def test_receipt_unstored(bank: Bank, page: Page) -> None:
     """The browser can't write the record of a payment: the page says that the reply has come, and keeps the request until the record is written."""
-    page.run(SCRIPTS["failing"], 0, 2, "QuotaExceededError", "payments")
+    page.calls("failing", 0, 2, "QuotaExceededError", "payments")
     page.sends(7, "L7EE")
     page.waits_for("the reply has come.", "#progress")
-    assert page.journal()["open"] is not None and page.receipts() == []
+    assert page.journal()["open"] is not None and page.calls("receipts") == []
     page.settled()
     bond = {"serial": "L7EE", "denom": 50, "issued": "2010-11", "price": "2500", "value": "2516"}
-    assert [one["bonds"] for one in page.receipts()] == [[bond]] and len(bank.gate.bodies) == 1
+    assert [one["bonds"] for one in page.calls("receipts")] == [[bond]] and len(
+        bank.gate.bodies
+    ) == 1
 
 
 def test_not_done_unstored(bank: Bank, page: Page) -> None:
     """That nothing was done is shown once the request is dropped from the journal: a page that is killed before sends it again."""
     page.chooses(7, "L7EE")
     bank.gate.faults = ["forbidden"]
-    page.run(SCRIPTS["failing"], 2, 3, "QuotaExceededError")
+    page.calls("failing", 2, 3, "QuotaExceededError")
     page.pay()
     page.waits_for("the reply has come.", "#progress")
     assert page.journal()["open"] is not None and "Nothing was done" not in page.text()
@@ -97,7 +95,7 @@ def test_no_numbers_left(bank: Bank, page: Page) -> None:
 def test_storage_closed(bank: Bank, page: Page) -> None:
     """The browser closes the journal's database while the page works: it is opened again, and the payment goes on."""
     before = page.journal()
-    page.run(SCRIPTS["closing"])
+    page.calls("closing")
     page.pays(1, 7, "L7EE")
     after = page.journal()
     assert page.run("return window.is_closed")
@@ -107,7 +105,7 @@ def test_storage_closed(bank: Bank, page: Page) -> None:
 
 def test_changes_at_once(new_page: NewPage) -> None:
     """Changes of the journal that overlap are all kept, in their order."""
-    record = new_page().run_module(SCRIPTS["changes"])
+    record = new_page().calls("changes")
     assert (record["desk"], record["day"], record["last"]) == (5, "2012-02-07", 5)
 
 

@@ -1,18 +1,14 @@
 """A customer who walks in with bonds that aren't registered: typed from the paper, registered and paid in one go, once, whatever happens between."""
 
 import json
-from pathlib import Path
 
 import pytest
 from ee_counter_client.testing.gate import JSON, response
-
 from tests.browser.bank import DAY, USER, Bank, bond
-from tests.clients.conftest import NewPage
-from tests.clients.test_page_days import DAY_BUTTONS
-
-pytest.importorskip("selenium")
 from tests.browser.browser import Keys
 from tests.browser.page import DOUBT, EARLIER, VALUES, Page
+from tests.clients.conftest import NewPage
+from tests.clients.test_page_days import DAY_BUTTONS
 
 pytestmark = [pytest.mark.browser, pytest.mark.nginx]
 #: What a teller types of each bond, and what it is in February 2012, by hand: 25 dollars of denomination are worth 12.58 if the bond is of November 2010 (25.16 for 50 dollars, docs/FIRST_DAY.md), 12.69 if of
@@ -59,7 +55,7 @@ def test_walk_in(bank: Bank, page: Page) -> None:
     what = f"Register 5 bonds, and pay {SUM_SHOWN} to customer 7?\n"
     who = "Owner: customer 7. Coowner: customer 8. A registered bond can't be changed."
     assert page.question().startswith(what + who)
-    assert page.bonds_asked() == list(FIVE.values()) and page.focused() == "confirm-no"
+    assert page.calls("bonds_asked") == list(FIVE.values()) and page.focused() == "confirm-no"
     page.keys(Keys.TAB)
     page.rested("#confirm-yes")
     page.keys(Keys.ENTER)
@@ -77,8 +73,6 @@ def test_walk_in(bank: Bank, page: Page) -> None:
 
 # ---- what goes wrong between
 FAULTS = ("lost answer", "killed after", "failed after", "lost request", "other page")
-#: The first pause doesn't end, so the page is loaded again in the middle of it.
-HELD = "const real = window.setTimeout; window.setTimeout = (act, wait, ...more) => (wait === 500 ? 0 : real(act, wait, ...more));"
 SAYS = (
     "Registering 2 bonds of customer {}: no reply yet. Nothing may be paid out yet. The bonds may be registered already.",
     "Paying 2 bonds to customer {}: no reply yet. Nothing may be paid out yet. The payment may have been made already.",
@@ -97,9 +91,9 @@ def test_walk_in_interrupted(bank: Bank, page: Page, reloads: bool) -> None:
         type_two(page, owner)
         walk_in(page, owner)
         bank.gate.passes, bank.gate.faults = place, [fault, *["lost request"] * reloads]
-        page.watch_steps()
+        page.calls("watch_steps")
         if reloads:
-            page.run(HELD)
+            page.calls("hold", 500)  # So it is loaded again in the middle of the first pause.
         page.press("#confirm-yes")
         page.has_said(SAYS[place].format(owner))
         if reloads:
@@ -108,7 +102,7 @@ def test_walk_in_interrupted(bank: Bank, page: Page, reloads: bool) -> None:
         page.waits_for(ONCE[place], "#notices")
         bodies = bank.gate.bodies[sent:]
         assert len(bodies) >= 3 and len(set(bodies)) == 2, bodies
-    assert len(page.receipts()) == len(rounds)
+    assert len(page.calls("receipts")) == len(rounds)
     books = bank.books()
     assert books.tickets("bonds, total") == [(2, TWO)] * len(rounds)
     assert books.one("SELECT count(*) FROM answers WHERE desk = 5") == 2 * len(rounds)
@@ -183,7 +177,7 @@ def test_walk_in_refused(bank: Bank, page: Page) -> None:
 BARRED = "This user may not both register and pay bonds: ask a user who may."
 
 
-def test_walk_in_offered(bank: Bank, new_page: NewPage, pictures: Path | None) -> None:
+def test_walk_in_offered(bank: Bank, new_page: NewPage) -> None:
     """A walk-in is offered to a user of both groups that it takes, and to all if the proxy doesn't tell the groups. nginx still decides."""
     bank.begin([7])
     page = new_page()
@@ -207,7 +201,7 @@ def test_walk_in_offered(bank: Bank, new_page: NewPage, pictures: Path | None) -
     rows = {"desk": 902, "number": 1, "bonds": [bond("C7EE", 100, "2010-11", 7)]}
     refused = bank.nginx.ask(USER, "POST", "/bonds", rows)
     assert (refused.status, refused.text) == (403, '{"forbidden":"group"}')
-    page.pictured(pictures, "walkin_barred")
+    page.pictured("walkin_barred")
 
 
 def test_walk_in_of_unknown_groups(bank: Bank, new_page: NewPage) -> None:
@@ -293,7 +287,7 @@ def test_walk_in_beside(bank: Bank, page: Page) -> None:
     assert page.text("#walkin-bonds") == ""
 
 
-def test_doubts_of_walk_in(bank: Bank, page: Page, pictures: Path | None) -> None:
+def test_doubts_of_walk_in(bank: Bank, page: Page) -> None:
     """A denomination that is typed wrong is asked about before anything is registered."""
     page.go("walkin")
     page.add_walk_in("L21EE", "5,000")
@@ -302,7 +296,7 @@ def test_doubts_of_walk_in(bank: Bank, page: Page, pictures: Path | None) -> Non
     page.asks()
     wrong = "L21EE: the letter L means $50, and the denomination here is $5,000."
     assert wrong in page.question()
-    page.pictured(pictures, "doubts")
+    page.pictured("doubts")
     page.press("#confirm-no")
     page.sleep(2)
     assert bank.gate.bodies == [] and len(page.all("#walkin-bonds li")) == 1

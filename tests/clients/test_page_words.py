@@ -7,14 +7,10 @@ from pathlib import Path
 import pytest
 
 from tests.browser.bank import DAY, TOO_YOUNG, Bank
-from tests.clients.conftest import NewPage
-from tests.clients.scripts import scripts
-
-pytest.importorskip("selenium")
 from tests.browser.page import Page
+from tests.clients.conftest import NewPage
 
 pytestmark = [pytest.mark.browser, pytest.mark.nginx]
-SCRIPTS = scripts("page_scripts.js")
 #: What stands outside of brackets and is no word: serial numbers, badges, the user, the bank, log entries.
 NO_WORDS = r"\b(?:[A-Z]\d+EE|P5|NE|NI|MA|nora|First Bank of Testing|Main Street|[0-9a-f]{32})\b"
 
@@ -40,7 +36,7 @@ def test_words_in_one_file(bank: Bank, new_page: NewPage) -> None:
     press = page.press
 
     def looks_and_presses(selector: str) -> None:
-        found.extend(page.run(SCRIPTS["loose"]))
+        found.extend(page.calls("loose"))
         press(selector)
 
     setattr(page, "press", looks_and_presses)
@@ -54,7 +50,7 @@ def test_words_in_one_file(bank: Bank, new_page: NewPage) -> None:
     bank.gate.faults = ["lost request"] * 3
     page.press("#confirm-yes")
     page.waits_for("no reply yet", "#progress")
-    found += page.run(SCRIPTS["loose"])
+    found += page.calls("loose")
     page.waits_for("neither the owner", "#notices")
     page.go("walkin")
     page.type_walk_in("D12EE", "50", "11/2010")
@@ -78,10 +74,10 @@ def test_words_in_one_file(bank: Bank, new_page: NewPage) -> None:
     page.type("#interest-day", DAY)
     page.press("#ask-interest-day button")
     page.until(lambda: page.all("#interest-of table") != [], "the interest of the day")
-    found += page.run(SCRIPTS["loose"])
+    found += page.calls("loose")
     assert sorted({text.strip() for text in found if outside(text)}) == [] and len(found) > 300
     assert page.run("return document.documentElement.lang") == "xx"
-    assert page.run_module(SCRIPTS["unknown"]) == [], "the page knows each of the bank's words"
+    assert page.calls("unknown") == [], "the page knows each of the bank's words"
 
 
 def test_a_loose_word_is_found() -> None:
@@ -97,7 +93,7 @@ def test_words_of_bank(bank: Bank, new_page: NewPage) -> None:
     page = new_page()
     assert page.text(".name") == "Bond window"
     assert page.text("nav a[href='#pay']") == "Pay", "the page's own beside it"
-    named = page.run_module(SCRIPTS["unknown"])
+    named = page.calls("unknown")
     wanted = "TEXTS.pays PAY.paid FORMATS.months SHEET.notes.XX OTHER NOTICES".split()
     assert sorted(named) == sorted(f"WORDS.{name}" for name in wanted)
     if page.name == "chromium":
@@ -107,7 +103,7 @@ def test_words_of_bank(bank: Bank, new_page: NewPage) -> None:
     page.reload()
     page.waits_for("Desk 5,", "#state")
     assert page.text(".name") == "Savings bond counter"
-    assert page.run_module(SCRIPTS["unknown"]) == []
+    assert page.calls("unknown") == []
 
 
 MONTHS = "January|February|March|April|May|June|July|August|September|October|November|December"

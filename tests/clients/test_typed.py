@@ -2,7 +2,6 @@
 
 import json
 import shutil
-import subprocess
 import tomllib
 from pathlib import Path
 from unittest import mock
@@ -11,6 +10,7 @@ import pytest
 
 import ee_counter_client.typed as typed
 from ee_counter_client import BadValue
+from tests.clients.node import node
 from tests.conftest import TOP
 
 TABLE: dict[str, dict[str, list[str]]] = tomllib.loads(
@@ -27,11 +27,7 @@ pytestmark = pytest.mark.needs("node")
 
 def in_node(reader: str, rows: object = ROWS, clients: Path = TOP / "clients") -> list[object]:
     given = json.dumps([str(clients), reader, rows])
-    words = ["node", "--no-warnings", str(Path(__file__).parent / "typed.mjs"), given]
-    done = subprocess.run(words, capture_output=True, text=True, timeout=60)
-    assert done.returncode == 0, done.stderr
-    found: list[object] = json.loads(done.stdout)
-    return found
+    return list(json.loads(node(Path(__file__).parent / "typed.mjs", given)))
 
 
 def by_python() -> list[object]:

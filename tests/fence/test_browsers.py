@@ -13,24 +13,20 @@ from pathlib import Path
 from typing import Iterator, Mapping
 
 import pytest
+from selenium.webdriver.chrome.service import Service
 
+from tests.browser.engines import Chromium, Firefox
+from tests.browser.marionette import Firefox as Marionette
+from tests.browser.page import Page
 from tests.fence.conftest import MakeSite, blocks
 from tests.fence.site import UNLIMITED, RecordedSite, Site, Staff
 from tests.samples.books import script
 from tests.shared.counter_calls import done, end, piped
 
-pytest.importorskip("selenium")
-from tests.browser.engines import Chromium, Firefox
-from tests.browser.marionette import Firefox as Marionette
-from tests.browser.page import Page
-from selenium.webdriver.chrome.service import Service
-
 pytestmark = [pytest.mark.browser, pytest.mark.nginx, pytest.mark.slow]
 GROUPS = {"anna": "teller", "bert": "supervisor"}
 DAY = "2012-02-06"
 REFUSED = "No certificate of the staff was sent, or it has ended or was revoked."
-#: Where pictures are left, if anywhere.
-PICTURES = os.environ.get("PICTURES")
 #: A shell in which /etc is a copy of the machine's, and the home is the desk's.
 WITHIN = ["unshare", "--user", "--map-root-user", "--mount", "sh", "-c"]
 START = 'mount --bind "$0" /etc && exec "$@"'
@@ -136,11 +132,6 @@ def pays(desk: Desk, page: Page, serial: str, ticket: int) -> None:
     assert [(entry["user"], entry["status"]) for entry in paid] == [("anna", "200")] * ticket
 
 
-def pictured(page: Page, name: str) -> None:
-    if PICTURES is not None:
-        page.driver.save_screenshot(f"{PICTURES}/{name}-{page.name}.png")
-
-
 @pytest.mark.parametrize("browser", ["chromium", "firefox"])
 def test_by_policy(desk: Desk, browser: str) -> None:
     """The commands of the page import the certificate, and the machine's policy has it sent without a question."""
@@ -153,12 +144,12 @@ def test_by_policy(desk: Desk, browser: str) -> None:
     desk.run(imported)
     page = desk.page(browser)
     pays(desk, page, "B1EE", 1)
-    pictured(page, "paid")
+    page.pictured("paid")
     desk.site.staff.dismiss("anna")
     desk.site.reload()
     page.show_sheet_begun(7)
     page.waits_for("This browser sent no certificate of the staff, or it was revoked", "#notices")
-    pictured(page, "revoked")
+    page.pictured("revoked")
     page.reload()
     page.waits_for(REFUSED)
     assert desk.site.log()[-1]["route"] == "/redeem", "nothing was posted after the payment"
@@ -178,8 +169,8 @@ def choose(display: str, browser: str, seen: threading.Event) -> None:
     for _ in range(30):
         if seen.wait(4):
             return
-        if PICTURES is not None:
-            done("import", "-window", "root", f"{PICTURES}/asked-{browser}.png", env=screen)
+        if folder := os.environ.get("PICTURES"):
+            done("import", "-window", "root", f"{folder}/asked-{browser}.png", env=screen)
         done("xdotool", "key", "Return", env=screen)
 
 

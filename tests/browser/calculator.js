@@ -1,4 +1,59 @@
-// Scripts that the tests run within the calculator's page. A test runs the body of a function.
+// What the tests run within the calculator's page: `Browser.calls` calls a function by its name.
+
+async function opened() {
+    const request = indexedDB.open("savings-bond-calculator", 1);
+    request.onupgradeneeded = () => request.result.createObjectStore("kept");
+    await new Promise((resolve) => { request.onsuccess = resolve; });
+    return request.result;
+}
+
+/** What the browser keeps, read beside the page. */
+export async function record() {
+    const database = await opened();
+    const got = database.transaction("kept").objectStore("kept").get("inventory");
+    await new Promise((resolve) => { got.onsuccess = resolve; });
+    database.close();
+    return got.result ?? null;
+}
+
+/** Writes it beside the page. */
+export async function put_record(record) {
+    const database = await opened();
+    const act = database.transaction("kept", "readwrite");
+    act.objectStore("kept").put(record, "inventory");
+    await new Promise((resolve) => { act.oncomplete = resolve; });
+    database.close();
+}
+
+/** By row, the texts of a table's cells. A serial number is without the button beside it. */
+export function cells(selector) {
+    const text = (cell) => (cell.querySelector(".code") ?? cell).textContent;
+    return [...document.querySelectorAll(`${selector} tbody tr`)].map((row) => [...row.children].map(text));
+}
+
+/** By its name, each text of a list of terms. */
+export function terms(selector) {
+    return Object.fromEntries([...document.querySelectorAll(`${selector} dt`)].map((one) => [one.textContent, one.nextSibling.textContent]));
+}
+
+export function write(selector, text) {
+    const field = document.querySelector(selector);
+    field.value = text;
+    field.dispatchEvent(new Event("input", { bubbles: true }));
+}
+
+export function paste(text) {
+    const field = document.querySelector("#pasted");
+    document.querySelector("#paste-form").closest("details").open = true;
+    field.value = text;
+    field.dispatchEvent(new InputEvent("input", { inputType: "insertFromPaste" }));
+}
+
+export function open_bond(serial) {
+    const button = [...document.querySelectorAll("#table .open")].find((one) => one.textContent === serial);
+    button.focus();
+    button.click();
+}
 
 export function many_pasted() {
     const lines = Array.from({ length: 50000 }, (_, place) => `C${place + 1}EE\t50\t2010-05`);
@@ -98,8 +153,7 @@ export function poor() {
     return [seen.length, seen.filter((one) => ratio(one) < 4.5).map((one) => `${one.tagName} ${one.getAttribute("class")} ${one.textContent.slice(0, 30)}`)];
 }
 
-export async function attempts(...given) {
-    const [other] = given;
+export async function attempts(other) {
     const fetched = await fetch(other).then(() => "passed", () => "stopped");
     const evaluated = await new Promise((resolve) => { const script = document.createElement("script"); script.textContent = "window.ran = true"; document.head.append(script); setTimeout(() => resolve(window.wrappedJSObject?.ran ?? window.ran ? "passed" : "stopped"), 50); });
     const drawn = await new Promise((resolve) => { const image = new Image(); image.onload = () => resolve("passed"); image.onerror = () => resolve("stopped"); image.src = other + "icon.svg"; });
@@ -124,4 +178,41 @@ export function controls() {
     const shown = (one) => one.checkVisibility() && one.closest("details:not([open])") === null;
     const all = [...document.querySelectorAll("main a, main button, main input, main select, main textarea, main summary")];
     return all.filter((one) => (one.matches("summary") || shown(one)) && !one.matches(".open, .skip")).map((one) => one.id || one.dataset.column || one.dataset.text || one.textContent);
+}
+
+/** What has the keyboard, and its outline. */
+export function outline() {
+    const one = document.activeElement;
+    const { outlineStyle, outlineWidth } = getComputedStyle(one);
+    return one === document.body ? ["", ""] : [one.id || one.dataset.column || one.dataset.text || one.textContent, `${outlineStyle} ${outlineWidth}`];
+}
+
+/** Whether the value of one bond stands above everything else, and in the window. */
+export function is_above() {
+    const top = (one) => one.getBoundingClientRect().top;
+    const [first, ...others] = document.querySelectorAll("main > section");
+    return first.id === "one" && others.every((one) => !one.checkVisibility() || top(one) > top(first)) && document.querySelector("#one-words").getBoundingClientRect().bottom < innerHeight;
+}
+
+/** A change of what the browser keeps beside the bonds: the filter, and a month. */
+export function filter() {
+    write("#filter", "C");
+    document.querySelector("#month-on").click();
+}
+
+/** Databases aren't opened until `let_go`. */
+export function hold_databases() {
+    const open = IDBFactory.prototype.open;
+    window.held = [];
+    IDBFactory.prototype.open = function (...given) {
+        const request = open.apply(this, given);
+        Object.defineProperty(request, "onsuccess", { set(tell) { request.addEventListener("success", (event) => { window.held === null ? tell(event) : window.held.push(() => tell(event)); }); } });
+        return request;
+    };
+}
+
+export function let_go() {
+    const held = window.held;
+    window.held = null;
+    for (const tell of held) tell();
 }

@@ -1,4 +1,95 @@
-// Scripts that the tests run within the page for tellers, and in Node over its modules. A test runs the body of a function.
+// What the tests run within the page for tellers: `Browser.calls` calls a function by its name.
+
+/** Opens one of the page's own databases. */
+async function opened(name) {
+    const request = indexedDB.open(name);
+    await new Promise((resolve) => { request.onsuccess = resolve; });
+    return request.result;
+}
+
+async function read(name, ask) {
+    const database = await opened(name);
+    const request = ask(database);
+    await new Promise((resolve) => { request.onsuccess = resolve; });
+    database.close();
+    return request.result;
+}
+
+export async function journal() {
+    const record = await read("ladwenpik-teller", (database) => database.transaction("journal").objectStore("journal").get("journal"));
+    return record ?? {};
+}
+
+/** What the browser keeps of payments, in the order of the tickets. */
+export async function receipts() {
+    return read("ladwenpik-receipts", (database) => database.transaction("payments").objectStore("payments").index("ticket").getAll());
+}
+
+/** Writes another journal, which a function makes of the one that is there. */
+export async function write_journal(change) {
+    const database = await opened("ladwenpik-teller");
+    const writing = database.transaction("journal", "readwrite");
+    const store = writing.objectStore("journal");
+    const reading = store.get("journal");
+    reading.onsuccess = () => store.put(change(reading.result), "journal");
+    await new Promise((resolve) => { writing.oncomplete = resolve; });
+    database.close();
+}
+
+/** Notes when the button that confirms began to rest, and when it ended. */
+export function watch_rests() {
+    window.rests = [];
+    const button = document.getElementById("confirm-yes");
+    new MutationObserver(() => window.rests.push([button.hasAttribute("aria-disabled"), performance.now()])).observe(button, { attributeFilter: ["aria-disabled"] });
+}
+
+/** Counts tones in place of making them. */
+export function watch_beeps() {
+    window.beeps = 0;
+    const tone = () => ({ frequency: {}, connect() {}, stop() {}, start() { window.beeps += 1; } });
+    window.AudioContext = class {
+        get currentTime() { return performance.now() / 1000; }
+        resume() { return Promise.resolve(); }
+        createOscillator() { return tone(); }
+    };
+}
+
+/** Keeps each step that the page says of a request, also one that is in sight for half a second alone. */
+export function watch_steps() {
+    const progress = document.getElementById("progress-text");
+    window.steps = [];
+    new MutationObserver(() => window.steps.push(progress.textContent)).observe(progress, { childList: true });
+}
+
+/** The bonds of the question: of each the texts of its line. */
+export function bonds_asked() {
+    return [...document.querySelectorAll("#confirm .bonds li")].map((line) => [...line.children].map((part) => part.textContent));
+}
+
+/** No dialogue of the browser's; how often the page printed. */
+export function count_prints() {
+    window.prints = 0;
+    window.print = () => { window.prints += 1; };
+}
+
+/** Pauses of these milliseconds end by their button alone, however slow the test is. */
+export function hold(...pauses) {
+    const real = window.setTimeout;
+    window.setTimeout = (act, wait, ...more) => (pauses.includes(wait) ? 0 : real(act, wait, ...more));
+}
+
+/** Counts how often the page comes to the field for bonds in hand. */
+export function watch_jumps() {
+    window.jumps = 0;
+    const field = document.getElementById("in-hand");
+    addEventListener("scroll", () => { window.jumps += field.getBoundingClientRect().bottom > 0 ? 1 : 0; });
+}
+
+/** The files that came over the network, and their bytes. */
+export function loaded() {
+    const files = performance.getEntriesByType("resource").filter((one) => one.transferSize > 0 && !one.name.endsWith("/user"));
+    return [files.map((one) => one.name.split("/").at(-1)).sort(), files.reduce((sum, one) => sum + one.transferSize, 0)];
+}
 
 /** All storage that a page may use, beside its two databases. */
 export async function storages() {
@@ -18,9 +109,8 @@ export function heard() {
 }
 
 /** What the page reads as the server's time, from the next response on. */
-export function server_date() {
-    const [date, real] = [arguments[0], window.realGet ?? Headers.prototype.get];
-    window.realGet = real;
+export function server_date(date) {
+    const real = window.realGet ??= Headers.prototype.get;
     Headers.prototype.get = function (name) { return name === "Date" ? date : real.call(this, name); };
 }
 
@@ -98,11 +188,11 @@ export function watch() {
 }
 
 /** By the page's own events: the driver's way to type and to read a text stops the page itself. */
-export function type() {
-    const field = document.querySelector(arguments[0]);
-    field.value = arguments[1];
+export function type(selector, text, submits) {
+    const field = document.querySelector(selector);
+    field.value = text;
     field.dispatchEvent(new Event("input", { bubbles: true }));
-    if (arguments[2]) field.form.requestSubmit();
+    if (submits) field.form.requestSubmit();
 }
 
 /** The rows that are there, whether each knows its place among all, and how many the table says it has. */
@@ -114,9 +204,8 @@ export function rows() {
 }
 
 /** The next `count` writings of a store after `skipped` ones fail, as in a browser without room. */
-export function failing(...given) {
+export function failing(skipped, count, name, store) {
     const real = window.realPut ??= IDBObjectStore.prototype.put;
-    let [skipped, count, name, store] = arguments;
     IDBObjectStore.prototype.put = function (...given) {
         if (this.name !== (store ?? this.name)) return real.apply(this, given);
         if (skipped > 0) skipped -= 1;
@@ -134,7 +223,7 @@ export function unhandled() {
     addEventListener("error", (event) => window.unhandled.push(event.message));
 }
 
-export function closing(...given) {
+export function closing() {
     const real = IDBDatabase.prototype.transaction;
     IDBDatabase.prototype.transaction = function (...given) {
         if (!window.is_closed) {
@@ -166,32 +255,6 @@ export function loose() {
 export async function unknown() {
     const { unknownWords } = await import(new URL("/teller/words.js", location.origin));
     return unknownWords();
-}
-
-/** What the page says of a first attempt without a certificate. */
-export function first_attempt() {
-    const request = { path: "/redeem", fields: { serials: ["L7EE"], payee: 7 }, sent: 1 };
-    return page.STEPS.pausing({ request, answer: { kind: "forbidden", why: "certificate" }, milliseconds: 500 });
-}
-
-export function times() {
-    const times = [[0, 5], [9, 30], [12, 0], [23, 59]].map(([hour, minute]) => page.timeInWords(new Date(2012, 1, 6, hour, minute).getTime()));
-    return [...times, page.dayInWords("2012-12-31")];
-}
-
-export function sheets(...given) {
-    const text = given[0];
-    const whole = page.readSheet(text);
-    const places = [...text].map((_, at) => at);
-    const other = (at) => text.slice(0, at) + (text[at] === "9" ? "8" : "9") + text.slice(at + 1);
-    const damaged = [
-        ...places.map((at) => text.slice(0, at) + text.slice(at + 1)),
-        ...places.map((at) => text.slice(0, at) + text[at] + text.slice(at)),
-        ...places.map((at) => text.slice(0, at)),
-        ...[...text.matchAll(/\.[0-9]{2}(?!%)/g)].map((found) => other(found.index + 1)),
-    ];
-    const rows = whole.rows.map((row) => [row.serial, row.note, Number(row.value)]);
-    return [rows, Number(whole.totals.value), damaged.length, damaged.filter((one) => page.readSheet(one) !== null).length];
 }
 
 /** A print with its total in the foot of each sheet. */
