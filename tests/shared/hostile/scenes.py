@@ -1,6 +1,6 @@
 """What the tests run over: stores in the states that a file can be in, and commands."""
 import dataclasses
-import os
+from pathlib import Path
 
 from . import commands, desk, judging, store, talk
 from .program import Program
@@ -38,10 +38,9 @@ def first_version(program: Program, name: str, with_extensions: bool) -> tuple[s
 
 def written(program: Program, name: str, file: bytes) -> str:
     """A file of that name and content, beside the stores."""
-    path = os.path.join(program.folder, name)
-    with open(path, "wb") as to:
-        to.write(file)
-    return path
+    path = Path(program.folder, name)
+    path.write_bytes(file)
+    return str(path)
 
 
 def connections(program: Program) -> list[Scene]:
@@ -67,7 +66,7 @@ def files(program: Program) -> list[Scene]:
     days = talk.texts("BEGUN")
     rates = written(program, "rates.csv", RATES_FILE)
     bonds = written(program, "bonds.csv", BONDS_FILE)
-    with_rates = made(program, "rated", talk.exchanges(days["BEGUN"])[0][0])
+    with_rates = made(program, "rated", talk.messages(days["BEGUN"])[0])
     begun = made(program, "shown", talk.stream(days["BEGUN"]))
     start = judging.start([days["BEGUN"]])
     rated = desk.Books()

@@ -1,22 +1,17 @@
 """Days at the counter that stand as transcripts in crates/store_tests, and those of earlier
-stores, with the answers that were worked by hand. Their little language is told in its talk.rt."""
-import os
+stores. Their little language is told in its talk.rt."""
 import re
-from typing import Any, Iterator
+from pathlib import Path
+from typing import Any
 
-from ..counter_calls import TOP
-
-SOURCES = os.path.join(TOP, "crates", "store_tests", "src")
+SOURCES = Path(__file__).resolve().parents[3] / "crates/store_tests/src"
 REASONS = {200: "OK", 400: "Bad Request", 404: "Not Found", 405: "Method Not Allowed"}
 REASONS |= {409: "Conflict", 413: "Content Too Large", 503: "Service Unavailable"}
 
 
 def source_of(name: str) -> str:
     """The text of the one source file that has a constant of this name."""
-    texts = []
-    for path in sorted(os.listdir(SOURCES)):
-        with open(os.path.join(SOURCES, path), encoding="utf-8") as source:
-            texts.append(source.read())
+    texts = [path.read_text() for path in SOURCES.iterdir()]
     (text,) = [text for text in texts if re.search(rf"\bconst {name}:", text)]
     return text
 
@@ -61,41 +56,13 @@ def answer(status: int, body: bytes, closes: bool = False, kind: str = "applicat
     return f"{head}Content-Length: {len(body)}\r\n{end}\r\n".encode() + body
 
 
-def answer_told(text: str) -> bytes:
-    """The bytes of an answer that stands as `STATUS BODY` in a transcript."""
-    status, body = text.split(" ", 1)
-    kind = "text/plain" if body.startswith("Serial ") else "application/json"
-    return answer(int(status), body.encode(), kind=kind)
-
-
-def blocks(transcript: str) -> Iterator[tuple[str, list[str]]]:
-    """Each line that does something, with what is told below it."""
-    does: str | None = None
-    told: list[str] = []
-    for line in map(written_out, transcript.split("\n")):
-        if re.match(r"[>~+%-] ", line):
-            if does is not None:
-                yield does, told
-            does, told = line, []
-        else:
-            told.append(line)
-    if does is not None:
-        yield does, told
-
-
-def exchanges(transcript: str) -> list[tuple[bytes, bytes]]:
-    """Of a transcript of messages alone, each message and its answer, as bytes."""
-    found = []
-    for does, told in blocks(transcript):
-        if not does.startswith("> "):
-            raise ValueError(does)
-        while len(told) > 1 and told[-1] == "":
-            told.pop()
-        body = "\n".join(told)
-        end = "\n" if body.startswith("200 Serial") else ""
-        found.append((message(does[2:]), answer_told(body + end)))
-    return found
+def messages(transcript: str) -> list[bytes]:
+    """Of a transcript of messages alone, each message."""
+    lines = map(written_out, transcript.split("\n"))
+    does = [line for line in lines if re.match(r"[>~+%-] ", line)]
+    assert all(line.startswith("> ") for line in does), does
+    return [message(line[2:]) for line in does]
 
 
 def stream(transcript: str) -> bytes:
-    return b"".join(sent for sent, _ in exchanges(transcript))
+    return b"".join(messages(transcript))
