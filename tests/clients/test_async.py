@@ -13,7 +13,7 @@ from unittest import mock
 import pytest
 
 import ee_counter_client as client
-from tests.clients.desk import DAY, Desk
+from tests.clients.desk import DAY, Desk, within
 
 BONDS = [f"L{number}EE" for number in range(1, 41)]
 
@@ -52,36 +52,41 @@ async def ticking(most: float) -> AsyncIterator[None]:
     assert max(gaps) <= most, f"the loop was held for {max(gaps):.2f} seconds"
 
 
-async def ended(call: Awaitable[object], kind: type[BaseException], within: float = 2) -> None:
-    begun = time.monotonic()
-    with pytest.raises(kind):
+async def ended(call: Awaitable[object], kind: type[BaseException], most: float = 2) -> None:
+    with within(most), pytest.raises(kind):
         await call
-    assert time.monotonic() - begun < within
 
 
-def test_calls_and_errors_are_those_of_a_counter(desk: Desk) -> None:
-    async def run() -> None:
-        async with counter_at(desk) as counter:
-            ticket = await counter.redeem(DAY, 7, ["L1EE", "L2EE"], key="invoice 1")
-            assert (ticket.number, str(ticket.total)) == (1, "50.00")
-            assert await counter.redeem(DAY, 7, ["L1EE", "L2EE"], key="invoice 1") == ticket
-            with pytest.raises(client.AlreadyPaid) as refusal:
-                await counter.redeem(DAY, 7, ["L1EE"])
-            assert refusal.value.ticket == 1
-            with pytest.raises(client.BadValue):
-                await counter.redeem(DAY, 7, "L3EE")  # type: ignore[arg-type]
-            assert (counter.desk, counter.open_request) == (3, None)
-            assert counter.find("invoice 1") is not None
-            assert "Total" in (await counter.inventory(7, "2012-02")).text
-            batch = await counter.close_day(DAY)
-            assert (batch.tickets, batch.bonds) == (1, 2)
-        with pytest.raises(client.Closed):
-            await counter.ticket(1)
-        await counter.close()
+async def unanswered(desk: Desk, counter: client.AsyncCounter) -> asyncio.Task[client.Ticket]:
+    """A payment under way that gets no answer."""
+    await counter.ticket(1)
+    desk.gate.faults = ["silent"]
+    call = asyncio.create_task(counter.redeem(DAY, 7, ["L1EE"], key="invoice 1"))
+    await asyncio.sleep(0.2)
+    return call
 
-    asyncio.run(run())
-    with client.Counter(desk.journal, desk.gate.address) as counter:
+
+@in_a_loop
+async def test_calls_and_errors_are_those_of_a_counter(desk: Desk) -> None:
+    async with counter_at(desk) as counter:
+        ticket = await counter.redeem(DAY, 7, ["L1EE", "L2EE"], key="invoice 1")
+        assert (ticket.number, str(ticket.total)) == (1, "50.00")
+        assert await counter.redeem(DAY, 7, ["L1EE", "L2EE"], key="invoice 1") == ticket
+        with pytest.raises(client.AlreadyPaid) as refusal:
+            await counter.redeem(DAY, 7, ["L1EE"])
+        assert refusal.value.ticket == 1
+        with pytest.raises(client.BadValue):
+            await counter.redeem(DAY, 7, "L3EE")  # type: ignore[arg-type]
+        assert (counter.desk, counter.open_request) == (3, None)
         assert counter.find("invoice 1") is not None
+        assert "Total" in (await counter.inventory(7, "2012-02")).text
+        batch = await counter.close_day(DAY)
+        assert (batch.tickets, batch.bonds) == (1, 2)
+    with pytest.raises(client.Closed):
+        await counter.ticket(1)
+    await counter.close()
+    with client.Counter(desk.journal, desk.gate.address) as later:
+        assert later.find("invoice 1") is not None
 
 
 def test_it_has_the_calls_of_a_counter() -> None:
@@ -102,10 +107,7 @@ async def test_leaving_does_not_hold_the_loop(desk: Desk) -> None:
     """A call that gets no answer has a limit as the counter is closed, and other tasks go on."""
     async with ticking(0.5):
         async with counter_at(desk) as counter:
-            await counter.ticket(1)
-            desk.gate.faults = ["silent"]
-            call = asyncio.create_task(counter.redeem(DAY, 7, ["L1EE"], key="invoice 1"))
-            await asyncio.sleep(0.2)
+            call = await unanswered(desk, counter)
             await counter.close(0.3)
             await ended(call, client.NoReply)
     desk.counter().close()  # the journal was given back
@@ -126,21 +128,17 @@ async def test_leaving_a_counter_holds_the_loop(desk: Desk) -> None:
 
 
 @pytest.mark.parametrize("timeout", [0.2, 0.0])
-def test_a_counter_is_closed_within_a_time(desk: Desk, timeout: float) -> None:
+@in_a_loop
+async def test_a_counter_is_closed_within_a_time(desk: Desk, timeout: float) -> None:
     """The call of another thread is stopped, and its request stays open."""
-
-    async def run() -> None:
-        counter = client.Counter(desk.journal, desk.gate.address, desk=3)
-        counter.ticket(1)
-        desk.gate.faults = ["silent"]
-        call = asyncio.create_task(asyncio.to_thread(counter.redeem, DAY, 7, ["L1EE"]))
-        await asyncio.sleep(0.2)
-        begun = time.monotonic()
+    counter = client.Counter(desk.journal, desk.gate.address, desk=3)
+    counter.ticket(1)
+    desk.gate.faults = ["silent"]
+    call = asyncio.create_task(asyncio.to_thread(counter.redeem, DAY, 7, ["L1EE"]))
+    await asyncio.sleep(0.2)
+    with within(timeout + 1):
         counter.close(timeout)
-        assert time.monotonic() - begun < timeout + 1
-        await ended(call, client.NoReply)
-
-    asyncio.run(run())
+    await ended(call, client.NoReply)
     with client.Counter(desk.journal, desk.gate.address) as counter:
         assert counter.open_request is not None
         ticket = counter.finish()
@@ -175,10 +173,7 @@ async def test_a_pause_is_cancelled(desk: Desk) -> None:
 async def test_a_waiting_call_is_cancelled(desk: Desk) -> None:
     """A call that waits for another one isn't made."""
     async with counter_at(desk) as counter:
-        await counter.ticket(1)
-        desk.gate.faults = ["silent"]
-        first = asyncio.create_task(counter.redeem(DAY, 7, ["L1EE"], key="invoice 1"))
-        await asyncio.sleep(0.2)
+        first = await unanswered(desk, counter)
         second = counter.redeem(DAY, 7, ["L2EE"], key="invoice 2")
         await ended(asyncio.wait_for(second, 0.2), asyncio.TimeoutError)
         first.cancel()
@@ -214,34 +209,23 @@ async def test_each_wait_of_the_network_is_stopped(desk: Desk, what: str) -> Non
             await ended(asyncio.wait_for(counter.ticket(1), 0.5), asyncio.TimeoutError)
 
 
-def test_a_call_that_is_not_woken_goes_on(desk: Desk) -> None:
+@in_a_loop
+async def test_a_call_that_is_not_woken_goes_on(desk: Desk) -> None:
     """Control: if nothing wakes the socket, a cancelled call holds its desk for the time of a sending."""
-
-    async def run() -> None:
+    with mock.patch("ee_counter_client.way.shut", lambda connection: None):
         async with counter_at(desk, time_limit=4) as counter:
-            await counter.ticket(1)
-            desk.gate.faults = ["silent"]
-            call = counter.redeem(DAY, 7, ["L1EE"])
+            call = await unanswered(desk, counter)
             with pytest.raises(AssertionError):
                 await ended(asyncio.wait_for(call, 0.3), asyncio.TimeoutError)
-
-    with mock.patch("ee_counter_client.way.shut", lambda connection: None):
-        asyncio.run(run())
 
 
 @in_a_loop
 async def test_an_error_stops_what_is_under_way(desk: Desk) -> None:
     """Leaving after an error doesn't wait for the call of another task."""
-    call = None
-    begun = time.monotonic()
-    with pytest.raises(ZeroDivisionError):
+    with within(2), pytest.raises(ZeroDivisionError):
         async with counter_at(desk) as counter:
-            await counter.ticket(1)
-            desk.gate.faults = ["silent"]
-            call = asyncio.create_task(counter.redeem(DAY, 7, ["L1EE"]))
-            await asyncio.sleep(0.2)
+            call = await unanswered(desk, counter)
             1 / 0
-    assert time.monotonic() - begun < 2 and call is not None
     await ended(call, client.NoReply)
 
 
