@@ -13,7 +13,7 @@ from typing import Any, Iterable, Mapping
 
 from tests.browser.gate import Gate
 from tests.conftest import TOP
-from tests.fence.site import Site
+from tests.fence.site import Site, Texts
 from tests.shared.counter_calls import done, end, free_port, serve
 
 PAGE = TOP / "clients" / "teller"
@@ -100,14 +100,7 @@ class Server:
 class Front(Site):
     """nginx over samples/nginx, with the page of a folder and a log of each request."""
 
-    def __init__(
-        self,
-        folder: Path,
-        port: int,
-        groups: Mapping[str, str],
-        page: Path,
-        changed: Mapping[str, str],
-    ) -> None:
+    def __init__(self, folder: Path, port: int, groups: Texts, page: Path, changed: Texts) -> None:
         self.page = page
         super().__init__(folder, f"http://127.0.0.1:{port}", groups, changed=changed)
 
@@ -172,9 +165,7 @@ class Bank:
         #: The numbers of the requests of desk 900.
         self.number = 0
 
-    def front(
-        self, name: str, changed: Mapping[str, str] = RATE, groups: Mapping[str, str] = {}
-    ) -> Front:
+    def front(self, name: str, changed: Texts = RATE, groups: Texts = {}) -> Front:
         """Another nginx before the gate, and that which pages find from now on."""
         people = {**self.users, **groups}
         made = Front(self.folder / name, self.gate.port, people, self.teller, changed)
@@ -230,8 +221,7 @@ class Bank:
         """Posts it, and wants an answer of that status; the answer."""
         found, text = self.ask("POST", path, value)
         assert found == status, f"{path} was answered {found} {text}"
-        reply: dict[str, Any] = json.loads(text)
-        return reply
+        return dict(json.loads(text))
 
     # ---- what desk 900 does
 

@@ -1,53 +1,50 @@
 """Four desks behind one address, as in a branch whose router translates addresses: each counts a day of many tickets and pays, over the limits of samples/nginx."""
 
-import threading
 import time
-from typing import Any, Mapping
+from concurrent.futures import Future, ThreadPoolExecutor
 
 import pytest
 
 from tests.browser.bank import DAY, PAGE, Bank, Front, bond
 from tests.browser.page import VALUES, dollars
 from tests.clients.conftest import NewPage
+from tests.fence.site import Texts
 
 pytestmark = [pytest.mark.browser, pytest.mark.nginx, pytest.mark.slow]
 TICKETS = 900
 #: The pace of clients/teller/latest.js: the number of look-ups at once, and then the seconds between two. After a 429 a look-up waits.
 AT_ONCE, SPACE, BUSY = 100, 0.125, 2
+Working = Future[tuple[int, int]]
 OTHERS = {name: "teller" for name in ("anna", "dora", "emil")}
 
 
-class Desk(threading.Thread):
-    """Behaves as the page does: it loads the page's files, counts the tickets, and pays bonds meanwhile. `busy` counts its answers 429."""
+def work(nginx: Front, user: str, desk: int, seconds: float) -> tuple[int, int]:
+    """Behaves as the page does: it loads the page's files, counts the tickets, and pays bonds meanwhile. How many it counted, and its answers 429."""
+    until, counted, waits = time.monotonic() + seconds, 0, 0
 
-    def __init__(self, nginx: Front, user: str, desk: int, seconds: float) -> None:
-        super().__init__(daemon=True)
-        self.nginx, self.user, self.desk = nginx, user, desk
-        self.until, self.counted, self.busy = time.monotonic() + seconds, 0, 0
-
-    def ask(self, method: str, path: str, value: object = None) -> int | None:
-        while time.monotonic() < self.until:
-            status = self.nginx.ask(self.user, method, path, value).status
+    def ask(method: str, path: str, value: object = None) -> int | None:
+        nonlocal waits
+        while time.monotonic() < until:
+            status = nginx.ask(user, method, path, value).status
             if status != 429:
                 return status
-            self.busy += 1
+            waits += 1
             time.sleep(0.5 if method == "POST" else BUSY)
         return None
 
-    def run(self) -> None:
-        for file in sorted(PAGE.iterdir()):
-            self.ask("GET", f"/teller/{file.name}")
-        asked_from = time.monotonic() - AT_ONCE * SPACE
-        for number in range(1, TICKETS + 1):
-            asked_from = max(asked_from, time.monotonic() - AT_ONCE * SPACE) + SPACE
-            time.sleep(max(0, asked_from - time.monotonic()))
-            if self.ask("GET", f"/ticket/{number}") != 200:
-                return
-            self.counted = number
-            if number % 200 == 0:
-                asked: Any = {"desk": self.desk, "number": number, "day": DAY, "payee": 60}
-                serials = [f"S{self.desk * 1000 + number}EE"]
-                self.ask("POST", "/redeem", {**asked, "serials": serials})
+    for file in sorted(PAGE.iterdir()):
+        ask("GET", f"/teller/{file.name}")
+    asked_from = time.monotonic() - AT_ONCE * SPACE
+    for number in range(1, TICKETS + 1):
+        asked_from = max(asked_from, time.monotonic() - AT_ONCE * SPACE) + SPACE
+        time.sleep(max(0, asked_from - time.monotonic()))
+        if ask("GET", f"/ticket/{number}") != 200:
+            break
+        counted = number
+        if number % 200 == 0:
+            paid = {"payee": 60, "serials": [f"S{desk * 1000 + number}EE"]}
+            ask("POST", "/redeem", {"desk": desk, "number": number, "day": DAY, **paid})
+    return counted, waits
 
 
 def busy(nginx: Front) -> int:
@@ -55,21 +52,17 @@ def busy(nginx: Front) -> int:
     return sum('" 429 ' in line for line in lines)
 
 
-def branch(bank: Bank, seconds: float, changed: Mapping[str, str] = {}) -> tuple[Front, list[Desk]]:
+def branch(bank: Bank, seconds: float, changed: Texts = {}) -> tuple[Front, list[Working]]:
     """Tickets of one bond each, nginx with four users, and three of the four desks at work."""
-    serials = [f"S{place}EE" for place in range(1, TICKETS + 1)]
     bank.begin([7])
-    bank.registers(*(bond(serial, 50, "2010-11", 60) for serial in serials))
-    for place in (11, 12, 13):
-        own = [f"S{place * 1000 + number}EE" for number in range(200, TICKETS + 1, 200)]
-        bank.registers(*(bond(serial, 50, "2010-11", 60) for serial in own))
-    for serial in serials:
-        bank.pays(60, serial)
-    nginx = bank.front("branch", changed, OTHERS)
-    desks = [Desk(nginx, user, 11 + place, seconds) for place, user in enumerate(OTHERS)]
-    for desk in desks:
-        desk.start()
-    return nginx, desks
+    bank.registers_many(60, TICKETS)
+    numbers = [desk * 1000 + at for desk in (11, 12, 13) for at in range(200, TICKETS + 1, 200)]
+    bank.registers(*(bond(f"S{number}EE", 50, "2010-11", 60) for number in numbers))
+    for number in range(1, TICKETS + 1):
+        bank.pays(60, f"S{number}EE")
+    nginx, pool = bank.front("branch", changed, OTHERS), ThreadPoolExecutor(len(OTHERS))
+    desks = enumerate(OTHERS, 11)
+    return nginx, [pool.submit(work, nginx, user, desk, seconds) for desk, user in desks]
 
 
 def test_four_desks(bank: Bank, new_page: NewPage) -> None:
@@ -82,9 +75,7 @@ def test_four_desks(bank: Bank, new_page: NewPage) -> None:
     page.go("day")
     page.until(lambda: dollars(VALUES["L"]) in page.text("#desk-sum"), "the desk's sum", 900)
     page.until(lambda: "tickets, " in page.text("#all-sum"), "the day is counted", 900)
-    for desk in desks:
-        desk.join()
-    assert [(desk.counted, desk.busy) for desk in desks] == [(TICKETS, 0)] * 3
+    assert [desk.result() for desk in desks] == [(TICKETS, 0)] * 3
     paid = [entry["status"] for entry in nginx.log() if entry["route"] == "/redeem"]
     assert busy(nginx) == 0 and paid == ["200"] * (1 + 3 * 4)
     assert page.journal()["tally"]["through"] >= TICKETS
@@ -99,6 +90,4 @@ def test_a_limit_by_address_is_found(bank: Bank) -> None:
     """Control: with a limit by address alone, three of the desks are answered 429."""
     by_address = {"limit_req_zone $staff": "limit_req_zone $binary_remote_addr"}
     nginx, desks = branch(bank, 45, by_address)
-    for desk in desks:
-        desk.join()
-    assert busy(nginx) > 0
+    assert sum(desk.result()[1] for desk in desks) > 0 < busy(nginx)
