@@ -3,7 +3,7 @@
 from __future__ import annotations
 
 from pathlib import Path
-from typing import TYPE_CHECKING, Callable, Iterator
+from typing import TYPE_CHECKING, Any, Callable, Iterator
 
 import pytest
 
@@ -14,8 +14,6 @@ from tests.clients.desk import Desk, TrueCounter
 if TYPE_CHECKING:
     from tests.browser.page import Page
     from tests.clients.calculator import Calculator
-
-DESK = 5
 
 
 @pytest.fixture
@@ -31,19 +29,18 @@ def browser(request: pytest.FixtureRequest) -> str:
 
 
 NewPage = Callable[..., "Page"]
+Calculators = Callable[[str], "Calculator"]
 
 
 @pytest.fixture
 def new_page(bank: Bank, browser: str) -> Iterator[NewPage]:
-    """Starts a browser on the page: at a desk, if it isn't None, that has joined a day, if one is named. It ends with the test. The same `profile` again is a browser that was there before."""
+    """Starts a browser on the page, or at another address: at a desk, if it isn't None, that has joined a day, if one is named. It ends with the test. The same `profile` again is a browser that was there before."""
     from tests.browser.page import Page
 
     made: list[Page] = []
 
-    def make(
-        desk: int | None = DESK, *, day: str | None = None, profile: Path | None = None
-    ) -> Page:
-        page = Page(browser, bank.url, bank.folder, profile=profile, certificate=bank.certificate)
+    def make(desk: int | None = 5, day: str | None = None, *, url: str = "", **own: Any) -> Page:
+        page = Page(browser, url or bank.url, bank.folder, certificate=bank.certificate, **own)
         made.append(page)
         if desk is not None:
             page.choose_desk(desk)
@@ -77,9 +74,7 @@ def true(program: Path, folder: Path) -> Iterator[TrueCounter]:
 
 
 @pytest.fixture(scope="module")
-def calculators(
-    tmp_path_factory: pytest.TempPathFactory,
-) -> Iterator[Callable[[str], Calculator]]:
+def calculators(tmp_path_factory: pytest.TempPathFactory) -> Iterator[Calculators]:
     """One browser of each name, which the tests of a file share."""
     from tests.clients.calculator import Calculator
 
@@ -96,9 +91,7 @@ def calculators(
 
 
 @pytest.fixture
-def calc(
-    calculators: Callable[[str], Calculator], browser: str, folder: Path
-) -> Iterator[Calculator]:
+def calc(calculators: Calculators, browser: str, folder: Path) -> Iterator[Calculator]:
     """A browser for the calculator's page. Each page that a test serves has an address, and so a storage, of its own."""
     one = calculators(browser)
     one.begins(folder)

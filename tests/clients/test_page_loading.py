@@ -14,6 +14,7 @@ from tests.browser.bank import PAGE, USER, Bank
 from tests.browser.engines import Chromium
 from tests.browser.gate import Relay
 from tests.browser.page import Page
+from tests.clients.conftest import NewPage
 from tests.conftest import TOP
 
 
@@ -103,30 +104,28 @@ class Trusting(Chromium):
 @pytest.mark.browser
 @pytest.mark.nginx
 @pytest.mark.needs("esbuild")
-def test_files_come_once(bank: Bank, folder: Path) -> None:
+@pytest.mark.parametrize("browser", ["chromium"], indirect=True)
+def test_files_come_once(bank: Bank, new_page: NewPage, folder: Path) -> None:
     """Of a page that was there before the files come no more, and an upgrade meanwhile is noticed. Control: without its second path each module comes each time."""
     engine = Trusting(folder / "profile", bank)
-    page = Page("chromium", "about:blank", folder, engine=engine)
+    page = new_page(None, url="about:blank", engine=engine)
     whole = sorted({*preloaded((PAGE / "index.html").read_text()), "style.css"})
-    try:
-        for _ in range(2):
-            files, size = engine.loads(page, bank.url)
-            assert {*whole} <= {*files} and size < 120_000
-        packed(bank.teller)
-        own = ["bank.js", "old.js", "start.js"]
+    for _ in range(2):
         files, size = engine.loads(page, bank.url)
-        assert {*files} - {"icon.svg"} == {*own, "page.js", "style.css"} and size < 50_000
-        files, size = engine.loads(page, bank.url)
-        assert files == own and size < 4_000
-        index, other = bank.teller / "index.html", "0123456789abcdef"
-        text = index.read_text()
-        index.write_text(re.sub("[0-9a-f]{16}/", f"{other}/", text))
-        page.open(bank.url)  # An upgrade has removed the files meanwhile.
-        page.waits_for("The page didn't load completely. It tries again by itself.")
-        index.write_text(text)
-        page.until(lambda: page.is_shown("#start form"), "the page is there")
-    finally:
-        page.quit()
+        assert {*whole} <= {*files} and size < 120_000
+    packed(bank.teller)
+    own = ["bank.js", "old.js", "start.js"]
+    files, size = engine.loads(page, bank.url)
+    assert {*files} - {"icon.svg"} == {*own, "page.js", "style.css"} and size < 50_000
+    files, size = engine.loads(page, bank.url)
+    assert files == own and size < 4_000
+    index, other = bank.teller / "index.html", "0123456789abcdef"
+    text = index.read_text()
+    index.write_text(re.sub("[0-9a-f]{16}/", f"{other}/", text))
+    page.open(bank.url)  # An upgrade has removed the files meanwhile.
+    page.waits_for("The page didn't load completely. It tries again by itself.")
+    index.write_text(text)
+    page.until(lambda: page.is_shown("#start form"), "the page is there")
 
 
 #: Notes when the first view is shown.
@@ -141,58 +140,49 @@ seen();
 LINES = {"a request": (0.3, 0.0, 1.5), "a round trip": (0.3, 0.15, 3.0)}
 
 
+def first_loads(bank: Bank, page: Page, slow: list[float]) -> float:
+    """Three over slow lines, each at an address of its own, of which the browser has nothing: the median of their seconds."""
+    found = []
+    for _ in range(3):
+        page.open(f"https://127.0.0.1:{Relay(bank.port, *slow).port}/teller/")
+        page.until(lambda: page.run("return window.usable"), "the page is usable")
+        assert page.is_shown("#start form")
+        found.append(float(page.run("return window.usable")) / 1000)
+    return median(found)
+
+
 @pytest.mark.browser
 @pytest.mark.nginx
 @pytest.mark.needs("esbuild")
 @pytest.mark.parametrize("line", LINES)
-def test_usable_at_once(bank: Bank, folder: Path, browser: str, line: str) -> None:
+def test_usable_at_once(bank: Bank, new_page: NewPage, line: str) -> None:
     """At a first load over a slow line: the median of three, or more on a busy machine. Control: as modules the page takes longer."""
     bank.begin([7])
     own = bank.teller / "bank.js"
     own.write_text(own.read_text() + USABLE)
     *slow, most = LINES[line]
-    page = Page(browser, "about:blank", folder, certificate=bank.certificate)
-
-    def first_loads() -> float:
-        """Each at an address of its own, of which the browser has nothing."""
-        found = []
-        for _ in range(3):
-            page.open(f"https://127.0.0.1:{Relay(bank.port, *slow).port}/teller/")
-            page.until(lambda: page.run("return window.usable"), "the page is usable")
-            assert page.is_shown("#start form")
-            found.append(float(page.run("return window.usable")) / 1000)
-        return median(found)
-
-    try:
-        modules = first_loads()
-        packed(bank.teller)
-        whole = first_loads()
-        page.reload()
-        page.choose_desk(5)
-        page.joins()
-        page.pays(1, 7, "L7EE")
-        print(
-            f"{browser}, 300 ms for {line}: usable after {whole:.2f} s, as modules {modules:.2f} s"
-        )
-        busy = max(1.0, os.getloadavg()[0] / (os.cpu_count() or 1))
-        assert whole <= most * busy and most < modules and page.complaints() == []
-    finally:
-        page.quit()
+    page = new_page(None, url="about:blank")
+    modules = first_loads(bank, page, slow)
+    packed(bank.teller)
+    whole = first_loads(bank, page, slow)
+    page.reload()
+    page.joins(desk=5)
+    page.pays(1, 7, "L7EE")
+    print(f"300 ms for {line}: usable after {whole:.2f} s, as modules {modules:.2f} s")
+    busy = max(1.0, os.getloadavg()[0] / (os.cpu_count() or 1))
+    assert whole <= most * busy and most < modules and page.complaints() == []
 
 
 @pytest.mark.browser
 @pytest.mark.nginx
-def test_a_file_that_never_comes(bank: Bank, folder: Path) -> None:
+def test_a_file_that_never_comes(bank: Bank, new_page: NewPage) -> None:
     """The page tries again by itself."""
     main, start = bank.teller / "main.js", bank.teller / "start.js"
     text, waits = main.read_text(), start.read_text()
     main.write_text("await new Promise(() => {});\n")
     start.write_text(waits.replace("LIMIT = 60_000", "LIMIT = 4_000"))
-    page = Page("chromium", bank.url, folder, certificate=bank.certificate)
-    try:
-        page.waits_for("The page didn't load completely. It tries again by itself.")
-        start.write_text(waits)
-        main.write_text(text)
-        page.until(lambda: page.is_shown("#start form"), "the page is there")
-    finally:
-        page.quit()
+    page = new_page(None)
+    page.waits_for("The page didn't load completely. It tries again by itself.")
+    start.write_text(waits)
+    main.write_text(text)
+    page.until(lambda: page.is_shown("#start form"), "the page is there")
