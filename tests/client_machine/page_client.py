@@ -43,8 +43,7 @@ class Node:
 
     def said(self) -> Json:
         assert self.process.stdout is not None
-        found: Json = json.loads(self.process.stdout.readline())
-        return found
+        return dict(json.loads(self.process.stdout.readline()))
 
     def turn(self, most: int, journal: Record, events: Sequence[Event]) -> Turn:
         texts = [[str(number) for number in event] for event in events]
@@ -72,8 +71,7 @@ class InBrowser(Node):
 
     def said(self) -> Json:
         given, self.given = json.dumps(self.given), []
-        found: Json = json.loads(self.browser.run("return exchanged(arguments[0])", given))
-        return found
+        return dict(json.loads(self.browser.run("return exchanged(arguments[0])", given)))
 
 
 class PageClient(Told):

@@ -112,56 +112,28 @@ def test_header(built: Path) -> None:
 
 #: Points of the rules at which a wrong machine would hurt a bank: a journal, events, what the
 #: machine then does, and what its journal holds or is to hold.
-OPEN = Record(2, number=1, step=1, sent=1, act=5)
-AGAIN = [Event(GO_ON), Event(WRITTEN)]
-FAULT_OF_1 = Event(ANSWERED, number=1, detail=FAULT)
-NOTHING_OF_1 = Event(ANSWERED, number=1, detail=NOTHING)
-DONE_OF_1 = Event(ANSWERED, number=1, detail=DONE)
-POINTS = {
-    "another act takes another number": (
-        Record(2),
-        [Event(SUBMIT, act=6)],
-        (WRITE, Record(3, number=2, step=1, sent=0, act=6)),
-    ),
-    "a lost answer keeps the number": (
-        OPEN,
-        [*AGAIN, NOTHING_OF_1, Event(GO_ON)],
-        (WRITE, OPEN._replace(sent=3)),
-    ),
-    "an answer to another number is read by nobody": (
-        Record(3, number=2, step=1, sent=1, act=6),
-        [*AGAIN, DONE_OF_1],
-        (WAIT, Record(3, number=2, step=1, sent=2, act=6)),
-    ),
-    "its own answer is shown": (OPEN, [*AGAIN, DONE_OF_1], (SHOW, OPEN._replace(sent=2))),
-    "a written request is open after a kill": (
-        Record(1),
-        [Event(SUBMIT, act=5), Event(KILLED, detail=1)],
-        (WAIT, OPEN._replace(sent=0)),
-    ),
-    "a request that wasn't written isn't": (
-        Record(1),
-        [Event(SUBMIT, act=5), Event(KILLED, detail=0)],
-        (WAIT, Record(1)),
-    ),
-    "a fault ends a request that was sent once": (
-        OPEN._replace(sent=0),
-        [*AGAIN, FAULT_OF_1],
-        (WRITE, Record(2)),
-    ),
-    "no fault ends a request that was sent twice": (
-        OPEN,
-        [*AGAIN, FAULT_OF_1],
-        (WAIT, OPEN._replace(sent=2)),
-    ),
-    "until it is sent, it has no answer": (OPEN, [*AGAIN], (SEND, OPEN._replace(sent=2))),
+OPEN, OTHER = Record(2, number=1, step=1, sent=1, act=5), Record(3, number=2, step=1, sent=1, act=6)
+AGAIN, KILLED_LATE = [Event(GO_ON), Event(WRITTEN)], Event(KILLED, detail=1)
+ACT_5, ACT_6 = (Event(SUBMIT, act=act) for act in (5, 6))
+TOLD = {kind: [*AGAIN, Event(ANSWERED, number=1, detail=kind)] for kind in (FAULT, NOTHING, DONE)}
+TWICE, THRICE, NEVER = (OPEN._replace(sent=times) for times in (2, 3, 0))
+AFTER = OTHER._replace(sent=2)
+Outcome = tuple[int, Record]
+POINTS: dict[str, tuple[Record, list[Event], Outcome]] = {
+    "another act takes another number": (Record(2), [ACT_6], (WRITE, OTHER._replace(sent=0))),
+    "a lost answer keeps the number": (OPEN, [*TOLD[NOTHING], Event(GO_ON)], (WRITE, THRICE)),
+    "an answer to another number is read by nobody": (OTHER, TOLD[DONE], (WAIT, AFTER)),
+    "its own answer is shown": (OPEN, TOLD[DONE], (SHOW, TWICE)),
+    "a written request is open after a kill": (Record(1), [ACT_5, KILLED_LATE], (WAIT, NEVER)),
+    "a request that wasn't written isn't": (Record(1), [ACT_5, Event(KILLED)], (WAIT, Record(1))),
+    "a fault ends a request that was sent once": (NEVER, TOLD[FAULT], (WRITE, Record(2))),
+    "no fault ends a request that was sent twice": (OPEN, TOLD[FAULT], (WAIT, TWICE)),
+    "until it is sent, it has no answer": (OPEN, AGAIN, (SEND, TWICE)),
 }
 
 
 @pytest.mark.parametrize("journal, events, so", POINTS.values(), ids=POINTS)
-def test_points(
-    library: Library, journal: Record, events: list[Event], so: tuple[int, Record]
-) -> None:
+def test_points(library: Library, journal: Record, events: list[Event], so: Outcome) -> None:
     """The contract of the machine says that it is its rules. This is what they say there."""
     turn = library.turn(100, journal, events)
     assert (turn.action, turn.written if turn.action == WRITE else turn.journal) == so
