@@ -127,8 +127,7 @@ class Browser:
         return self.driver.find_element(By.CSS_SELECTOR, selector)
 
     def all(self, selector: str) -> list[WebElement]:
-        found: list[WebElement] = self.driver.find_elements(By.CSS_SELECTOR, selector)
-        return found
+        return list(self.driver.find_elements(By.CSS_SELECTOR, selector))
 
     def text(self, selector: str = "body") -> str:
         return str(self.find(selector).text)

@@ -244,8 +244,7 @@ class Firefox:
         return base64.b64decode(self.process.ask("WebDriver:Print", paper))
 
     def complaints(self) -> list[str]:
-        messages: list[str] = self.process.run_inside(COMPLAINTS)
-        return messages
+        return list(self.process.run_inside(COMPLAINTS))
 
     def come_round(self, back: bool) -> None:
         """After the page's last control Tab goes on to Firefox's own, as a user sees it. The driver's keys stay in the page, which then shows no focus."""

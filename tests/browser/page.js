@@ -36,6 +36,13 @@ export async function write_journal(change) {
     database.close();
 }
 
+/** For `write_journal`: with an open payment as an earlier version of the page stored it, without its bonds. */
+export function earlier_open(record) {
+    const fields = { day: "2012-02-06", payee: 7, serials: ["L7EE"] };
+    const open = { number: record.next, step: 1, sent: 0, path: "/redeem", fields, shown: "2516" };
+    return { ...record, next: record.next + 1, open };
+}
+
 /** Notes when the button that confirms began to rest, and when it ended. */
 export function watch_rests() {
     window.rests = [];

@@ -57,16 +57,14 @@ class Page(Browser):
 
     # ---- views
 
-    def answered(
-        self, condition: Callable[[], Any], what: str, again: str, patience: float
-    ) -> None:
+    def answered(self, holds: Callable[[], Any], what: str, again: str, patience: float) -> None:
         """Presses that button again if a look-up wasn't answered: the page gives up after some seconds, and a counter that was killed may take longer to come back."""
 
         def is_so() -> Any:
             if "The counter didn't answer" in self.text("#notices"):
                 self.press("#notices .close")
                 self.press(again)
-            return condition()
+            return holds()
 
         self.until(is_so, what, patience)
 

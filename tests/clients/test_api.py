@@ -71,8 +71,7 @@ def message_fits(api: Api, method: str, path: str, body: object) -> str:
 
 def resolved(api: Api, part: dict[str, Any]) -> dict[str, Any]:
     name = part.get("$ref", "").split("/")[-1]
-    found: dict[str, Any] = api["components"]["schemas"][name] if name else part
-    return found
+    return dict(api["components"]["schemas"][name] if name else part)
 
 
 def examples_of(api: Api) -> Iterator[Example]:

@@ -47,11 +47,8 @@ def test_words_of_codes() -> None:
     known = {**NAMES["refused"], **NAMES["fault"]}
     assert {code: name for code, name in documented.items() if code < 70} == known
     more = {"serial": "L7EE", "ticket": 12, "field": "payee"}
-    months = {
-        code: 300 if code == 22 else "2012-05" for code in (*NAMES["refused"], *NAMES["fault"])
-    }
     answers = [
-        {"kind": kind, "code": code, "name": name, "month": months.get(code), **more}
+        {"kind": kind, "code": code, "name": name, "month": {22: 300}.get(code, "2012-05"), **more}
         for kind, names in NAMES.items()
         for code, name in names.items()
     ]

@@ -13,14 +13,10 @@ from ee_counter_client import BadValue
 from tests.clients.node import node
 from tests.conftest import TOP
 
-TABLE: dict[str, dict[str, list[str]]] = tomllib.loads(
-    (TOP / "tests/clients/typed.toml").read_text()
-)
+TABLE = tomllib.loads((TOP / "tests/clients/typed.toml").read_text())
 LISTS, WRONG = TABLE.pop("lists"), TABLE.pop("wrong")
 #: Every kind with a text, and what it is read as.
-ROWS = [
-    (kind, text, found) for kind, texts in TABLE.items() for found in texts for text in texts[found]
-]
+ROWS = [(kind, text, it) for kind, texts in TABLE.items() for it in texts for text in texts[it]]
 REFUSED = ("series", "early", "unclear", "none")
 pytestmark = pytest.mark.needs("node")
 

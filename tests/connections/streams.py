@@ -14,10 +14,8 @@ WRONG: list[object] = [None, True, 0, -1, 1.0, 10**30, "", "x", [], {}, 51, 2**6
 WRONG += ["9" * 400, "2010-13", "20.01", "A0EE", "2012-02-30"]
 TEXTS = ["", "[", "[" * 127 + "]" * 127, "[" * 128 + "]" * 128, '{"a":1e999}', '{"number":1e0}']
 TEXTS += ['"\\ud800"', "nul", "01", "-", "\ufeff{}", "{}x", "{}{}"]
-TARGETS = (
-    "/ /rates/ //ticket/1 /ticket/1/ /inventory/7 /ticket/1?x * /day /value/50//2012-02".split()
-)
-TARGETS += ["/ticket/%31", "/b\u00e4nk", "/Ticket/1", "/ticket/01", f"/ticket/{2**63}", "/ticket/x"]
+PATHS = "/ /rates/ //ticket/1 /ticket/1/ /inventory/7 /ticket/1?x * /day /value/50//2012-02".split()
+PATHS += ["/ticket/%31", "/b\u00e4nk", "/Ticket/1", "/ticket/01", f"/ticket/{2**63}", "/ticket/x"]
 FIELDS = ["Content-Length: 1", "content-LENGTH:0", "Transfer-Encoding: chunked", "Host: x", "x : 1"]
 FIELDS += ["transfer-encoding:", "Transfer-Encoding : x", "Connection: close", ": 1", " folded"]
 FIELDS += ["connection:\t CLOSE ", "Connection: keep-alive", "Connection: close, x", "no header"]
@@ -40,7 +38,7 @@ asked = st.one_of(
     st.builds("/ticket/{}".format, pick([1, 2, 3, 0, 2**63 - 1])),
     st.builds("/batch/{}".format, pick([*making.DAYS, "2012-02-30"])),
     st.builds("/value/{}/{}/{}".format, denoms, issued, pick(MONTHS)),
-    pick(TARGETS),
+    pick(PATHS),
 )
 
 
@@ -100,8 +98,7 @@ def damaged(draw: Draw, whole: bytes) -> bytes:
     more = draw(pick([b"", b"\r", b"\n", b":", b"{", b'"', b"0"]) | st.binary(max_size=8))
     before, after = whole[:at], whole[at:]
     ways = [before, before + more + after[size:], before + more + after, before + whole]
-    found: bytes = draw(pick(ways))
-    return found
+    return bytes(draw(pick(ways)))
 
 
 def stream(draw: Draw, books: Books) -> bytes:
@@ -114,6 +111,5 @@ def stream(draw: Draw, books: Books) -> bytes:
         whole += one
     kind = draw(pick(["whole", "whole", "damaged", "noise"]))
     if kind == "noise":
-        noise: bytes = draw(st.binary(max_size=400))
-        return noise
+        return bytes(draw(st.binary(max_size=400)))
     return damaged(draw, whole) if kind == "damaged" else whole

@@ -22,9 +22,7 @@ QUIET["suppress_health_check"] = list(HealthCheck)
 PLANTS = ['.88" .89"', "409 404", "close xxxxx", '"code":6 "code":9']
 
 
-def compare(
-    program: Program, path: str, books: desk.Books, sent: bytes, plant: Plant = None
-) -> None:
+def agree(program: Program, path: str, books: desk.Books, sent: bytes, plant: Plant = None) -> None:
     """Sends a stream, and compares what comes back; the books get what it does."""
     wanted, status = counter.connection(books, sent)
     ran = program.apply(path, sent, shimmed=plant is not None, plant=plant)
@@ -42,7 +40,7 @@ def begun(program: Program, plant: Plant = None) -> tuple[str, desk.Books]:
     opened = {"number": 2**62 + 2, "day": "2012-02-06"}
     sent = {"/rates": rates, "/bonds": bonds, "/day/open": opened}
     messages = [talk.message(f"POST {name} {desk.compact(sent[name])}") for name in sent]
-    compare(program, path, books, b"".join(messages), plant)
+    agree(program, path, books, b"".join(messages), plant)
     return path, books
 
 
@@ -58,7 +56,7 @@ def search(program: Program, most: int, plant: Plant = None, shrinks: bool = Tru
         for _ in range(data.draw(st.integers(1, 4), label="connections")):
             sent = streams.stream(data.draw, books)
             note(f"sent: {sent!r}")
-            compare(program, path, books, sent, plant)
+            agree(program, path, books, sent, plant)
         judging.shows_books([books], store.rows(path), "after the streams")
         assert store.is_whole(path)
 
@@ -108,11 +106,11 @@ def limits() -> Iterator[bytes]:
 def test_cut_everywhere(hostile: Program) -> None:
     path, books = hostile.place("cuts"), desk.Books()
     for sent in cuts():
-        compare(hostile, path, books, sent)
+        agree(hostile, path, books, sent)
     judging.shows_books([books], store.rows(path), "after the cuts")
 
 
 def test_limits(hostile: Program) -> None:
     path, books = hostile.place("limits"), desk.Books()
     for sent in limits():
-        compare(hostile, path, books, sent)
+        agree(hostile, path, books, sent)

@@ -65,14 +65,12 @@ def request_of(path: str, method: str, operation: Any, name: str) -> Any:
     return {"method": method.upper(), "target": path}
 
 
-def steps_of(
-    place: str, status: str, response: Any, request: Callable[[str], Any]
-) -> Iterator[Step]:
+def steps_of(place: str, status: str, response: Any, asks: Callable[[str], Any]) -> Iterator[Step]:
     for media, content in response["content"].items():
         for name, example in content.get("examples", {}).items():
             what = f"{place}, {status}, {name}"
             check(content["schema"], example["value"], what)
-            sent = example.get("x-sent") or request(name)
+            sent = example.get("x-sent") or asks(name)
             yield Step(what, status, media, response["headers"], example, sent)
 
 

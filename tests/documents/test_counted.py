@@ -48,9 +48,10 @@ def functions(of: str) -> str:
     return str(len(only("docs/ASSUMPTIONS.md", listed).split()))
 
 
-@pytest.mark.parametrize(
-    "path, pattern, what", tomllib.loads(text("tests/documents/facts.toml"))["facts"]
-)
+FACTS = tomllib.loads(text("tests/documents/facts.toml"))["facts"]
+
+
+@pytest.mark.parametrize("path, pattern, what", FACTS)
 def test_fact(path: str, pattern: str, what: str) -> None:
     """A line may end at every space. Control: the number one higher is another one."""
     pattern, page, wanted = pattern.replace(" ", r"\s+"), text(path), THERE[what]()

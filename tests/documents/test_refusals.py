@@ -92,9 +92,8 @@ def unknown_lists(known: set[str]) -> list[str]:
     patterns = [re.compile(rf"\b{name}\b") for name in NAMES.values()]
     others = [name for name in files() if not re.search("/proofs/|/must-fail/", name)]
     texts = {name: (TOP / name).read_text(errors="replace") for name in others if name not in known}
-    return [
-        name for name in texts if sum(bool(one.search(texts[name])) for one in patterns) >= MANY
-    ]
+    found = {name: sum(bool(one.search(text)) for one in patterns) for name, text in texts.items()}
+    return [name for name, count in found.items() if count >= MANY]
 
 
 def test_all_lists_are_known() -> None:

@@ -30,16 +30,14 @@ def ways(kind: str, is_served: bool) -> Iterator[tuple[str, int]]:
         yield from [("m 1", 1)] if kind in FEWER else []
 
 
-def one_run(
-    program: Program, scene: Scene, path: str, fault: str, plant: str, ample: bytes
-) -> bool:
+def one_run(program: Program, scene: Scene, path: str, fault: str, plant: str, full: bytes) -> bool:
     put(scene, path)
     ran = scene.command.run(program, path, fault=fault, plant=plant)
     if ran.met == 0:
         shows_ample(scene, ran, path)
         return False
     before = ran.told[: ran.counts.get("told_before", 0)]
-    if ran.counts.get("told", 0) == len(ran.told) and not ample.startswith(before):
+    if ran.counts.get("told", 0) == len(ran.told) and not full.startswith(before):
         raise Wrong(f"before the fault {before[-300:]!r} was said")
     many = scene.command.judge(ran, [scene.books])
     come_back(program, scene, path, many, ran.status < 2, plant == "forgotten")

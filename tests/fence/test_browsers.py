@@ -214,9 +214,7 @@ SCRIPTS = {
 }
 FRAMES = {"form": "_self", "form in a frame": "inner", "form in a window": "_blank"}
 WAYS = {name: FORM.replace("FRAME", frame) for name, frame in FRAMES.items()}
-WAYS |= {
-    name: f"<script>{text.replace('BODY', repr(BODY))}</script>" for name, text in SCRIPTS.items()
-}
+WAYS |= {n: f"<script>{text.replace('BODY', repr(BODY))}</script>" for n, text in SCRIPTS.items()}
 
 
 class Attacker(http.server.ThreadingHTTPServer):

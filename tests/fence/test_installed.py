@@ -166,9 +166,7 @@ def started(machine: Machine) -> tuple[int, str]:
     return ran.returncode, machine.ask("anna", "/batch/2199-12-31")
 
 
-def test_start_returns_once_the_counter_serves(
-    machine: Machine, program: Path, folder: Path
-) -> None:
+def test_start_returns_once_it_serves(machine: Machine, program: Path, folder: Path) -> None:
     """Over 100,000 bonds, which take seconds to open. The controls: a unit without the wait, and a store that no start can mend."""
     file = folder / "large.db"
     make_version_one(file, 100_000, 10_000)

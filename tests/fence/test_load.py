@@ -252,9 +252,7 @@ def test_control_who_sends_once_loses_replies(site: MakeSite, counter: Counter) 
 
 
 @pytest.mark.slow
-def test_control_without_a_write_for_each_entry_some_are_lost(
-    site: MakeSite, counter: Counter
-) -> None:
+def test_control_without_a_write_for_each_some_are_lost(site: MakeSite, counter: Counter) -> None:
     changed = {"counter_posts if=$is_post;": "counter_posts buffer=1m if=$is_post;"}
     made = site(GROUPS, changed={**UNLIMITED, **changed})
     told = paid(made, counter, 8)

@@ -56,8 +56,7 @@ class Impostor:
         self.process = subprocess.Popen(words, stdin=pipe, stdout=pipe, text=True)
 
     def end(self) -> dict[str, Any]:
-        told: dict[str, Any] = json.loads(self.process.communicate("\n", timeout=60)[0])
-        return told
+        return dict(json.loads(self.process.communicate("\n", timeout=60)[0]))
 
 
 @pytest.fixture
@@ -90,9 +89,7 @@ def test_control_root_may_go_those_ways(machine: Machine) -> None:
     served_again(machine)
 
 
-def test_control_over_a_port_of_the_machine_he_answers(
-    machine: Machine, impostor: Impostor
-) -> None:
+def test_control_over_a_port_of_the_host_he_answers(machine: Machine, impostor: Impostor) -> None:
     conf, reload = "/usr/share/ladwenpik/nginx/nginx.conf", "systemctl reload counter-nginx.service"
     port = "s|http://unix:/run/counter-http.sock|http://127.0.0.1:8377|"
     machine.shell(f"cp {conf} kept.conf; sed -i '{port}' {conf}; {reload}; sleep 1")

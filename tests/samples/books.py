@@ -4,7 +4,6 @@ import json
 import os
 import re
 import shutil
-import signal
 import sqlite3
 import subprocess
 import tempfile
@@ -61,19 +60,17 @@ def changed(store: Path, copy: Path, *statements: str) -> Path:
     return copy
 
 
-def refused(
-    folder: Path, status: int, why: str, *command: object, left: tuple[str, ...] = ()
-) -> Ran:
+def refused(folder: Path, status: int, why: str, *words: object, left: tuple[str, ...] = ()) -> Ran:
     """A command ends so, says why on its standard error, and leaves nothing but these in a folder."""
     before = {path.name for path in folder.iterdir()}
-    ran = run(*command)
+    ran = run(*words)
     assert (ran.returncode, ran.stdout) == (status, ""), ran
     assert re.search(why, ran.stderr) and "Traceback" not in ran.stderr, ran.stderr
     assert {path.name for path in folder.iterdir()} == before | set(left)
     return ran
 
 
-def stopped(command: list[object], is_at_work: Callable[[], bool], by: signal.Signals) -> int:
+def stopped(command: list[object], is_at_work: Callable[[], bool], by: int) -> int:
     """The status of a command that gets a signal, with its children, while it is at work."""
     process = started(*command, stderr=subprocess.DEVNULL, start_new_session=True)
     until(is_at_work, "it doesn't come so far")

@@ -205,9 +205,7 @@ UNCHECKED = [
 ]
 
 
-def with_pauses(
-    busy: Busy, copy: Path, is_each: bool, *changes: tuple[str, str]
-) -> tuple[Ran, int]:
+def with_pauses(busy: Busy, copy: Path, each: bool, *changes: tuple[str, str]) -> tuple[Ran, int]:
     """A copy by the script with a pause between the file and the log, at the first try or at each: 300 bonds are redeemed meanwhile. How it ended, and how often it paused."""
     folder = busy.path.parent
     pausing = [(BETWEEN, BETWEEN.replace("        if os", PAUSE)), *changes]
@@ -216,7 +214,7 @@ def with_pauses(
     for path in (reached, go):
         path.unlink(missing_ok=True)
     waits = f"{{ rm -f {go}; touch {reached}; while [ ! -e {go} ]; do sleep 0.02; done; }}"
-    env = {**os.environ, "PAUSE": waits if is_each else f"[ -e {go} ] || {waits}"}
+    env = {**os.environ, "PAUSE": waits if each else f"[ -e {go} ] || {waits}"}
     words = [by, busy.path, copy, busy.program]
     pipes: dict[str, Any] = {"stdout": subprocess.PIPE, "stderr": subprocess.PIPE}
     with started(*words, env=env, **pipes) as process:
@@ -300,9 +298,7 @@ def test_refused_disks(program: Path, store: Path, tmp_path: Path, mount: Mount)
 
 
 @pytest.mark.parametrize("by, left", [(signal.SIGTERM, []), (signal.SIGKILL, ["copy.part"])])
-def test_stopped(
-    program: Path, store: Path, tmp_path: Path, by: signal.Signals, left: list[str]
-) -> None:
+def test_stopped(program: Path, store: Path, tmp_path: Path, by: int, left: list[str]) -> None:
     """Whatever ends the script while the program opens the copy, nothing is left that looks like a copy."""
     waits = script(tmp_path / "waits", "#!/bin/sh\nexec sleep 600\n")
     copy, opened = tmp_path / "to/copy", tmp_path / "to/copy.part/opened/day.db"

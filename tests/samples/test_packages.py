@@ -88,14 +88,12 @@ def test_evidence(packages: Packages, program: Path) -> None:
 
 @pytest.fixture(scope="module")
 def spdx(packages: Packages) -> Listed:
-    found: Listed = json.loads(packages.file(".spdx.json").read_text())
-    return found
+    return dict(json.loads(packages.file(".spdx.json").read_text()))
 
 
 @pytest.fixture(scope="module")
 def cyclonedx(packages: Packages) -> Listed:
-    found: Listed = json.loads(packages.file(".cdx.json").read_text())
-    return found
+    return dict(json.loads(packages.file(".cdx.json").read_text()))
 
 
 def faults_of(listed: Listed, schema: Path) -> list[str]:

@@ -13,7 +13,8 @@ import time
 from pathlib import Path
 from typing import IO, Any, AnyStr, Callable, Iterable, Iterator, Sequence
 
-
+Place = str | Path
+Server = subprocess.Popen[str]
 #: The status and the body of an answer.
 Answer = tuple[int, str]
 #: A request of a load: what it does, and its turn.
@@ -70,12 +71,12 @@ def replaced(text: str, changes: Iterable[tuple[str, str]]) -> str:
     return text
 
 
-def sql(store: str | Path, text: str) -> str:
+def sql(store: Place, text: str) -> str:
     words = ["sqlite3", store, text]
     return subprocess.run(words, capture_output=True, text=True, check=True).stdout
 
 
-def make_version_one(store: str | Path, bonds: int, tickets: int, *words: str) -> None:
+def make_version_one(store: Place, bonds: int, tickets: int, *words: str) -> None:
     """A store of version 1, as an earlier program would have made it."""
     line = [f"{TOP}/benchmarks/make_version_one.py", store, str(bonds), str(tickets), *words]
     subprocess.run(line, stdout=subprocess.DEVNULL, check=True)
@@ -152,13 +153,8 @@ def answered(place: int | str, message: bytes, patience: float = 60) -> Answer:
 
 
 def begun(
-    program: str | Path,
-    store: str | Path,
-    port: int,
-    *words: str,
-    before: Sequence[str | Path] = (),
-    **more: Any,
-) -> tuple[subprocess.Popen[str], str]:
+    program: Place, store: Place, port: int, *words: str, before: Sequence[Place] = (), **more: Any
+) -> tuple[Server, str]:
     """A server, and what it says first. `before` are words before the program's path, `words`
     further ones of `serve`, `more` is what Popen knows."""
     line = [*before, program, "serve", "--db", store, "--port", str(port), *words]
@@ -167,9 +163,7 @@ def begun(
     return server, piped(server.stderr).readline()
 
 
-def serve(
-    program: str | Path, store: str | Path, port: int, *words: str, **more: Any
-) -> subprocess.Popen[str]:
+def serve(program: Place, store: Place, port: int, *words: str, **more: Any) -> Server:
     """A server that takes connections, as it says on standard error."""
     server, said = begun(program, store, port, *words, **more)
     assert said == f"listening on port {port}\n", f"the server doesn't listen: {said}"
@@ -182,7 +176,7 @@ def end(process: subprocess.Popen[Any]) -> None:
 
 
 @contextlib.contextmanager
-def served(program: str | Path, store: str | Path) -> Iterator[int]:
+def served(program: Place, store: Place) -> Iterator[int]:
     """The port on which `serve` answers over a store, until it is killed at the end."""
     port = free_port()
     server = serve(program, store, port)
@@ -192,9 +186,7 @@ def served(program: str | Path, store: str | Path) -> Iterator[int]:
         end(server)
 
 
-def apply(
-    program: str | Path, store: str | Path, messages: list[bytes], most: int = 900
-) -> list[Answer]:
+def apply(program: Place, store: Place, messages: list[bytes], most: int = 900) -> list[Answer]:
     """The answers to these messages, by as many connections as it takes."""
     answers = []
     for first in range(0, len(messages), most):
@@ -224,7 +216,7 @@ def csv_rows(path: Path) -> list[dict[str, str]]:
     return list(csv.DictReader(path.read_text().splitlines()))
 
 
-def rows(store: str | Path, statement: str) -> list[tuple[Any, ...]]:
+def rows(store: Place, statement: str) -> list[tuple[Any, ...]]:
     """What SQLite reads. The file is closed at once: while another process has it open, the
     program doesn't open it."""
     with contextlib.closing(sqlite3.connect(store)) as books:
@@ -375,7 +367,7 @@ def batch_of(day: int, turns: int) -> str:
     return json.dumps(found, separators=(",", ":"))
 
 
-def fault_of_books(store: str | Path, replies: dict[Name, str]) -> str | None:
+def fault_of_books(store: Place, replies: dict[Name, str]) -> str | None:
     """Whether the books that SQLite reads have just these tickets, one for each bond; None where
     they do."""
     paid = {name[1]: reply for name, reply in replies.items() if name[0] == "redeem"}

@@ -1,7 +1,6 @@
 """samples/watch/alerts.yml by Debian's promtool: the rules pass their tests, which find each broken rule."""
 
 import re
-import shutil
 import subprocess
 from pathlib import Path
 from typing import Iterator
@@ -10,9 +9,7 @@ import pytest
 
 from tests.conftest import TOP
 
-pytestmark = pytest.mark.skipif(
-    shutil.which("promtool") is None, reason="Debian's prometheus is missing"
-)
+pytestmark = pytest.mark.needs("promtool")
 WATCH = TOP / "samples/watch"
 RULES = (WATCH / "alerts.yml").read_text()
 HEAD, *BLOCKS = re.split(r"(?=  - alert: )", RULES)

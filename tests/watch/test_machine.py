@@ -251,8 +251,6 @@ def test_page(today: World) -> None:
     assert not re.search(r"[A-Z]\d+EE|payee|10\.0\.|anna", text)
 
 
-@pytest.mark.parametrize(
-    "name", [*(name for name in TROUBLES if name not in (FIRST, *LAST)), *LAST]
-)
+@pytest.mark.parametrize("name", [*(it for it in TROUBLES if it not in (FIRST, *LAST)), *LAST])
 def test_trouble(today: World, name: str) -> None:
     make_trouble(today, name)

@@ -263,8 +263,7 @@ class World:
 
     def query(self, expression: str) -> list[dict[str, Any]]:
         asked = urllib.parse.urlencode({"query": expression})
-        found: list[dict[str, Any]] = self.prometheus(f"query?{asked}")["result"]
-        return found
+        return list(self.prometheus(f"query?{asked}")["result"])
 
     def opened_files(self) -> list[str]:
         words = f"--to /tmp/more.prom --state /tmp/more.json --store {STORE} --copies /srv/copies"

@@ -141,8 +141,7 @@ class Recorder:
             os._exit(0)
 
     def position(self) -> int:
-        count: int = struct.unpack_from("=Q", self.count)[0]
-        return count
+        return int(struct.unpack_from("=Q", self.count)[0])
 
     def stop(self) -> list[Step]:
         volumes.patiently("umount", self.file)

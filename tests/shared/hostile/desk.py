@@ -218,9 +218,8 @@ class Books:
 
     def ask_inventory(self, owner: int, month: int) -> str:
         bonds = [bond[:3] for bond in self.unpaid(owner)]
-        rows = [
-            (s, columns(d, issued, month, self.rates[period(issued)])) for s, d, issued in bonds
-        ]
+        terms = [(serial, denom, at, self.rates[period(at)]) for serial, denom, at in bonds]
+        rows = [(serial, columns(denom, at, month, rate)) for serial, denom, at, rate in terms]
         return sheet(rows)
 
     def export(self, owner: int) -> str:
