@@ -147,6 +147,13 @@ def folder() -> Iterator[Path]:
         yield made
 
 
+@pytest.fixture(scope="module")
+def place() -> Iterator[Path]:
+    """A folder for all tests of a file."""
+    with in_memory() as made:
+        yield made
+
+
 @pytest.fixture
 def dice() -> random.Random:
     """Dice of a seed that a failed test prints; SEED names another."""

@@ -183,17 +183,14 @@ class Bank:
         self.certificate = self.nginx.exported(USER)
 
     def write_own(
-        self,
-        words: Mapping[str, object] | None = {},
-        today: str | None = DAY,
-        ask_above: int | None = None,
+        self, words: Mapping[str, object] | None = {}, today: str | None = DAY, ask_above: int = 0
     ) -> None:
         """The bank's own file of the page, with these words. Without any it is one of release 1.0.0. `today` is the server's, or None for the true one."""
         branches = json.dumps([{"name": BRANCH, "from": 1, "to": 9}])
         lines = [f"export const BANK = {json.dumps(BANK)};", f"export const BRANCHES = {branches};"]
         old = "export function branchOf(desk) {}"
         lines.append(old if words is None else f"export const WORDS = {json.dumps(words)};")
-        if ask_above is not None:
+        if ask_above:
             lines.append(f"export const ASK_ABOVE = {ask_above};")
         if today is not None:
             lines.append(TODAY % datetime.date.fromisoformat(today).strftime("%d %b %Y"))

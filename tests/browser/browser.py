@@ -51,7 +51,7 @@ class Browser:
         self.saves_in(self.profile / "downloads")
         self.open(url)
 
-    def quit(self) -> None:
+    def close(self) -> None:
         self.engine.quit()
 
     def saves_in(self, folder: Path) -> None:

@@ -63,7 +63,7 @@ class InBrowser(Node):
         self.browser.until(lambda: self.browser.run("return 'exchanged' in window"), "it is there")
 
     def close(self) -> None:
-        self.browser.quit()
+        self.browser.close()
         self.site.stop()
 
     def does(self, command: str, **more: Any) -> None:

@@ -50,7 +50,7 @@ def new_page(bank: Bank, browser: str) -> Iterator[NewPage]:
 
     yield make
     for page in made:
-        page.quit()
+        page.close()
 
 
 @pytest.fixture
@@ -87,7 +87,7 @@ def calculators(tmp_path_factory: pytest.TempPathFactory) -> Iterator[Calculator
 
     yield of
     for one in made.values():
-        one.quit()
+        one.close()
 
 
 @pytest.fixture

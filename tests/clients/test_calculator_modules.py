@@ -191,12 +191,8 @@ def test_pasted_tables(dice: random.Random) -> None:
     for text, bonds in made:
         lines = text.splitlines()
         at = max(place for place, line in enumerate(lines) if "\tEE\t" in line)
-        wrong = [
-            ("\t$", "\t$6", "denom"),
-            ("/20", "/13/20", "issued"),
-            ("\tEE\t", "\tI\t", "series"),
-        ]
-        for cell, other, column in wrong if len(bonds) > 2 else ():
+        bad = [("\t$", "\t$6", "denom"), ("/20", "/13/20", "issued"), ("\tEE\t", "\tI\t", "series")]
+        for cell, other, column in bad if len(bonds) > 2 else ():
             changed = [*lines[:at], lines[at].replace(cell, other, 1), *lines[at + 1 :]]
             tasks.append({"kind": "pasted", "text": "\n".join(changed)})
             wanted.append([f"{at + 1} {column}"])

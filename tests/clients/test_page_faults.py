@@ -236,7 +236,7 @@ def still_open(bank: Bank, nginx: Front, new_page: NewPage, serial: str, ticket:
     assert page.journal()["open"]["sent"] == 2
     page.is_paid(ticket, VALUES[serial[0]])
     assert bank.ask("GET", f"/ticket/{ticket + 1}")[0] == 404
-    page.quit()
+    page.close()
 
 
 def test_connection_reset(bank: Bank, new_page: NewPage) -> None:
@@ -277,7 +277,7 @@ def test_revoked_while_paying(bank: Bank, page: Page, new_page: NewPage) -> None
     page.press("#ask-sheet button")
     page.waits_for(NO_CERTIFICATE, "#notices")
     assert "Nothing was done." in page.text("#notices")
-    page.quit()
+    page.close()
     bank.renew()
     again = new_page(None, profile=page.profile)
     again.is_paid(1, VALUES["L"])

@@ -23,8 +23,6 @@ def unnamed(page: Page) -> list[str]:
 
 
 # ---- the rules
-
-
 #: By name: 720 by 450 is 1440 by 900 at 200 %.
 WINDOWS = {
     **{"1440": (1440, 900), "1024": (1024, 768), "768": (768, 1024), "360": (360, 740)},
@@ -166,7 +164,6 @@ def test_each_broken_rule_is_found(new_page: NewPage) -> None:
 
 
 # ---- windows
-
 TAP = "const cell = document.querySelector(`input[data-serial='${arguments[0]}']`).closest('tr').querySelector('.of-issued'); cell.scrollIntoView({ block: 'center' }); return cell;"
 
 
@@ -181,11 +178,8 @@ def test_narrow_window(bank: Bank, page: Page) -> None:
             assert page.calls("broken_rules") == {}, (size, view)
     page.resize(320, 640)
     page.go("pay")
-    assert page.calls("first_cells") == [
-        "of-box",
-        "of-serial",
-        "of-value",
-    ], "a card begins with these"
+    first = page.calls("first_cells")
+    assert first == ["of-box", "of-serial", "of-value"], "a card begins with these"
     for serial, is_chosen in (("K7EE", True), ("N7EE", False)):
         page.run(TAP, serial).click()
         assert page.box(serial).is_selected() == is_chosen, "a card is tapped as a whole"
@@ -255,8 +249,6 @@ def test_notices_in_a_narrow_window(page: Page) -> None:
 
 
 # ---- the sum
-
-
 def test_sum_beside_pay(bank: Bank, page: Page) -> None:
     """The sum stands large beside Pay, and both in view, however long the sheet is and wherever it is scrolled. The button names sum and payee."""
     bank.registers_many(60, 60)
@@ -282,7 +274,6 @@ def test_sum_beside_pay(bank: Bank, page: Page) -> None:
 
 
 # ---- texts that are whole
-
 #: The widest texts of a bond: those of 10,000 dollars at 20 % with a serial number of ten digits.
 WIDEST = {
     **{"serial": "Z9999999999EE", "value": "$21,345.60", "denom": "$10,000", "issued": "10/2010"},
@@ -375,7 +366,6 @@ def test_room_for_bonds(bank: Bank, page: Page) -> None:
 
 
 # ---- questions and notices
-
 WIDTHS = ((1440, 900), (1024, 768), (768, 1024), (360, 740), (320, 640))
 
 
@@ -502,8 +492,6 @@ def test_notices_whole(bank: Bank, page: Page) -> None:
 
 
 # ---- fields and dates
-
-
 KINDS = "return ['open-date', 'join-date', 'batch-day', 'month'].map((id) => document.getElementById(id)).map((e) => [e.type, e.getAttribute('type')])"
 
 

@@ -198,7 +198,7 @@ def test_sheet_of_five_thousand(bank: Bank, page: Page, new_page: NewPage) -> No
     page.resize(1280, 800)
     with bank.gate.changes("/inventory/", long_sheet):
         assert max(stops(page, 61)) < limit()
-        page.quit()
+        page.close()
         bank.change_page("sheet_table.js", ("GROUPS_AT_ONCE = 2;", "GROUPS_AT_ONCE = 1000;"))
         bank.change_page("style.css", ("content-visibility: auto;", ""))
         slow = new_page(6, day=DAY)

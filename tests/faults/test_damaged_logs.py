@@ -10,11 +10,9 @@ import sys
 import time
 from contextlib import closing
 from pathlib import Path
-from typing import Iterator
 
 import pytest
 
-from tests.conftest import in_memory
 from tests.faults import logs
 from tests.faults.logs import HARMS, Log, Transaction, is_refused
 from tests.faults.logs import made_log, turned, with_bytes, with_header
@@ -35,7 +33,7 @@ def answers_in(store: Path, how: str = "?mode=ro&immutable=1") -> set[int]:
         return {number for (number,) in books.execute("SELECT number FROM answers")}
 
 
-class Place:
+class Opener:
     """A folder in which stores are laid out and opened by a program."""
 
     def __init__(self, program: Path, folder: Path) -> None:
@@ -67,21 +65,21 @@ class Place:
 
 
 @pytest.fixture(scope="module")
-def place(program: Path) -> Iterator[Place]:
-    with in_memory() as folder:
-        yield Place(program, folder)
+def opener(program: Path, place: Path) -> Opener:
+    (place / "laid").mkdir()
+    return Opener(program, place / "laid")
 
 
 class Killed:
-    def __init__(self, place: Place, store: Path, redemptions: int, earlier: int) -> None:
+    def __init__(self, opener: Opener, store: Path, redemptions: int, earlier: int) -> None:
         serials = [f"A{n}EE" for n in range(1, redemptions + 1)]
         bonds = [{"denom": 50, "issued": "2010-11", "owner": 7, "serial": one} for one in serials]
         rates = {"number": 1, "rates": [{"from": "2010-11", "rate": "3.50"}]}
         acts = [post("/rates", rates), post("/bonds", {"number": 2, "bonds": bonds})]
         for message in (*acts, post("/day/open", {"number": 3, "day": DAY})):
-            assert apply(place.program, store, [message])[0][0] == 200
+            assert apply(opener.program, store, [message])[0][0] == 200
         self.older = contents(store)[1]
-        with served(place.program, store) as port:
+        with served(opener.program, store) as port:
             for n, serial in enumerate(serials, 1):
                 act = {"number": 100 + n, "day": DAY, "payee": 7, "serials": [serial]}
                 assert answered(port, post("/redeem", act))[0] == 200
@@ -90,9 +88,9 @@ class Killed:
         self.file, self.content = contents(store)
         self.log = Log(self.content)
         assert len(self.log.ends()) >= min(redemptions, 50), "the log has many transactions"
-        self.kept = place.opened(self.file, self.content) or set()
+        self.kept = opener.opened(self.file, self.content) or set()
         assert len(self.kept) == redemptions + 3
-        self.closed = contents(place.store)
+        self.closed = contents(opener.store)
 
     def harmed(self, kind: str, dice: random.Random) -> bytes:
         """The log, harmed where its transactions are and where older bytes are others."""
@@ -102,25 +100,23 @@ class Killed:
 
 
 @pytest.fixture(scope="module")
-def killed(place: Place) -> Iterator[Killed]:
-    with in_memory() as folder:
-        yield Killed(place, folder / "killed.db", REDEMPTIONS, EARLIER)
+def killed(opener: Opener, place: Path) -> Killed:
+    return Killed(opener, place / "killed.db", REDEMPTIONS, EARLIER)
 
 
 @pytest.fixture(scope="module")
-def young(place: Place) -> Iterator[Killed]:
+def young(opener: Opener, place: Path) -> Killed:
     """One whose log has few transactions, and had none while the store was at rest."""
-    with in_memory() as folder:
-        yield Killed(place, folder / "young.db", FEW, 0)
+    return Killed(opener, place / "young.db", FEW, 0)
 
 
 # ---- harm
 @pytest.mark.parametrize("kind", HARMS)
-def test_harm_is_found(kind: str, place: Place, killed: Killed, dice: random.Random) -> None:
+def test_harm_is_found(kind: str, opener: Opener, killed: Killed, dice: random.Random) -> None:
     lost = []
     for _ in range(TURNS):
         log = killed.harmed(kind, dice)
-        found = place.opened(killed.file, log)
+        found = opener.opened(killed.file, log)
         assert (found is None) == is_refused(killed.file, Log(log))
         lost += [] if found is None else [len(killed.kept - found)]
     print(f"{kind}: {TURNS - len(lost)} of {TURNS} refused, the others lost {sorted(lost)} replies")
@@ -130,18 +126,18 @@ def test_harm_is_found(kind: str, place: Place, killed: Killed, dice: random.Ran
 
 @pytest.mark.parametrize("kind", HARMS)
 def test_recovery_alone_loses_replies(
-    kind: str, place: Place, killed: Killed, dice: random.Random
+    kind: str, opener: Opener, killed: Killed, dice: random.Random
 ) -> None:
     """Control: SQLite opens the same logs without a word, and more than the last reply is gone."""
     gone = 0
     for _ in range(20):
-        store = place.lay(killed.file, killed.harmed(kind, dice))
+        store = opener.lay(killed.file, killed.harmed(kind, dice))
         gone += len(killed.kept - answers_in(store, "")) > 1
     assert gone > 10
 
 
 @pytest.mark.parametrize("kind", ["older", "zeros"])
-def test_sectors_of_a_short_log(kind: str, place: Place, young: Killed) -> None:
+def test_sectors_of_a_short_log(kind: str, opener: Opener, young: Killed) -> None:
     """Each sector in turn keeps what it held while the store was at rest, or is zeros. Only at the
     end of the last transaction but one does that lose more than a reply unseen."""
     size, frame = 4096, young.log.at(1) - young.log.at(0)
@@ -149,7 +145,7 @@ def test_sectors_of_a_short_log(kind: str, place: Place, young: Killed) -> None:
     older, unseen = young.older if kind == "older" else b"", []
     for at in range(0, young.log.end() - size, size):
         log = with_bytes(young.content, at, older[at : at + size].ljust(size, b"\0"))
-        found = place.opened(young.file, log)
+        found = opener.opened(young.file, log)
         assert (found is None) == is_refused(young.file, Log(log)), at
         if found is not None and len(young.kept - found) > 1:
             unseen.append(at)
@@ -157,25 +153,25 @@ def test_sectors_of_a_short_log(kind: str, place: Place, young: Killed) -> None:
 
 
 @pytest.mark.parametrize("size", [512, 4096])
-def test_an_older_header(size: int, place: Place, young: Killed) -> None:
+def test_an_older_header(size: int, opener: Opener, young: Killed) -> None:
     """Controls: SQLite loses every reply of such a log without a word; and over a file that has
     its pages it is opened."""
     assert len(young.older) == logs.NEW_LOG
     log = with_bytes(young.content, 0, young.older.ljust(size, b"\0"))
-    assert place.opened(young.file, log) is None
-    assert len(answers_in(place.lay(young.file, log), "")) == 3
-    assert place.opened(young.closed[0], log) == young.kept
+    assert opener.opened(young.file, log) is None
+    assert len(answers_in(opener.lay(young.file, log), "")) == 3
+    assert opener.opened(young.closed[0], log) == young.kept
 
 
-def test_a_turned_first_byte_is_unseen(place: Place, killed: Killed) -> None:
+def test_a_turned_first_byte_is_unseen(opener: Opener, killed: Killed) -> None:
     """Control: a stop in a checkpoint leaves such a header, so the log is dropped without a word."""
-    found = place.opened(killed.file, turned(killed.content, 0))
+    found = opener.opened(killed.file, turned(killed.content, 0))
     assert found is not None and len(killed.kept - found) > 50
 
 
 # ---- what stops leave
 @pytest.mark.parametrize("way", ["cut", "half in zeros", "few zeros"])
-def test_torn_end_is_opened(way: str, place: Place, killed: Killed, dice: random.Random) -> None:
+def test_torn_end_is_opened(way: str, opener: Opener, killed: Killed, dice: random.Random) -> None:
     """The last transaction, torn: its bytes are 0 or new, or the file ends inside it."""
     log, first = killed.content, killed.log.at(killed.log.ends()[-2] + 1)
     end, whole = killed.log.end(), 0
@@ -187,18 +183,18 @@ def test_torn_end_is_opened(way: str, place: Place, killed: Killed, dice: random
                 torn[at : min(at + step, end)] = bytes(min(at + step, end) - at)
         if way == "cut":
             del torn[dice.randrange(first, end) :]
-        found = place.opened(killed.file, bytes(torn))
+        found = opener.opened(killed.file, bytes(torn))
         assert found is not None and len(killed.kept - found) <= 1
         whole += found == killed.kept
     assert whole < TURNS
 
 
-def test_stop_in_a_large_transaction_is_opened(place: Place) -> None:
+def test_stop_in_a_large_transaction_is_opened(opener: Opener) -> None:
     """A migration spills pages behind a shut gate, each time with a frame that ends a transaction."""
-    place.lay(b"", None).unlink()
-    make_version_one(place.store, 100_000, 60_000)
-    begun, log = place.store.read_bytes(), place.log
-    with subprocess.Popen(place.words, stdout=subprocess.DEVNULL) as running:
+    opener.lay(b"", None).unlink()
+    make_version_one(opener.store, 100_000, 60_000)
+    begun, log = opener.store.read_bytes(), opener.log
+    with subprocess.Popen(opener.words, stdout=subprocess.DEVNULL) as running:
         while running.poll() is None and (not log.exists() or log.stat().st_size < 16_000_000):
             time.sleep(0.005)
         running.kill()
@@ -206,7 +202,7 @@ def test_stop_in_a_large_transaction_is_opened(place: Place) -> None:
     ends = [frame for frame in left.behind() if left.size(frame) and left.passes(frame)]
     assert left.taken == [] and len(ends) > 1, "two whole transactions stand behind a shut gate"
     assert not is_refused(begun, left)
-    assert place.run().returncode == 0 and len(answers_in(place.store)) == 60_000
+    assert opener.run().returncode == 0 and len(answers_in(opener.store)) == 60_000
 
 
 # ---- logs by hand
@@ -214,7 +210,7 @@ def single(file: bytes, size: int, at: int) -> Transaction:
     return Transaction([(at, file[(at - 1) * size : at * size])], len(file) // size)
 
 
-def test_logs_by_hand(place: Place, killed: Killed) -> None:
+def test_logs_by_hand(opener: Opener, killed: Killed) -> None:
     """Each case: a log of transactions that write pages as they are, and whether it is refused."""
     file = killed.closed[0]
     size = size_of_pages(file)
@@ -291,33 +287,33 @@ def test_logs_by_hand(place: Place, killed: Killed) -> None:
     ]
     for name, log, wanted in cases:
         assert is_refused(file, Log(log)) == wanted, f"the rule: {name}"
-        assert (place.opened(file, log) is None) == wanted, name
+        assert (opener.opened(file, log) is None) == wanted, name
 
 
 # ---- the file is gone
-def test_log_of_a_missing_file_is_refused(place: Place, killed: Killed) -> None:
-    store = place.lay(killed.file, killed.content)
+def test_log_of_a_missing_file_is_refused(opener: Opener, killed: Killed) -> None:
+    store = opener.lay(killed.file, killed.content)
     moved = store.rename(f"{store}.moved")
-    ran = place.run("--explain")
+    ran = opener.run("--explain")
     cause = "it is missing or empty, and its log shows that it was there; put the file back next to its log"
     told = f"store: StoreFailed\n{store}: {cause}\n"
     assert (ran.returncode, ran.stdout, ran.stderr) == (3, "", told)
     assert contents(store) == (b"", killed.content)
     moved.rename(store)
-    assert place.opened(*contents(store)) == killed.kept, "put back, it has every reply"
+    assert opener.opened(*contents(store)) == killed.kept, "put back, it has every reply"
 
 
-def test_log_beside_an_empty_file(place: Place, killed: Killed) -> None:
+def test_log_beside_an_empty_file(opener: Opener, killed: Killed) -> None:
     content = killed.content
-    assert place.opened(b"", content) is None
+    assert opener.opened(b"", content) is None
     for at in (0, 1, 13, 24, 40, 60, 32 + 24 + 500, len(content) - 1):
-        assert place.opened(b"", turned(content, at)) is None, at
-    assert len(killed.closed[1]) == logs.NEW_LOG and place.opened(b"", killed.closed[1]) is None
-    assert place.opened(*killed.closed) == killed.kept, "control: beside its file it is opened"
-    assert place.opened(b"", b"") == set(), "control: an empty file alone becomes a store"
+        assert opener.opened(b"", turned(content, at)) is None, at
+    assert len(killed.closed[1]) == logs.NEW_LOG and opener.opened(b"", killed.closed[1]) is None
+    assert opener.opened(*killed.closed) == killed.kept, "control: beside its file it is opened"
+    assert opener.opened(b"", b"") == set(), "control: an empty file alone becomes a store"
 
 
-def test_logs_by_hand_beside_an_empty_file(place: Place, killed: Killed) -> None:
+def test_logs_by_hand_beside_an_empty_file(opener: Opener, killed: Killed) -> None:
     size = size_of_pages(killed.closed[0])
     one, two = single(killed.closed[0], size, 1), single(killed.closed[0], size, 2)
     whole = made_log(size, [Transaction(one.pages, 1), Transaction(two.pages, 2)])
@@ -340,31 +336,31 @@ def test_logs_by_hand_beside_an_empty_file(place: Place, killed: Killed) -> None
     ]
     for name, log, wanted in cases:
         assert is_refused(b"", Log(log)) == wanted, f"the rule: {name}"
-        assert (place.opened(b"", log) is None) == wanted, name
+        assert (opener.opened(b"", log) is None) == wanted, name
 
 
 # ---- other stores and programs
-def test_store_without_checksums(place: Place) -> None:
+def test_store_without_checksums(opener: Opener) -> None:
     """Pages in the log of a store of an earlier version have none, and are taken."""
-    place.lay(b"", None).unlink()
-    make_version_one(place.store, 20, 5)
-    content = place.store.read_bytes()
+    opener.lay(b"", None).unlink()
+    make_version_one(opener.store, 20, 5)
+    content = opener.store.read_bytes()
     size = size_of_pages(content)
     log = made_log(size, [single(content, size, n) for n in (1, 2, 3)])
-    place.lay(content, log)
-    assert content[20] == 0 and place.run().returncode == 0
-    place.lay(content, turned(log, 32 + 500))
-    assert place.run().returncode == 3, "one is turned, and two transactions stand behind it"
+    opener.lay(content, log)
+    assert content[20] == 0 and opener.run().returncode == 0
+    opener.lay(content, turned(log, 32 + 500))
+    assert opener.run().returncode == 3, "one is turned, and two transactions stand behind it"
 
 
-def test_log_of_another_program_is_refused(place: Place, killed: Killed) -> None:
+def test_log_of_another_program_is_refused(opener: Opener, killed: Killed) -> None:
     """A `sqlite3` without the extension cksumvfs is killed, and its log stays."""
     file = killed.closed[0]
-    store = place.lay(file, None)
+    store = opener.lay(file, None)
     change = "UPDATE answers SET reply = replace(reply, '25.88', '52.88') WHERE number = 101"
     writer = "import os, sqlite3, sys; db = sqlite3.connect(sys.argv[1], isolation_level=None); db.execute('PRAGMA wal_autocheckpoint = 0'); db.execute(sys.argv[2]); os._exit(0)"
     subprocess.run([sys.executable, "-c", writer, store, change], check=True)
     log = contents(store)[1]
     assert len(Log(log).taken) > 0, "control: it leaves its change in the log"
-    assert place.opened(file, log) is None
-    assert place.opened(file, None) is not None, "without that log the store is opened"
+    assert opener.opened(file, log) is None
+    assert opener.opened(file, None) is not None, "without that log the store is opened"

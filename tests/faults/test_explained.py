@@ -3,7 +3,6 @@
 import os
 import pty
 import shutil
-import tempfile
 import tomllib
 from collections.abc import Callable, Iterator
 from contextlib import suppress
@@ -13,7 +12,7 @@ from typing import Any
 
 import pytest
 
-from tests.conftest import MEMORY, TOP
+from tests.conftest import TOP
 from tests.faults import uses
 from tests.faults.uses import BONDS, Counter, Make, Ran, Streams, Use, words_of
 from tests.shared import exact
@@ -109,14 +108,12 @@ USES = [*arguments(), *files(), *refused(), *uses.PATHS, *uses.STORES, *uses.STR
 BY_KIND = {use.kind: use for use in USES}
 
 
-@pytest.fixture(scope="session")
-def readable(program: Path) -> Iterator[Path]:
+@pytest.fixture(scope="module")
+def readable(program: Path, place: Path) -> Path:
     """A copy of the program that everybody can run."""
-    with tempfile.TemporaryDirectory(dir=MEMORY) as made:
-        os.chmod(made, 0o755)
-        copy = Path(shutil.copy(program, made))
-        copy.chmod(0o755)
-        yield copy
+    copy = Path(shutil.copy(program, place))
+    copy.chmod(0o755)
+    return copy
 
 
 @pytest.fixture

@@ -8,9 +8,8 @@ import filecmp
 import os
 import shutil
 import subprocess
-import tempfile
 from collections import Counter
-from collections.abc import Callable, Iterator
+from collections.abc import Callable
 from concurrent.futures import ProcessPoolExecutor
 from multiprocessing import get_context
 from pathlib import Path
@@ -18,7 +17,6 @@ from random import Random
 
 import pytest
 
-from tests.conftest import MEMORY
 from tests.faults.power import cuts, day, recorder, volumes
 from tests.shared.hostile import desk, judging, store
 from tests.shared.hostile.judging import Wrong
@@ -155,9 +153,8 @@ KINDS = [pytest.param(kind, marks=pytest.mark.needs(f"mkfs.{kind}")) for kind in
 
 
 @pytest.fixture(params=KINDS)
-def case(request: pytest.FixtureRequest, program: Path, dice: Random) -> Iterator[Case]:
-    with tempfile.TemporaryDirectory(prefix="power.", dir=MEMORY) as folder:
-        yield Case(program, request.param, Path(folder), dice)
+def case(request: pytest.FixtureRequest, program: Path, folder: Path, dice: Random) -> Case:
+    return Case(program, request.param, folder, dice)
 
 
 def own_mounts() -> None:

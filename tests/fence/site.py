@@ -214,14 +214,10 @@ def everything(line: socket.socket) -> bytes:
 
 
 def sent(
-    site: Site,
-    context: ssl.SSLContext,
-    pieces: Iterable[bytes],
-    pause: float = 0,
-    patience: float = 30,
+    site: Site, context: ssl.SSLContext, pieces: Iterable[bytes], pause: float = 0, wait: float = 30
 ) -> bytes:
     """Sends the pieces on a new connection, with a pause between two of them, and returns all that comes back."""
-    with connected(site, context, patience) as line:
+    with connected(site, context, wait) as line:
         with contextlib.suppress(OSError):
             for nth, piece in enumerate(pieces):
                 time.sleep(pause * bool(nth))

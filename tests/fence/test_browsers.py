@@ -116,7 +116,7 @@ def desk(site: MakeSite, folder: Path) -> Iterator[Desk]:
     desk = Desk(folder / "desk", made, "anna")
     yield desk
     for page in desk.pages:
-        page.quit()
+        page.close()
 
 
 def pays(desk: Desk, page: Page, serial: str, ticket: int) -> None:
@@ -140,7 +140,7 @@ def test_by_policy(desk: Desk, browser: str) -> None:
     desk.run(re.sub("^pk12util.*", "", imported, flags=re.M))
     without = desk.page(browser)
     without.waits_for(REFUSED)
-    without.quit()
+    without.close()
     desk.run(imported)
     page = desk.page(browser)
     pays(desk, page, "B1EE", 1)

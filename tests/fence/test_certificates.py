@@ -78,7 +78,7 @@ class Scene(RecordedSite):
         return made
 
     def answer(self, context: ssl.SSLContext, line: bytes) -> Answer:
-        return answer_in(sent(self, context, [message(line)], patience=10))
+        return answer_in(sent(self, context, [message(line)], wait=10))
 
     def rights(self, context: ssl.SSLContext) -> tuple[str | None, str, bool, bool]:
         """What a client has: the name and groups that /user says, and whether it is served as a teller and as a supervisor."""

@@ -119,7 +119,7 @@ def answered(site: Site, user: str, line: str, more: Header, body: bytes = b"") 
         del fields["Content-Length"]
     head = [line, *(f"{name}: {value}" for name, value in fields.items() if value)]
     text = "\r\n".join(head).encode() + b"\r\n\r\n" + body
-    return answer_in(sent(site, site.context(user), [text], patience=10))
+    return answer_in(sent(site, site.context(user), [text], wait=10))
 
 
 def is_named(answer: Answer, status: int, name: str, key: str = "forbidden") -> bool:

@@ -68,7 +68,7 @@ def beside(site: RecordedSite, count: int, seconds: float) -> tuple[list[bool], 
     while time.monotonic() < end:
         answered.append(False)
         with contextlib.suppress(OSError, AssertionError):
-            text = sent(site, context, [message(REDEEM, b"{}")], patience=5)
+            text = sent(site, context, [message(REDEEM, b"{}")], wait=5)
             answered[-1] = answer_in(text).status == 200
         time.sleep(0.05)
     flood.end()
@@ -160,7 +160,7 @@ def test_clients_pay_beside_slow_and_silent_ones(site: MakeSite, counter: Counte
     context = made.context("anna")
 
     def pay(number: int) -> tuple[int, str]:
-        answer = answer_in(sent(made, context, [redemption(number, number % 400 + 1)], patience=60))
+        answer = answer_in(sent(made, context, [redemption(number, number % 400 + 1)], wait=60))
         return answer.status, answer.text
 
     with ThreadPoolExecutor(200) as slow, ThreadPoolExecutor(50) as paying:

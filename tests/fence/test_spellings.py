@@ -94,7 +94,7 @@ def smuggled(send: Callable[[list[bytes]], object]) -> dict[bytes, int]:
 def test_no_request_within_a_request_reaches_the_counter(tmp_path: Path) -> None:
     with RecordedSite(tmp_path, GROUPS, LOGGED) as site:
         context = site.context("anna")
-        inside = smuggled(lambda pieces: sent(site, context, pieces, pause=0.05, patience=2))
+        inside = smuggled(lambda pieces: sent(site, context, pieces, pause=0.05, wait=2))
         assert len(set(inside.values())) >= 37
         reached = site.recorder.take()
         assert [inside[one.body] for one in reached if one.body in inside] == []

@@ -94,7 +94,7 @@ def stalled(site: Site, process: int) -> tuple[Count[int], float]:
         found = []
         for number in range(1 + nth, REQUESTS + 1, TELLERS):
             start = time.monotonic()
-            answer = answer_in(sent(site, context, [redemption(number, number)], patience=300))
+            answer = answer_in(sent(site, context, [redemption(number, number)], wait=300))
             found.append((answer.status, time.monotonic() - start))
         return found
 

@@ -11,17 +11,11 @@ import pytest
 
 from tests.conftest import TOP
 from tests.restore.counter_day import entry_of
-from tests.samples.conftest import machines, place, root
-from tests.samples.test_systemd import LOG, Bank, bank, begun, machine
+from tests.samples.conftest import machines, root
+from tests.samples.test_systemd import LOG, Bank, bank, begun, machine, pytestmark
 from tests.shared.counter_calls import Answer
 
-__all__ = ["bank", "begun", "machine", "machines", "place", "root"]
-pytestmark = [
-    pytest.mark.root,
-    pytest.mark.machine,
-    pytest.mark.slow,
-    pytest.mark.needs("mkfs.btrfs", "sqlite3", "file:/dev/loop-control"),
-]
+__all__ = ["bank", "begun", "machine", "machines", "pytestmark", "root"]
 
 
 @pytest.fixture

@@ -8,10 +8,10 @@ from typing import Callable
 import pytest
 from tests.restore.counter_day import RESTORE, Day, Served, copied, run
 from tests.samples.books import script
-from tests.samples.conftest import Mount, mount, place
+from tests.samples.conftest import Mount, mount
 from tests.shared.counter_calls import sql
 
-__all__ = ["mount", "place"]
+__all__ = ["mount"]
 FINAL, PASSING, SERVES = 4, 3, 124
 
 

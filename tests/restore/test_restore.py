@@ -22,12 +22,12 @@ from tests.conftest import TOP
 from tests.restore.counter_day import RESTORE, Day, Served, Tables, copied, entry_of, redemption
 from tests.restore.counter_day import run, started
 from tests.restore.test_second_machine import changed, write_archive
-from tests.samples.conftest import Mount, mount, place
+from tests.samples.conftest import Mount, mount
 from tests.shared.counter_calls import apply, bond, done, end
 from tests.shared.counter_calls import make_version_one, post, redeem
 from tests.shared.counter_calls import rows
 
-__all__ = ["mount", "place"]
+__all__ = ["mount"]
 pytestmark = pytest.mark.slow
 
 
@@ -43,8 +43,6 @@ def is_restored(day: Day, wanted: Tables) -> None:
 
 
 # ---- disasters of the store
-
-
 def garble_file(day: Day) -> None:
     with open(day.store, "r+b") as file:
         file.seek(8192)
@@ -141,8 +139,6 @@ def test_version_one(program: Path, tmp_path: Path) -> None:
 
 
 # ---- two disasters at once
-
-
 def test_disk_and_archive(killed: Day) -> None:
     """Store and archive are lost: the second machine's lines, and the log. The archive's place is filled again."""
     day, wanted = killed, killed.tables()
@@ -196,8 +192,6 @@ def test_known_to_be_missing(killed: Day) -> None:
 
 
 # ---- deleted while it is served
-
-
 @pytest.mark.root
 def test_deleted_while_served(day: Day, served: Served) -> None:
     """Four payments more are acknowledged into the deleted file. It is saved from the process, which ends."""
@@ -228,8 +222,6 @@ def test_deleted_and_restarted(day: Day, served: Served) -> None:
 
 
 # ---- the archive
-
-
 @pytest.mark.parametrize("harm", ["lost", "cut", "changed"])
 def test_archive_alone(day: Day, harm: str) -> None:
     """The store is whole, and the archive isn't: the second machine's takes its place, and the store isn't touched."""
@@ -264,8 +256,6 @@ def test_two_histories(day: Day, tmp_path: Path) -> None:
 
 
 # ---- the log of requests
-
-
 def test_cut_line(day: Day) -> None:
     """A line that a full disk cut may be a payment: nothing is sent, not from the archive either."""
     day.lose()
@@ -331,8 +321,6 @@ def test_clock_set_back(day: Day) -> None:
 
 
 # ---- disks
-
-
 @pytest.mark.root
 @pytest.mark.parametrize("size", [20, 100])
 def test_full_disk(day: Day, mount: Mount, size: int) -> None:
@@ -380,8 +368,6 @@ def test_killed_in_the_middle(day: Day) -> None:
 
 
 # ---- the drill
-
-
 def test_drill(day: Day, served: Served) -> None:
     """While the counter serves, a drill restores into a folder that only this user reads, and removes it."""
     said = done(*day.command("--drill"))
@@ -426,7 +412,6 @@ def test_progress(
 
 
 # ---- the page
-
 #: What the first column of docs/RESTORE.md begins with, and the test of that row.
 ROWS = {
     "the store is missing": "test_store[Day.lose",

@@ -41,8 +41,6 @@ def write_archive(folder: Path, lines: list[bytes]) -> None:
 
 
 # ---- pulling
-
-
 @pytest.mark.parametrize("rows_more", [1, 40])
 def test_refused_pull(day: Day, rows_more: int) -> None:
     """The archive there goes on from the copy, and ends otherwise than its end.json says: the copy stays as it was, and takes the honest archive afterwards."""
@@ -113,8 +111,6 @@ def test_append_only(day: Day, tmp_path: Path) -> None:
 
 
 # ---- the log of requests and the machine's files
-
-
 @pytest.fixture
 def follower(day: Day) -> Iterator[Path]:
     """A pull that follows the log: over connections that it may break by ending their processes."""
@@ -188,8 +184,6 @@ def test_machine_states_are_kept(day: Day, follower: Path) -> None:
 
 
 # ---- a machine that was taken back
-
-
 @pytest.fixture
 def taken_back(day: Day) -> Day:
     """Store, archive and log of an earlier moment, as after a snapshot of the whole machine; the second machine has 50 requests more, and the log's last line."""
@@ -311,8 +305,6 @@ def test_taken_back_while_it_serves(day: Day, what: str) -> None:
 
 
 # ---- the machine's files
-
-
 def test_machine_files(tmp_path: Path, dice: random.Random) -> None:
     """A new machine gets /etc/counter, the units' drop-ins and nothing else, with their rights; what stood there is kept beside."""
     old, new = tmp_path / "old", tmp_path / "new"
@@ -385,8 +377,6 @@ def test_archiver_keeps_the_machine(day: Day) -> None:
 
 
 # ---- a new machine
-
-
 @pytest.mark.root
 def test_new_machine(day: Day) -> None:
     """One command on a new machine: settings, certificates, archive and store from what the second machine has. In mounts of its own, so that this machine's /etc and /srv

@@ -1,25 +1,15 @@
-"""What the tests of samples/ share: a folder for a module, and file systems of their own."""
+"""What the tests of samples/ share: file systems of their own."""
 
-import os
 import subprocess
-import tempfile
 from pathlib import Path
 from typing import Callable, Iterator
 
 import pytest
 
-from tests.conftest import MEMORY
 from tests.fence.conftest import machines, root
 from tests.restore.counter_day import run
 
-__all__ = ["machines", "mount", "place", "root"]
-
-
-@pytest.fixture(scope="module")
-def place() -> Iterator[Path]:
-    with tempfile.TemporaryDirectory(prefix="samples.", dir=MEMORY) as made:
-        os.chmod(made, 0o755)
-        yield Path(made)
+__all__ = ["machines", "mount", "root"]
 
 
 #: Mounts a file system of a kind under a name, with options and `size=`.

@@ -293,23 +293,15 @@ def test_page(request: pytest.FixtureRequest, tmp_path: Path, store: str, words:
 )
 def test_page_fits_the_window(day: Path, tmp_path: Path, width: int, style: str) -> None:
     """Nothing goes over the edge, on a phone neither. Control: a wide body does."""
-    from selenium import webdriver
+    from tests.browser.browser import Browser
 
     report(day, tmp_path)
     file = tmp_path / "report.html"
     file.write_text(file.read_text().replace("</head>", f"{style}</head>"))
-    options = webdriver.ChromeOptions()
-    for word in ("--headless=new", "--no-sandbox", "--disable-dev-shm-usage", "--hide-scrollbars"):
-        options.add_argument(word)
-    driver = webdriver.Chrome(options=options)
-    try:
-        driver.get(f"file://{file}")
-        size = {"width": width, "height": 800, "deviceScaleFactor": 1, "mobile": False}
-        driver.execute_cdp_cmd("Emulation.setDeviceMetricsOverride", size)
-        found = driver.execute_script("return document.documentElement.scrollWidth")
+    with closing(Browser("chromium", file.as_uri(), tmp_path)) as shown:
+        shown.resize(width, 800)
+        found = shown.run("return document.documentElement.scrollWidth")
         assert (found <= width) == (style == ""), found
-    finally:
-        driver.quit()
 
 
 ESCAPES = "\x1b[2J\x1b[H19 tests of 804 rows: 0 differing\r\n\x07\x9b1A\u202e\x00"

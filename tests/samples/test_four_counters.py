@@ -5,28 +5,23 @@ import random
 import shutil
 import subprocess
 from collections import Counter
-from contextlib import contextmanager
+from contextlib import closing
 from pathlib import Path
-from typing import Any, Iterator
+from typing import Any
 
 import pytest
 
 from tests.conftest import at_once, is_listening, until
-from tests.shared.counter_calls import KINDS, RATES, Answer, answered, free_port, post, rows, serve
-
+from tests.shared.counter_calls import KINDS, RATES, Answer, answered, bond, free_port, post, rows
+from tests.shared.counter_calls import serve
 
 MODULE = "file:/usr/lib/nginx/modules/ngx_http_js_module.so"
 pytestmark = [pytest.mark.nginx, pytest.mark.needs(MODULE)]
 HERE = Path(__file__).resolve().parent / "parts"
 PARTS, DESKS, BONDS, DAY = 4, 5, 200, "2012-02-06"
 #: What all bonds together pay.
-CENTS = sum(int(KINDS[n % 3][2].replace(".", "")) for n in range(1, BONDS + 1))
+CENTS = sum(int(KINDS[turn % 3][2].replace(".", "")) for turn in range(BONDS))
 Answers = dict[tuple[int, int], Answer]
-
-
-def bond(n: int) -> dict[str, Any]:
-    denom, issued, _ = KINDS[n % 3]
-    return {"serial": f"A{n}EE", "denom": denom, "issued": issued, "owner": 7}
 
 
 def redemption(desk: int, n: int, *serials: str) -> dict[str, Any]:
@@ -59,7 +54,7 @@ class Bank:
     def ask(self, path: str, value: object) -> Answer:
         return answered(self.port, post(path, value, b"Host: bank\r\nConnection: close\r\n"))
 
-    def end(self) -> None:
+    def close(self) -> None:
         for process in self.processes:
             process.terminate()
             process.wait()
@@ -69,7 +64,7 @@ class Bank:
         order = list(range(1, BONDS + 1))
         random.Random(desk).shuffle(order)
         for part in range(PARTS):
-            bonds = [bond(n) for n in order if n % PARTS == part]
+            bonds = [bond(n - 1) for n in order if n % PARTS == part]
             self.ask("/bonds", {"desk": desk, "number": 10_000 + part, "bonds": bonds})
         for n in order:
             answers[desk, n] = self.ask("/redeem", redemption(desk, n))
@@ -86,17 +81,8 @@ class Bank:
         return Counter(n for n, _ in paid), sum(cents for _, cents in paid)
 
 
-@contextmanager
-def running(program: Path, folder: Path, route: str) -> Iterator[Bank]:
-    bank = Bank(program, folder, route)
-    try:
-        yield bank
-    finally:
-        bank.end()
-
-
 def test_by_serial_number(program: Path, folder: Path) -> None:
-    with running(program, folder, "by_serial") as bank:
+    with closing(Bank(program, folder, "by_serial")) as bank:
         answers = bank.all_desks()
         first = {n: desk for (desk, n), (status, _) in answers.items() if status == 200}
         for n, desk in first.items():
@@ -105,8 +91,8 @@ def test_by_serial_number(program: Path, folder: Path) -> None:
         assert of_two == (400, '{"forbidden":"parts"}')
         for nth, spelled in enumerate(("A-1-EE", "A0000000001EE", "a1ee")):
             assert bank.ask("/redeem", redemption(1, 9990 + nth, spelled))[0] != 200
-        closing = {"number": 3, "day": DAY}
-        closed = [bank.ask(f"/part/{part}/day/close", closing)[1] for part in range(PARTS)]
+        third = {"number": 3, "day": DAY}
+        closed = [bank.ask(f"/part/{part}/day/close", third)[1] for part in range(PARTS)]
     tickets = [json.loads(batch)["tickets"] for batch in closed]
     assert sum(tickets) == BONDS == len(first) and min(tickets) > 0
     everyone = Counter(range(1, BONDS + 1))
@@ -118,7 +104,7 @@ def test_by_serial_number(program: Path, folder: Path) -> None:
 
 def test_control_by_desk(program: Path, folder: Path) -> None:
     """If the desk chooses the counter, bonds are paid more than once."""
-    with running(program, folder, "by_desk") as bank:
+    with closing(Bank(program, folder, "by_desk")) as bank:
         bank.all_desks()
     paid, cents = bank.paid()
     assert cents > CENTS and len([n for n, times in paid.items() if times > 1]) == BONDS

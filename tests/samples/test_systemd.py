@@ -14,12 +14,8 @@ from tests.restore.counter_day import copied
 from tests.shared.counter_calls import Answer, Load, apply, ask, beginning, bond, day_text, get
 from tests.shared.counter_calls import post, sql
 
-pytestmark = [
-    pytest.mark.root,
-    pytest.mark.machine,
-    pytest.mark.slow,
-    pytest.mark.needs("mkfs.btrfs", "sqlite3", "file:/dev/loop-control"),
-]
+pytestmark = [pytest.mark.root, pytest.mark.machine, pytest.mark.slow]
+pytestmark += [pytest.mark.needs("mkfs.btrfs", "sqlite3", "file:/dev/loop-control")]
 STORE, BONDS = "/var/lib/counter/day.db", 6000
 UNITS, SOCKET = "/etc/systemd/system", "/run/counter-http.sock"
 LOG = "/srv/requests/requests.log"

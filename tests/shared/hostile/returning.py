@@ -1,8 +1,8 @@
 """What is asked of a store after a run that met faults: the books, and one reply each."""
 import os
 
-from . import desk, judging, store
-from .judging import Wrong
+from . import judging, store
+from .judging import Many, Wrong
 from .program import Program, Ran
 from .scenes import Scene
 
@@ -21,12 +21,7 @@ def shows_ample(scene: Scene, ran: Ran, path: str) -> None:
 
 
 def come_back(
-    program: Program,
-    scene: Scene,
-    path: str,
-    many: list[desk.Books],
-    at_rest: bool,
-    forgets: bool = False,
+    program: Program, scene: Scene, path: str, many: Many, at_rest: bool, forgets: bool = False
 ) -> None:
     """What the store has, and then the same requests again. `forgets` loses the log before."""
     if forgets and os.path.exists(store.log_of(path)):
