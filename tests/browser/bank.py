@@ -177,11 +177,6 @@ class Bank:
     def url(self) -> str:
         return f"https://127.0.0.1:{self.port}/teller/"
 
-    def renew(self) -> None:
-        """Another certificate for the user, in place of a revoked one."""
-        self.nginx.staff.hire(USER)
-        self.certificate = self.nginx.exported(USER)
-
     def write_own(
         self, words: Mapping[str, object] | None = {}, today: str | None = DAY, ask_above: int = 0
     ) -> None:

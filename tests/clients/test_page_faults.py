@@ -278,7 +278,8 @@ def test_revoked_while_paying(bank: Bank, page: Page, new_page: NewPage) -> None
     page.waits_for(NO_CERTIFICATE, "#notices")
     assert "Nothing was done." in page.text("#notices")
     page.close()
-    bank.renew()
+    bank.nginx.staff.hire(USER)
+    bank.certificate = bank.nginx.exported(USER)
     again = new_page(None, profile=page.profile)
     again.is_paid(1, VALUES["L"])
     assert len(bank.gate.bodies) == 1

@@ -166,11 +166,6 @@ def test_walk_ins_scanned(bank: Bank, page: Page) -> None:
 PLACES = ("#in-hand", "#payee", "#sheet input", "#all-columns", "")
 
 
-def scan_into(page: Page, place: str, serials: list[str]) -> None:
-    page.run(FOCUS if place else "document.activeElement.blur()", place)
-    page.keys("".join(serial + Keys.ENTER for serial in serials))
-
-
 @pytest.mark.parametrize("count", [1, 60])
 def test_keys_and_seconds(bank: Bank, page: Page, count: int) -> None:
     """From one customer's number to the next one's: six keys, next to the number's digits and the scanner's own, which come at full speed into anything. The seconds are printed."""
@@ -193,7 +188,8 @@ def test_keys_and_seconds(bank: Bank, page: Page, count: int) -> None:
         press(Keys.ENTER)
         page.takes_keyboard("#in-hand")
         for at, place in enumerate(PLACES if count > 1 else PLACES[:1]):
-            scan_into(page, place, serials[at * 12 : at * 12 + 12])
+            page.run(FOCUS if place else "document.activeElement.blur()", place)
+            page.keys("".join(one + Keys.ENTER for one in serials[at * 12 : at * 12 + 12]))
         page.shows_sum(count, count * L)
         assert page.all("#missed li") == [] and page.value("#payee") == owner
         page.sleep(0.4)

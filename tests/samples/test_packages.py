@@ -198,16 +198,13 @@ def validator(place: Path) -> Path:
     return Path(bootstrap(str(place / "validator"), "trixie", included))
 
 
-def first_licensed(made: Listed) -> Listed:
-    found: Listed = next(part for part in made["components"] if "licenses" in part)
-    return found
-
-
 @pytest.mark.root
 @pytest.mark.slow
 @pytest.mark.needs("debootstrap")
 def test_cyclonedx_validator(cyclonedx: Listed, validator: Path) -> None:
     """The validator accepts the list. Controls: lists that are wrong in one place."""
+
+    at = next(at for at, part in enumerate(cyclonedx["components"]) if "licenses" in part)
 
     def said(listed: Listed) -> str:
         words = ["chroot", str(validator), "python3", "-c", VALIDATE]
@@ -221,7 +218,7 @@ def test_cyclonedx_validator(cyclonedx: Listed, validator: Path) -> None:
         lambda made: made["components"][0].update(colour="red"),
         lambda made: made["components"][0]["hashes"][0].update(content="12"),
         lambda made: made["components"].append(made["components"][0]),
-        lambda made: first_licensed(made)["licenses"][0].update(expression="MIT OR NoSuch-1.0"),
+        lambda made: made["components"][at]["licenses"][0].update(expression="MIT OR NoSuch-1.0"),
         lambda made: made["components"][0].update(purl="pkg:deb"),
     ]
     for nth, alter in enumerate(wrong):

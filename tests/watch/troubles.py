@@ -85,10 +85,6 @@ def day_in_future(w: World) -> Iterator[None]:
     yield
 
 
-def two_payees(request: Body) -> list[Body]:
-    return [request, {**request, "payee": 8}]
-
-
 def by_requests(requests: Callable[[World], list[Body]]) -> Making:
     def make(w: World) -> Iterator[None]:
         for request in requests(w):
@@ -100,7 +96,7 @@ def by_requests(requests: Callable[[World], list[Body]]) -> Making:
 
 TROUBLES |= {
     "ManyRefusals": (by_requests(lambda w: [w.redemption("Z999EE") for _ in range(40)]), set()),
-    "NumberReused": (by_requests(lambda w: two_payees(w.redemption(0))), set()),
+    "NumberReused": (by_requests(lambda w: [one := w.redemption(0), one | {"payee": 8}]), set()),
     "PaidAgain": (by_requests(lambda w: [w.redemption(0) for _ in range(10)]), set()),
     "ManyRetries": (by_requests(lambda w: [w.next_redemption()] * 50), {"ManyRefusals"}),
 }

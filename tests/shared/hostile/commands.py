@@ -47,7 +47,8 @@ class Connection:
     def ample(self, ran: Ran, many: list[desk.Books]) -> list[desk.Books]:
         """The books after a run that met nothing."""
         heard = judging.follow(many, self.messages, ran.told)
-        if ran.status != 0 or ran.faults or not judging.is_ample(heard, self.messages):
+        is_ample = (heard.answered, heard.unserved) == (len(self.messages), 0)
+        if ran.status != 0 or ran.faults or not is_ample:
             raise Wrong(f"without a fault it ended with {ran.status} {ran.faults!r} after {heard}")
         return heard.books
 

@@ -92,10 +92,6 @@ def bond_row(value: object) -> tuple[spelling.Serial, int, int, int, int | None]
     return serial, dollars, issued, owner, coowner
 
 
-def serial_row(value: object) -> spelling.Serial:
-    return field({"serials": value}, "serials", text(spelling.serial))
-
-
 def act_in(path: str, members: Members) -> tuple[tuple[Any, ...], tuple[str, ...]]:
     """The act, and the names that its body has beside `desk` and `number`."""
     if path == "/rates":
@@ -106,7 +102,8 @@ def act_in(path: str, members: Members) -> tuple[tuple[Any, ...], tuple[str, ...
     if path != "/redeem":
         return (path.removeprefix("/day/"), day), ("day",)
     payee = field(members, "payee", customer)
-    serials = rows_in(members, "serials", serial_row)
+    serial = text(spelling.serial)
+    serials = rows_in(members, "serials", lambda one: field({"serials": one}, "serials", serial))
     return ("redeem", day, payee, serials), ("day", "payee", "serials")
 
 

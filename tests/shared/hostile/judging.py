@@ -101,10 +101,6 @@ def follow(many: Iterable[desk.Books], messages: list[framing.Message], told: by
     return heard
 
 
-def is_ample(heard: Heard, messages: list[framing.Message]) -> bool:
-    return heard.answered == len(messages) and heard.unserved == 0
-
-
 def ended_rightly(ran: Ran, heard: Heard, messages: list[framing.Message]) -> None:
     """Compare the status and the told fault with what the answers say."""
     fault = ran.faults.strip()

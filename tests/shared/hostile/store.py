@@ -2,6 +2,7 @@
 import os
 import shutil
 import sqlite3
+from contextlib import closing, suppress
 from typing import Any, Mapping
 
 from . import talk
@@ -39,21 +40,16 @@ def remove(store: str) -> None:
             os.remove(store + end)
 
 
-def rows(store: str, with_log: bool = False) -> Rows:
-    """The rows of each table that is there, in order of key, of a copy with its log or without."""
+def rows(store: str) -> Rows:
+    """The rows of each table that is there, in order of key, of a copy without its log."""
     looked_at = store + ".looked"
     remove(looked_at)
     shutil.copyfile(store, looked_at)
-    if with_log and os.path.exists(log_of(store)):
-        shutil.copyfile(log_of(store), log_of(looked_at))
     try:
-        base = sqlite3.connect(looked_at)
-        try:
+        with closing(sqlite3.connect(looked_at)) as base:
             found = base.execute("SELECT name FROM sqlite_master WHERE type = 'table'")
             there = {name for (name,) in found}
             return {name: base.execute(ORDERS[name]).fetchall() for name in ORDERS if name in there}
-        finally:
-            base.close()
     except sqlite3.DatabaseError as error:
         return {"unreadable": str(error)}
     finally:
@@ -61,13 +57,10 @@ def rows(store: str, with_log: bool = False) -> Rows:
 
 
 def is_whole(store: str) -> bool:
-    base = sqlite3.connect(f"file:{store}?mode=ro&immutable=1", uri=True)
-    try:
-        return base.execute("PRAGMA integrity_check").fetchall() == [("ok",)]
-    except sqlite3.DatabaseError:
-        return False
-    finally:
-        base.close()
+    with closing(sqlite3.connect(f"file:{store}?mode=ro&immutable=1", uri=True)) as base:
+        with suppress(sqlite3.DatabaseError):
+            return base.execute("PRAGMA integrity_check").fetchall() == [("ok",)]
+    return False
 
 
 def difference(found: Mapping[str, object], wanted: Mapping[str, object]) -> str | None:
