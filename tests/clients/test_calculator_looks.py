@@ -15,7 +15,8 @@ from tests.clients.test_calculator_uses import put
 from tests.conftest import TOP
 
 pytestmark = NEEDS
-FILE = (TOP / "docs/pictures/inventory.csv").read_bytes()
+#: Paper bonds, of which `.ci/pictures` has pictures too.
+FILE = (TOP / "tests/clients/pictured.csv").read_bytes()
 DETAILS = "for (const one of document.querySelectorAll('details')) one.open = true"
 LONG = "Serial\tDenom\tIssued\tOwner\tCoowner\nW9999999999EE\t10000\tSeptember 2010\t999999999\t999999998\nC1EE\t50\t5/2010\t7\t\n"
 SHORT = "W9999999999EE\t10000\tSeptember 2010\nC1EE\t50\t5/2010\n"

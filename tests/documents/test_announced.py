@@ -12,10 +12,10 @@ from ee_counter_client.plausible import LAST_PAPER, LETTERS
 from tests.conftest import TOP
 
 WHERE = (
-    "*.md docs/*.md docs/openapi.json docs/pictures/make docs/pictures/*.csv samples/*.md samples/*.csv samples/*/*.md packaging/man/*"
-    " packaging/*.md clients/*/*.md clients/value/ee_value/*.py clients/value/examples/*"
-    " clients/python/src/ee_counter_client/*.py include/*"
-    " crates/ee_cli_commands/src/rows.rt"
+    "*.md docs/*.md docs/openapi.json .ci/pictures tests/clients/pictured.csv samples/*.md"
+    " samples/*.csv samples/*/*.md packaging/man/* packaging/*.md clients/*/*.md"
+    " clients/value/ee_value/*.py clients/value/examples/* include/*"
+    " clients/python/src/ee_counter_client/*.py crates/ee_cli_commands/src/rows.rt"
 )
 MONTH = r"(?P<month>\d{4}-\d\d|\d\d/\d{4})"
 RATE = r"(?P<rate>\d{1,2}\.\d{1,2})%?"
