@@ -31,9 +31,9 @@ export function cells(selector) {
     return [...document.querySelectorAll(`${selector} tbody tr`)].map((row) => [...row.children].map(text));
 }
 
-/** By its name, each text of a list of terms. */
+/** The terms of a list, each with its text. */
 export function terms(selector) {
-    return Object.fromEntries([...document.querySelectorAll(`${selector} dt`)].map((one) => [one.textContent, one.nextSibling.textContent]));
+    return [...document.querySelectorAll(`${selector} dt`)].map((one) => [one.textContent, one.nextSibling.textContent]);
 }
 
 export function write(selector, text) {

@@ -174,10 +174,10 @@ def remarked_as_typed(calc: Calculator, count: int) -> None:
     assert calc.texts("#one-words")[0].endswith(SOLD), "the next bond has no serial number yet"
     assert "begin with" not in calc.texts("#one-words")[0]
     calc.open_bond("C12EE")
-    assert list(calc.calls("terms", "#bond-facts").items())[-1] == ("To check", words)
+    assert calc.calls("terms", "#bond-facts")[-1] == ["To check", words]
     calc.run("document.querySelector('#bond').close()")
     calc.open_bond("L1EE")
-    assert "To check" not in calc.calls("terms", "#bond-facts")
+    assert "To check" not in dict(calc.calls("terms", "#bond-facts"))
     calc.run("document.querySelector('#bond').close()")
     calc.set_field("issued", "Dec 2011")
     assert not calc.texts("#one-words")[0].endswith(SOLD)
@@ -299,7 +299,7 @@ def test_interest_of_the_year(calc: Calculator, changes: Changes) -> None:
             for issued, units_of in (("2010-05", 20), ("2006-03", 2)):
                 now, then = (published.get((issued, at), 1250) for at in (month, december))
                 cents += units_of * (now - then)
-            shown = calc.calls("terms", "#sums")[f"Interest of {month[:4]}"]
+            shown = dict(calc.calls("terms", "#sums"))[f"Interest of {month[:4]}"]
             assert shown == f"${cents / 100:,.2f}, {said}"
 
 
