@@ -257,10 +257,8 @@ def test_sum_beside_pay(bank: Bank, page: Page) -> None:
         page.chooses(60, "S1EE", "S60EE")
         for part in (0, 0.3, 0.6, 1):
             page.calls("scroll_to", part)
-            assert page.calls("in_window", "#sum") and page.calls("in_window", "#pay-button"), (
-                size,
-                part,
-            )
+            in_sight = [page.calls("in_window", one) for one in ("#sum", "#pay-button")]
+            assert in_sight == [True, True], (size, part)
     page.run("scrollTo(0, 0); document.querySelector('#pay-bonds').style.position = 'static'")
     assert not page.calls("in_window", "#pay-button"), "control: if the bar didn't stick"
     page.run("document.querySelector('#pay-bonds').style.position = ''")
@@ -360,9 +358,8 @@ def test_room_for_bonds(bank: Bank, page: Page) -> None:
     page.press("#all-columns")
     assert page.run(headings) == 11
     page.press("#change")
-    assert (
-        page.focused() == "customer" and page.calls("whole_bonds") < 12
-    ), "control: with the whole form"
+    assert page.focused() == "customer"
+    assert page.calls("whole_bonds") < 12, "control: with the whole form"
 
 
 # ---- questions and notices
@@ -411,9 +408,7 @@ def test_questions(bank: Bank, page: Page) -> None:
     assert page.calls("broken_words", "#confirm") != [], "control: words that are broken are found"
     page.run(style, "#confirm h2", "")
     page.run(style, "#confirm .buttons", "position: fixed; top: 200vh")
-    assert (
-        page.calls("unseen_acts", "#confirm")[0] != []
-    ), "control: and so are buttons out of sight"
+    assert page.calls("unseen_acts", "#confirm")[0] != [], "control: buttons out of sight too"
     page.run(style, "#confirm .buttons", "")
     page.resize(1100, 820)
     page.press("#confirm-yes")
@@ -422,9 +417,7 @@ def test_questions(bank: Bank, page: Page) -> None:
     seen(page, "#ticket .paper", None, "large_ticket")
     page.resize(320, 640)
     page.run(style, "#ticket .receipt tbody tr", "grid-template-columns: 10rem 10rem")
-    assert (
-        page.calls("broken_words", "#ticket .paper") != []
-    ), "control: and so is a sum that leaves"
+    assert page.calls("broken_words", "#ticket .paper") != [], "control: a sum that leaves too"
     page.go("walkin")
     page.add_walk_in("X9999999997EE", "10,000", "05/2005")
     seen(page, "#walkin-bonds", None, "large_walk_in")

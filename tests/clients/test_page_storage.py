@@ -56,9 +56,8 @@ def test_receipt_unstored(bank: Bank, page: Page) -> None:
     assert page.journal()["open"] is not None and page.calls("receipts") == []
     page.settled()
     bond = {"serial": "L7EE", "denom": 50, "issued": "2010-11", "price": "2500", "value": "2516"}
-    assert [one["bonds"] for one in page.calls("receipts")] == [[bond]] and len(
-        bank.gate.bodies
-    ) == 1
+    assert [one["bonds"] for one in page.calls("receipts")] == [[bond]]
+    assert len(bank.gate.bodies) == 1
 
 
 def test_not_done_unstored(bank: Bank, page: Page) -> None:
