@@ -1,5 +1,7 @@
 """The browser's storage, and what the page is made of: writings that fail, a database that is gone, storage that isn't kept, a browser that is too old, files that don't come."""
 
+import time
+
 import pytest
 
 from tests.browser.bank import DAY, Bank
@@ -189,11 +191,11 @@ def test_old_browser(bank: Bank, new_page: NewPage) -> None:
     page.open_day(DAY)
     page.waits_for("no reply yet", "#progress")
     (bank.teller / "sheet.js").unlink()
-    before = loads(bank)
+    before, begun = loads(bank), time.monotonic()
     page.reload()
     page.waits_for("The page didn't load completely. It tries again by itself.")
-    page.sleep(12)
-    assert loads(bank) - before == 3
+    page.until(lambda: loads(bank) - before >= 3, "it tries again")
+    assert loads(bank) - before == 3 and time.monotonic() - begun > 9
     (bank.teller / "sheet.js").write_text(sheet)
     bank.gate.faults = []
     page.waits_for("February 6, 2012 is open.")
