@@ -13,7 +13,6 @@ use Rattle.ee_desk_model.specs.declared.refusals.Refusal.{Refusal}
 use Rattle.ee_cli_actions.specs.Endings.{fault_of_print, outcome_of_value}
 use Rattle.ee_cli_actions.specs.declared.faults.RunFault.{RunFault}
 use Rattle.ee_cli_commands.specs.CommandLine.{Asked, value, apply, imports, export, sheet, serve}
-use Rattle.ee_cli_commands.specs.declared.commands.CommandFault.TheVariants as fault
 use Rattle.ee_cli_commands.specs.Answer.{IsAsked, IsRefused, AsksForHelp, AsksForVersion}
 
 -- the ending of a command that prints a value

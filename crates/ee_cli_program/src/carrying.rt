@@ -1,22 +1,24 @@
 //! Carrying out a command.
 
-ghost use Rattle.std.specs.Prelude.{◌≡◌, ◌⊎◌, ◌*◌, [], Err, IfOk, IfSome, None, ⊤};
+ghost use Rattle.std.specs.Prelude.{◌≡◌, ◌⊎◌, ◌+◌, ◌*◌, ℕ, [], Err, IfOk, IfErr, IfSome, None};
 ghost use Rattle.clap.specs.Words.{Text};
 ghost use Rattle.ee_desk_model.specs.Repeats.{Content};
-ghost use Rattle.ee_keeper.specs.Keeping.{HasAfter};
+ghost use Rattle.ee_keeper.specs.Keeping.{FailedIn, HasAfter};
 ghost use Rattle.ee_counter.specs.Answering.{FitMessages};
 ghost use Rattle.ee_counter.specs.Serving.{most_messages};
 ghost use Rattle.ee_cli_actions.specs.Actions.{Applies, ExportsFrom, FitFile, ImportsInto, ShowsSheet};
 ghost use Rattle.ee_cli_actions.specs.Connections.{ServesAll};
+ghost use Rattle.ee_cli_actions.specs.Endings.{TellsFailureOnlyIf};
 ghost use Rattle.ee_cli_commands.specs.Answer.{view_of};
 ghost use Rattle.ee_cli_program.specs.Statuses.{Carries, ShowsValue};
-ghost use Rattle.ee_cli_program.specs.Stores.{CarriesOver, Closes, IsUnbound, Over, Since, Tries, unwritten};
-ghost use Rattle.ee_cli_program.specs.Told.{TellsOnlyIf, fault_of_cause};
+ghost use Rattle.ee_cli_program.specs.Inner.Stores.{IsOpened, Worked, WorksOn};
+ghost use Rattle.ee_cli_program.specs.Stores.{CarriesOver, Closes, IsUnbound, IsUnopened, Since, Tries, unwritten};
+ghost use Rattle.ee_cli_program.specs.Told.{TellsOnlyIf};
 
 use crate::explaining::Cause;
 use crate::host::Host;
 use crate::opening::{Carried, import_path, refused_port, serve_port};
-use crate::stores::{Left, Stores, Unopened};
+use crate::stores::{Left, Stores};
 use ee_cli_actions::{Outcome, RunFault, StoreFault, apply_to, export_from, sheet_of};
 use ee_cli_commands::{Command, FileKind};
 use ee_cli_value::print_value;
@@ -90,19 +92,19 @@ fn apply<H: Host, O: Stores, R: Source, W: Sink>(
     input: &mut R,
     output: &mut W,
 ) -> CarriedOut<O, O::Refused, O::Rest, O::Left>
-    ensures over { (c : Content) → O.holds stores db.now c
-        → Over O.rests O.keeps (O.refuses stores db.now) (W.contents output.old) (W.contents output.new) result.carried.ended result.left
-        (Since O.Store.is_clean O.Store.is_guarded O.Store.is_open O.Store.faults O.has_room most_messages (FitMessages O.Store.fits))
-        (λ left ended. O.Store.is_clean left → Applies (R.remaining input.old) (R.remaining input.new) (W.contents output.old) (W.contents output.new) c ended
-        (HasAfter (O.Store.has left) (O.opens stores db.now) (O.Store.went left))) }
+    ensures works { Worked O.rests O.keeps (O.refuses stores db.now) (W.contents output.old) (W.contents output.new) result.carried.ended result.left
+        (IsOpened O.Store.is_clean O.Store.is_guarded O.has_room O.Store.takes (O.holds stores db.now) (O.opens stores db.now) O.Store.has O.Store.went)
+        (WorksOn O.Store.is_clean O.Store.is_guarded O.Store.is_open O.Store.faults O.Store.has O.Store.went
+        (λ first left c ended. (n : ℕ) → O.Store.takes (n + most_messages) first → FitMessages O.Store.fits → TellsFailureOnlyIf (FailedIn O.Store.is_open O.Store.faults first left) ended)
+        (λ c ended Has. Applies (R.remaining input.old) (R.remaining input.new) (W.contents output.old) (W.contents output.new) c ended Has)) }
     ensures told { TellsOnlyIf result.carried.ended result.carried.cause }
 {
-    match stores.open(db) {
+    match open(stores, db) {
         Ok(mut store) => {
             let ended = apply_to(host.alloc(), &mut store, input, output);
             end::<O>(store, ended, None, None)
         }
-        Err(not) => not_opened::<O>(not),
+        Err(unopened) => unopened,
     }
 }
 
@@ -116,20 +118,19 @@ fn import<H: Host, O: Stores, W: Sink>(
     number: Number,
     output: &mut W,
 ) -> CarriedOut<O, O::Refused, O::Rest, O::Left>
-    ensures over { (c : Content) → O.holds stores db.now c
-        → Over O.rests O.keeps (O.refuses stores db.now) (W.contents output.old) (W.contents output.new) result.carried.ended result.left
-        (Since O.Store.is_clean O.Store.is_guarded O.Store.is_open O.Store.faults O.has_room 1 (FitFile kind O.Store.fits c (desk, number)))
-        (λ left ended. O.Store.is_clean left → Tries (W.contents output.old) (W.contents output.new) ended
-        (ImportsInto kind (H.file host.now file.now) (W.contents output.old) (W.contents output.new) (desk, number) c ended (HasAfter (O.Store.has left) (O.opens stores db.now) (O.Store.went left)))
-        (HasAfter (O.Store.has left) (O.opens stores db.now) (O.Store.went left) c [])) }
+    ensures works { Worked O.rests O.keeps (O.refuses stores db.now) (W.contents output.old) (W.contents output.new) result.carried.ended result.left
+        (IsOpened O.Store.is_clean O.Store.is_guarded O.has_room O.Store.takes (O.holds stores db.now) (O.opens stores db.now) O.Store.has O.Store.went)
+        (WorksOn O.Store.is_clean O.Store.is_guarded O.Store.is_open O.Store.faults O.Store.has O.Store.went
+        (λ first left c ended. (n : ℕ) → O.Store.takes (n + 1) first → FitFile kind O.Store.fits c (desk, number) → TellsFailureOnlyIf (FailedIn O.Store.is_open O.Store.faults first left) ended)
+        (λ c ended Has. Tries (W.contents output.old) (W.contents output.new) ended (ImportsInto kind (H.file host.now file.now) (W.contents output.old) (W.contents output.new) (desk, number) c ended Has) (Has c []))) }
     ensures told { TellsOnlyIf result.carried.ended result.carried.cause }
 {
-    match stores.open(db) {
+    match open(stores, db) {
         Ok(mut store) => {
             let tried = import_path(host, &mut store, kind, file, desk, number, output);
             end::<O>(store, tried.ended, tried.cause, tried.field)
         }
-        Err(not) => not_opened::<O>(not),
+        Err(unopened) => unopened,
     }
 }
 
@@ -140,20 +141,20 @@ fn export<H: Host, O: Stores, W: Sink>(
     db: &str,
     output: &mut W,
 ) -> CarriedOut<O, O::Refused, O::Rest, O::Left>
-    ensures over { (c : Content) → O.holds stores db.now c
-        → Over O.rests O.keeps (O.refuses stores db.now) (W.contents output.old) (W.contents output.new) result.carried.ended result.left
-        (Since O.Store.is_clean O.Store.is_guarded O.Store.is_open O.Store.faults O.has_room 0 ⊤)
-        (λ left ended. O.Store.is_clean left → ExportsFrom (W.contents output.old) (W.contents output.new) customer c ended
-        (HasAfter (O.Store.has left) (O.opens stores db.now) (O.Store.went left))) }
+    ensures works { Worked O.rests O.keeps (O.refuses stores db.now) (W.contents output.old) (W.contents output.new) result.carried.ended result.left
+        (IsOpened O.Store.is_clean O.Store.is_guarded O.has_room O.Store.takes (O.holds stores db.now) (O.opens stores db.now) O.Store.has O.Store.went)
+        (WorksOn O.Store.is_clean O.Store.is_guarded O.Store.is_open O.Store.faults O.Store.has O.Store.went
+        (λ first left c ended. (n : ℕ) → O.Store.takes n first → TellsFailureOnlyIf (FailedIn O.Store.is_open O.Store.faults first left) ended)
+        (λ c ended Has. ExportsFrom (W.contents output.old) (W.contents output.new) customer c ended Has)) }
     ensures done { IfOk result.carried.ended (λ outcome. outcome ≡ Outcome.Done) }
     ensures told { TellsOnlyIf result.carried.ended result.carried.cause }
 {
-    match stores.open(db) {
+    match open(stores, db) {
         Ok(mut store) => {
             let ended = export_from(host.alloc(), &mut store, customer, output);
             end::<O>(store, ended, None, None)
         }
-        Err(not) => not_opened::<O>(not),
+        Err(unopened) => unopened,
     }
 }
 
@@ -164,20 +165,20 @@ fn sheet<O: Stores, W: Sink>(
     db: &str,
     output: &mut W,
 ) -> CarriedOut<O, O::Refused, O::Rest, O::Left>
-    ensures over { (c : Content) → O.holds stores db.now c
-        → Over O.rests O.keeps (O.refuses stores db.now) (W.contents output.old) (W.contents output.new) result.carried.ended result.left
-        (Since O.Store.is_clean O.Store.is_guarded O.Store.is_open O.Store.faults O.has_room 0 ⊤)
-        (λ left ended. O.Store.is_clean left → ShowsSheet (W.contents output.old) (W.contents output.new) customer month c ended
-        (HasAfter (O.Store.has left) (O.opens stores db.now) (O.Store.went left) c [])) }
+    ensures works { Worked O.rests O.keeps (O.refuses stores db.now) (W.contents output.old) (W.contents output.new) result.carried.ended result.left
+        (IsOpened O.Store.is_clean O.Store.is_guarded O.has_room O.Store.takes (O.holds stores db.now) (O.opens stores db.now) O.Store.has O.Store.went)
+        (WorksOn O.Store.is_clean O.Store.is_guarded O.Store.is_open O.Store.faults O.Store.has O.Store.went
+        (λ first left c ended. (n : ℕ) → O.Store.takes n first → TellsFailureOnlyIf (FailedIn O.Store.is_open O.Store.faults first left) ended)
+        (λ c ended Has. ShowsSheet (W.contents output.old) (W.contents output.new) customer month c ended (Has c []))) }
     ensures done { IfOk result.carried.ended (λ outcome. outcome ≡ Outcome.Done) }
     ensures told { TellsOnlyIf result.carried.ended result.carried.cause }
 {
-    match stores.open(db) {
+    match open(stores, db) {
         Ok(mut store) => {
             let ended = sheet_of(&mut store, customer, month, output);
             end::<O>(store, ended, None, None)
         }
-        Err(not) => not_opened::<O>(not),
+        Err(unopened) => unopened,
     }
 }
 
@@ -189,13 +190,12 @@ fn serve<H: Host, O: Stores, W: Sink>(
     connections: u64,
     output: &mut W,
 ) -> CarriedOut<O, O::Refused, O::Rest, O::Left>
-    ensures over { (c : Content) → O.holds stores db.now c
-        → IsUnbound stores result.left (W.contents output.old) (W.contents output.new) result.carried.ended
-        ⊎ Over O.rests O.keeps (O.refuses stores db.now) (W.contents output.old) (W.contents output.new) result.carried.ended result.left
-        (Since O.Store.is_clean O.Store.is_guarded O.Store.is_open O.Store.faults O.has_room (connections * most_messages) (FitMessages O.Store.fits))
-        (λ left ended. O.Store.is_clean left → Tries (W.contents output.old) (W.contents output.new) ended
-        (ServesAll (H.coming host.now port) connections (W.contents output.old) (W.contents output.new) c ended (HasAfter (O.Store.has left) (O.opens stores db.now) (O.Store.went left)))
-        (HasAfter (O.Store.has left) (O.opens stores db.now) (O.Store.went left) c [])) }
+    ensures works { IsUnbound stores result.left (W.contents output.old) (W.contents output.new) result.carried.ended
+        ⊎ Worked O.rests O.keeps (O.refuses stores db.now) (W.contents output.old) (W.contents output.new) result.carried.ended result.left
+        (IsOpened O.Store.is_clean O.Store.is_guarded O.has_room O.Store.takes (O.holds stores db.now) (O.opens stores db.now) O.Store.has O.Store.went)
+        (WorksOn O.Store.is_clean O.Store.is_guarded O.Store.is_open O.Store.faults O.Store.has O.Store.went
+        (λ first left c ended. (n : ℕ) → O.Store.takes (n + connections * most_messages) first → FitMessages O.Store.fits → TellsFailureOnlyIf (FailedIn O.Store.is_open O.Store.faults first left) ended)
+        (λ c ended Has. Tries (W.contents output.old) (W.contents output.new) ended (ServesAll (H.coming host.now port) connections (W.contents output.old) (W.contents output.new) c ended Has) (Has c []))) }
     ensures done { IfOk result.carried.ended (λ outcome. outcome ≡ Outcome.Done) }
     ensures told { TellsOnlyIf result.carried.ended result.carried.cause }
 {
@@ -221,21 +221,20 @@ fn serve_store<H: Host, O: Stores, W: Sink>(
     connections: u64,
     output: &mut W,
 ) -> CarriedOut<O, O::Refused, O::Rest, O::Left>
-    ensures over { (c : Content) → O.holds stores db.now c
-        → Over O.rests O.keeps (O.refuses stores db.now) (W.contents output.old) (W.contents output.new) result.carried.ended result.left
-        (Since O.Store.is_clean O.Store.is_guarded O.Store.is_open O.Store.faults O.has_room (connections * most_messages) (FitMessages O.Store.fits))
-        (λ left ended. O.Store.is_clean left → Tries (W.contents output.old) (W.contents output.new) ended
-        (ServesAll (H.coming host.now port) connections (W.contents output.old) (W.contents output.new) c ended (HasAfter (O.Store.has left) (O.opens stores db.now) (O.Store.went left)))
-        (HasAfter (O.Store.has left) (O.opens stores db.now) (O.Store.went left) c [])) }
+    ensures works { Worked O.rests O.keeps (O.refuses stores db.now) (W.contents output.old) (W.contents output.new) result.carried.ended result.left
+        (IsOpened O.Store.is_clean O.Store.is_guarded O.has_room O.Store.takes (O.holds stores db.now) (O.opens stores db.now) O.Store.has O.Store.went)
+        (WorksOn O.Store.is_clean O.Store.is_guarded O.Store.is_open O.Store.faults O.Store.has O.Store.went
+        (λ first left c ended. (n : ℕ) → O.Store.takes (n + connections * most_messages) first → FitMessages O.Store.fits → TellsFailureOnlyIf (FailedIn O.Store.is_open O.Store.faults first left) ended)
+        (λ c ended Has. Tries (W.contents output.old) (W.contents output.new) ended (ServesAll (H.coming host.now port) connections (W.contents output.old) (W.contents output.new) c ended Has) (Has c []))) }
     ensures done { IfOk result.carried.ended (λ outcome. outcome ≡ Outcome.Done) }
     ensures told { TellsOnlyIf result.carried.ended result.carried.cause }
 {
-    match stores.open(db) {
+    match open(stores, db) {
         Ok(mut store) => {
             let tried = serve_port(host, &mut store, port, connections, output);
             end::<O>(store, tried.ended, tried.cause, tried.field)
         }
-        Err(not) => not_opened::<O>(not),
+        Err(unopened) => unopened,
     }
 }
 
@@ -264,20 +263,25 @@ fn without_cause(ended: Result<Outcome, RunFault>) -> Carried
     }
 }
 
-// A command whose store wasn't opened.
-fn not_opened<O: Stores>(not: Unopened<O::Refused>) -> CarriedOut<O, O::Refused, O::Rest, O::Left>
-    requires { IfSome not.cause (λ cause. not.fault ≡ fault_of_cause cause) }
-    ensures ended { result.carried.ended ≡ Err not.fault }
-    ensures left { result.left ≡ Left.Refused not.rest }
-    ensures told { TellsOnlyIf result.carried.ended result.carried.cause }
+// Opens the store of a command, or says how the command ends if it isn't opened.
+fn open<O: Stores>(
+    stores: O,
+    db: &str,
+) -> Result<O::Store, CarriedOut<O, O::Refused, O::Rest, O::Left>>
+    ensures opened { IfOk result (IsOpened O.Store.is_clean O.Store.is_guarded O.has_room O.Store.takes (O.holds stores db.now) (O.opens stores db.now) O.Store.has O.Store.went) }
+    ensures unopened { IfErr result (λ out. IsUnopened (O.refuses stores db.now) out.carried.ended out.left) }
+    ensures told { IfErr result (λ out. TellsOnlyIf out.carried.ended out.carried.cause) }
 {
-    CarriedOut {
-        carried: Carried {
-            ended: Err(not.fault),
-            cause: not.cause.map(Cause::Store),
-            field: None,
-        },
-        left: Left::Refused(not.rest),
+    match stores.open(db) {
+        Ok(store) => Ok(store),
+        Err(not) => Err(CarriedOut {
+            carried: Carried {
+                ended: Err(not.fault),
+                cause: not.cause.map(Cause::Store),
+                field: None,
+            },
+            left: Left::Refused(not.rest),
+        }),
     }
 }
 
