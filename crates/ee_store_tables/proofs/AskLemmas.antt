@@ -23,165 +23,153 @@ pub asks_find_bond : (n : ℕ) (m : ℕ) → IsAsked find_bond_text (Int (pos n)
 asks_find_bond n m = record {
   query = record { lets = []; body = find_bond_query };
   names = codes "denom" ∷ codes "issued" ∷ codes "owner" ∷ codes "coowner" ∷ codes "ticket" ∷ [];
-  is = find_bond_is.0;
-  unlisted = find_bond_is.1;
+  is = find_bond_is;
   plain = find_bond_plain;
   whole = find_bond_whole;
-  answered = λ db e h. never_refused never_false (no_sums _) h;
+  answered = λ others db e h. never_refused never_false (no_sums _) h;
 }
 
 pub asks_find_answer : (n : ℕ) (m : ℕ) → IsAsked find_answer_text (Int (pos n) ∷ Int (pos m) ∷ [])
 asks_find_answer n m = record {
   query = record { lets = []; body = find_answer_query };
   names = codes "act" ∷ codes "reply" ∷ [];
-  is = find_answer_is.0;
-  unlisted = find_answer_is.1;
+  is = find_answer_is;
   plain = find_answer_plain;
   whole = find_answer_whole;
-  answered = λ db e h. never_refused never_false (no_sums _) h;
+  answered = λ others db e h. never_refused never_false (no_sums _) h;
 }
 
 pub asks_find_desk : (n : ℕ) → IsAsked find_desk_text (Int (pos n) ∷ [])
 asks_find_desk n = record {
   query = record { lets = []; body = find_desk_query };
   names = codes "version" ∷ codes "day" ∷ codes "last_day" ∷ [];
-  is = find_desk_is.0;
-  unlisted = find_desk_is.1;
+  is = find_desk_is;
   plain = find_desk_plain;
   whole = find_desk_whole;
-  answered = λ db e h. never_refused never_false (no_sums _) h;
+  answered = λ others db e h. never_refused never_false (no_sums _) h;
 }
 
 pub asks_find_rate : (n : ℕ) → IsAsked find_rate_text (Int (pos n) ∷ [])
 asks_find_rate n = record {
   query = record { lets = []; body = find_rate_query };
   names = codes "rate" ∷ [];
-  is = find_rate_is.0;
-  unlisted = find_rate_is.1;
+  is = find_rate_is;
   plain = find_rate_plain;
   whole = find_rate_whole;
-  answered = λ db e h. never_refused never_false (no_sums _) h;
+  answered = λ others db e h. never_refused never_false (no_sums _) h;
 }
 
 pub asks_find_extension : (n : ℕ) → IsAsked find_extension_text (Int (pos n) ∷ [])
 asks_find_extension n = record {
   query = record { lets = []; body = find_extension_query };
   names = codes "rate" ∷ [];
-  is = find_extension_is.0;
-  unlisted = find_extension_is.1;
+  is = find_extension_is;
   plain = find_extension_plain;
   whole = find_extension_whole;
-  answered = λ db e h. never_refused never_false (no_sums _) h;
+  answered = λ others db e h. never_refused never_false (no_sums _) h;
 }
 
 pub asks_find_ticket : (n : ℕ) → IsAsked find_ticket_text (Int (pos n) ∷ [])
 asks_find_ticket n = record {
   query = record { lets = []; body = find_ticket_query };
   names = codes "day" ∷ codes "payee" ∷ codes "bonds" ∷ codes "total" ∷ [];
-  is = find_ticket_is.0;
-  unlisted = find_ticket_is.1;
+  is = find_ticket_is;
   plain = find_ticket_plain;
   whole = find_ticket_whole;
-  answered = λ db e h. never_refused never_false (no_sums _) h;
+  answered = λ others db e h. never_refused never_false (no_sums _) h;
 }
 
 pub asks_find_batch : (n : ℕ) → IsAsked find_batch_text (Int (pos n) ∷ [])
 asks_find_batch n = record {
   query = record { lets = []; body = find_batch_query };
   names = codes "tickets" ∷ codes "bonds" ∷ codes "total" ∷ [];
-  is = find_batch_is.0;
-  unlisted = find_batch_is.1;
+  is = find_batch_is;
   plain = find_batch_plain;
   whole = find_batch_whole;
-  answered = λ db e h. never_refused never_false (no_sums _) h;
+  answered = λ others db e h. never_refused never_false (no_sums _) h;
 }
 
 pub asks_last_ticket : IsAsked last_ticket_text ([])
 asks_last_ticket = record {
   query = record { lets = []; body = last_ticket_query };
   names = codes "ticket" ∷ [];
-  is = last_ticket_is.0;
-  unlisted = last_ticket_is.1;
+  is = last_ticket_is;
   plain = last_ticket_plain;
   whole = last_ticket_whole;
-  answered = λ db e h. never_refused never_false (no_sums _) h;
+  answered = λ others db e h. never_refused never_false (no_sums _) h;
 }
 
 pub asks_day_tickets : (n : ℕ) → IsAsked day_tickets_text (Int (pos n) ∷ [])
 asks_day_tickets n = record {
   query = record { lets = []; body = day_tickets_query };
   names = codes "ticket" ∷ codes "bonds" ∷ codes "total" ∷ [];
-  is = day_tickets_is.0;
-  unlisted = day_tickets_is.1;
+  is = day_tickets_is;
   plain = day_tickets_plain;
   whole = day_tickets_whole;
-  answered = λ db e h. never_refused never_false (no_sums _) h;
+  answered = λ others db e h. never_refused never_false (no_sums _) h;
 }
 
 pub asks_first_ticket : (n : ℕ) → IsAsked first_ticket_text (Int (pos n) ∷ [])
 asks_first_ticket n = record {
   query = record { lets = []; body = first_ticket_query };
   names = codes "ticket" ∷ [];
-  is = first_ticket_is.0;
-  unlisted = first_ticket_is.1;
+  is = first_ticket_is;
   plain = first_ticket_plain;
   whole = first_ticket_whole;
-  answered = λ db e h. never_refused never_false (no_sums _) h;
+  answered = λ others db e h. never_refused never_false (no_sums _) h;
 }
 
 pub asks_ticket_lines : (n : ℕ) → IsAsked ticket_lines_text (Int (pos n) ∷ [])
 asks_ticket_lines n = record {
   query = record { lets = []; body = ticket_lines_query };
   names = codes "place" ∷ codes "letter" ∷ codes "number" ∷ codes "cents" ∷ [];
-  is = ticket_lines_is.0;
-  unlisted = ticket_lines_is.1;
+  is = ticket_lines_is;
   plain = ticket_lines_plain;
   whole = ticket_lines_whole;
-  answered = λ db e h. never_refused never_false (no_sums _) h;
+  answered = λ others db e h. never_refused never_false (no_sums _) h;
 }
 
 pub asks_bonds_of_owner : (n : ℕ) → IsAsked bonds_of_owner_text (Int (pos n) ∷ [])
 asks_bonds_of_owner n = record {
   query = record { lets = []; body = bonds_of_owner_query };
   names = codes "letter" ∷ codes "number" ∷ codes "denom" ∷ codes "issued" ∷ codes "owner" ∷ codes "coowner" ∷ [];
-  is = bonds_of_owner_is.0;
-  unlisted = bonds_of_owner_is.1;
+  is = bonds_of_owner_is;
   plain = bonds_of_owner_plain;
   whole = bonds_of_owner_whole;
-  answered = λ db e h. never_refused never_false (no_sums _) h;
+  answered = λ others db e h. never_refused never_false (no_sums _) h;
 }
 
 -- ---- what the writes are
 
 pub writes_ticket : (n : ℕ) (x : TicketRow) → IsWritten add_ticket_text (given_ticket n x) None (Insert 3 (Values (col 0 0 ∷ lit Null ∷ col 0 1 ∷ col 0 2 ∷ col 0 3 ∷ col 0 4 ∷ []) 6))
-writes_ticket n x = record { is = add_ticket_is; shows = shows_nothing _ add_ticket_plain; whole = add_ticket_whole; change = refl }
+writes_ticket n x = record { is = add_ticket_is; shows = λ others. shows_nothing _ (add_ticket_plain others); whole = add_ticket_whole; change = refl }
 
 pub writes_batch : (n : ℕ) (x : BatchRow) → IsWritten add_batch_text (given_batch n x) None (Insert 5 (Values (col 0 0 ∷ lit Null ∷ col 0 1 ∷ col 0 2 ∷ col 0 3 ∷ []) 5))
-writes_batch n x = record { is = add_batch_is; shows = shows_nothing _ add_batch_plain; whole = add_batch_whole; change = refl }
+writes_batch n x = record { is = add_batch_is; shows = λ others. shows_nothing _ (add_batch_plain others); whole = add_batch_whole; change = refl }
 
 pub writes_answer : (k : ℕ × ℕ) (x : ReplyRow) → IsWritten add_answer_text (given_answer k x) None (Insert 7 (Values (lit Null ∷ col 0 0 ∷ col 0 1 ∷ col 0 2 ∷ col 0 3 ∷ []) 5))
-writes_answer k x = record { is = add_answer_is; shows = shows_nothing _ add_answer_plain; whole = add_answer_whole; change = refl }
+writes_answer k x = record { is = add_answer_is; shows = λ others. shows_nothing _ (add_answer_plain others); whole = add_answer_whole; change = refl }
 
 pub writes_paid : (k : ℕ × ℕ) (x : PaidRow) → IsWritten add_paid_text (given_paid k x) None (Insert 4 (Values (lit Null ∷ col 0 0 ∷ col 0 1 ∷ col 0 2 ∷ col 0 3 ∷ col 0 4 ∷ []) 6))
-writes_paid k x = record { is = add_paid_is; shows = shows_nothing _ add_paid_plain; whole = add_paid_whole; change = refl }
+writes_paid k x = record { is = add_paid_is; shows = λ others. shows_nothing _ (add_paid_plain others); whole = add_paid_whole; change = refl }
 
 pub writes_four : (t place : ℕ) (a b c d : PaidRow) → IsWritten add_four_text (given_four t place a b c d) None (Insert 4 (Values four_terms 6))
-writes_four t place a b c d = record { is = add_four_is; shows = shows_nothing _ add_four_plain; whole = add_four_whole; change = refl }
+writes_four t place a b c d = record { is = add_four_is; shows = λ others. shows_nothing _ (add_four_plain others); whole = add_four_whole; change = refl }
 
 pub writes_rate : (n x : ℕ) → IsWritten add_rate_text (given_rate n x) None (insert_rate 1)
-writes_rate n x = record { is = add_rate_is; shows = shows_nothing _ add_rate_plain; whole = add_rate_whole; change = refl }
+writes_rate n x = record { is = add_rate_is; shows = λ others. shows_nothing _ (add_rate_plain others); whole = add_rate_whole; change = refl }
 
 pub writes_extension : (n x : ℕ) → IsWritten add_extension_text (given_rate n x) None (insert_rate 6)
-writes_extension n x = record { is = add_extension_is; shows = shows_nothing _ add_extension_plain; whole = add_extension_whole; change = refl }
+writes_extension n x = record { is = add_extension_is; shows = λ others. shows_nothing _ (add_extension_plain others); whole = add_extension_whole; change = refl }
 
 pub writes_bond : (k : ℕ × ℕ) (x : BondRow) → IsWritten add_bond_text (given_bond k x) None (InsertOr 2 Abort (Values (lit Null ∷ col 0 0 ∷ col 0 1 ∷ col 0 2 ∷ col 0 3 ∷ col 0 4 ∷ col 0 5 ∷ lit Null ∷ []) 8) (record { target = Some (1 ∷ 2 ∷ []); update = None } ∷ []))
-writes_bond k x = record { is = add_bond_is; shows = shows_nothing _ add_bond_plain; whole = add_bond_whole; change = refl }
+writes_bond k x = record { is = add_bond_is; shows = λ others. shows_nothing _ (add_bond_plain others); whole = add_bond_whole; change = refl }
 
 pub writes_day : (day last_day : Option ℕ) → IsWritten set_day_text (given_days day last_day) None (Update 0 (record { lets = []; body = set_day_query }))
-writes_day day last_day = record { is = set_day_is; shows = shows_nothing _ set_day_plain; whole = set_day_whole; change = refl }
+writes_day day last_day = record { is = set_day_is; shows = λ others. shows_nothing _ (set_day_plain others); whole = set_day_whole; change = refl }
 
 pub writes_version : (version : ℕ) → IsWritten set_version_text (given_version version) None (Update 0 (record { lets = []; body = set_version_query }))
-writes_version version = record { is = set_version_is; shows = shows_nothing _ set_version_plain; whole = set_version_whole; change = refl }
+writes_version version = record { is = set_version_is; shows = λ others. shows_nothing _ (set_version_plain others); whole = set_version_whole; change = refl }
 
 pub writes_mark : (k : ℕ × ℕ) (t : ℕ) → IsWritten mark_bond_text (key_params k (Int (pos t) ∷ [])) None (Update 2 (record { lets = []; body = mark_bond_query }))
-writes_mark k t = record { is = mark_bond_is; shows = shows_nothing _ mark_bond_plain; whole = mark_bond_whole; change = refl }
+writes_mark k t = record { is = mark_bond_is; shows = λ others. shows_nothing _ (mark_bond_plain others); whole = mark_bond_whole; change = refl }

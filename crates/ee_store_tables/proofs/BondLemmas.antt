@@ -8,13 +8,13 @@ use Rattle.sqlite.specs.Order.{Row}
 use Rattle.sqlite.specs.Query.{IsAnswer}
 use Rattle.sqlite.specs.Program.{overlay}
 use Rattle.sqlite.specs.State.{State, Shown}
-use Rattle.sqlite.proofs.Callers.{reads_as}
-use Rattle.ee_store_tables.specs.Tables.{counter_schema}
+use Rattle.ee_store_tables.specs.Tables.{HasCounterTables}
 use Rattle.ee_store_tables.specs.Keyed.{pair_cmp, stored, ReadAlike, HoldsPairs}
 use Rattle.ee_store_tables.specs.Rows.{BondRow, bond_columns}
 use Rattle.ee_store_tables.proofs.Meaning.{find_bond_text, find_bond_query, find_bond_is, find_bond_plain}
 use Rattle.ee_store_tables.proofs.HoldsLemmas.{pair_total, pair_same, hit_row, no_row}
 use Rattle.ee_store_tables.proofs.ReadLemmas.{found_by_pair}
+use Rattle.ee_store_tables.proofs.OurLemmas.{reads_ours}
 
 abbrev pub Stored : Type 0
 Stored = ℤ × ((ℕ × ℕ) × BondRow)
@@ -22,12 +22,12 @@ Stored = ℤ × ((ℕ × ℕ) × BondRow)
 abbrev pub key_params : ℕ × ℕ → Row → Row
 key_params k more = Int (pos k.0) ∷ Int (pos k.1) ∷ more
 
-pub finds_bond : (old new : State) (k : ℕ × ℕ) (m : FinMap pair_cmp BondRow) (rows : List Row) → old.now.schema ≡ counter_schema → HoldsPairs bond_columns (old.now.trees 2) m
+pub finds_bond : (old new : State) (k : ℕ × ℕ) (m : FinMap pair_cmp BondRow) (rows : List Row) → HasCounterTables old.now.schema → HoldsPairs bond_columns (old.now.trees 2) m
     → Shown find_bond_text (key_params k []) old new rows → rows ≡ option_to_list (option_map bond_columns (get m k))
 finds_bond old new k m rows has stands shown = go (get m k) refl
   where
     a : IsAnswer find_bond_query (overlay old.now.trees []) (key_params k []) rows
-    a = (reads_as find_bond_text (key_params k []) old new counter_schema has _ find_bond_is.0 find_bond_plain find_bond_is.1 rows shown).answer Null
+    a = (reads_ours find_bond_text (key_params k []) old new has _ find_bond_is find_bond_plain rows shown).answer Null
 
     shows : (r : Row) (p : Stored) → ReadAlike r (stored bond_columns p) → Rattle.sqlite_sql.specs.Term.eval_all find_bond_query.project (key_params k [] ∷ r ∷ []) ≡ bond_columns p.1.1
     shows r p one = rw (one 3, one 4, one 5, one 6, one 7) refl

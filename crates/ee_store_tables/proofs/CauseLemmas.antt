@@ -31,9 +31,10 @@ use Rattle.sqlite_schema.specs.declared.schema.Constraint.TheVariants.{Unique}
 use Rattle.sqlite_schema.specs.Rules.{Keeps}
 use Rattle.ee_store_tables.specs.Rows.{Rows, Holds, IsInside, Sees, HasRoom, HasRoomIn}
 use Rattle.ee_store_tables.specs.Statements.{HasCause, IsExcused}
-use Rattle.ee_store_tables.specs.Tables.{counter_schema}
 use Rattle.ee_store_tables.proofs.Meaning.{IsWhole, returning_of}
 use Rattle.ee_store_tables.proofs.KeepLemmas.{clean_before}
+use Rattle.sqlite.specs.Schema.{Schema}
+use Rattle.ee_store_tables.specs.Tables.{with_others, others_in, AreOthers, HasCounterTables}
 
 module _ (old new : State) where
   pub shut_before : old.is_open ≡ false → (failure : Failure) → IsExcused old new failure
@@ -52,9 +53,9 @@ module _ (old new : State) where
   pub store_fails : {too_big : Type 0} → ¬ too_big → (e : Error) → Fails old new too_big e → IsExcused old new (failure_of e)
   store_fails none e h = subst (λ e. IsExcused old new (failure_of e)) (sym h.1) (excused none h.0 h.2)
 
-  module _ (sql : List ℕ) (params : Row) (has : old.now.schema ≡ counter_schema) (whole : IsWhole sql (length params) (understood counter_schema sql)) where
+  module _ (sql : List ℕ) (params : Row) (has : HasCounterTables old.now.schema) (whole : (others : Schema) → IsWhole sql (length params) (understood (with_others others) sql)) where
     known : (r : Result Compiled CompileError) → understood old.now.schema sql ≡ r → IsWhole sql (length params) r
-    known r is = subst (IsWhole sql (length params)) (sym (ap (λ s. understood s sql) has) ∙ is) whole
+    known r is = subst (IsWhole sql (length params)) (sym (ap (λ s. understood s sql) has.ours) ∙ is) (whole (others_in old.now.schema))
 
     is_statement : (e : Error) → ¬ IsNoStatement old sql params e
     is_statement e (inl wrong) = known (Err wrong.0) wrong.1
@@ -84,30 +85,29 @@ never_false e = absurd cc
 pub record IsAsked (sql : List ℕ) (params : Row) : Type 0 where
   pub query : Program
   pub names : List (List ℕ)
-  pub is : command_of (understood counter_schema sql) ≡ Select query names
-  pub unlisted : reads_listing counter_schema sql ≡ false
-  pub plain : IsPlain (understood counter_schema sql)
-  pub whole : IsWhole sql (length params) (understood counter_schema sql)
-  pub answered : (db : Trees) (e : Error) → ¬ RefusesQuery None (record { schema = counter_schema; trees = db }) query params e
+  pub is : (others : Schema) → (command_of (understood (with_others others) sql) ≡ Select query names) × (reads_listing (with_others others) sql ≡ false)
+  pub plain : (others : Schema) → IsPlain (understood (with_others others) sql)
+  pub whole : (others : Schema) → IsWhole sql (length params) (understood (with_others others) sql)
+  pub answered : (others : Schema) (db : Trees) (e : Error) → ¬ RefusesQuery None (record { schema = with_others others; trees = db }) query params e
 
 module _ (sql : List ℕ) (params : Row) (asked : IsAsked sql params) (old new : State) where
-  reads : old.now.schema ≡ counter_schema → old.step_limit ≡ None → (e : Error) → ¬ RefusesQuery old.step_limit old.now asked.query params e
+  reads : HasCounterTables old.now.schema → old.step_limit ≡ None → (e : Error) → ¬ RefusesQuery old.step_limit old.now asked.query params e
   reads has endless e h =
-      asked.answered old.now.trees e (subst (λ s. RefusesQuery None (record { schema = s; trees = old.now.trees }) asked.query params e) has (subst (λ limit. RefusesQuery limit old.now asked.query params e) endless h))
+      asked.answered (others_in old.now.schema) old.now.trees e (subst (λ s. RefusesQuery None (record { schema = s; trees = old.now.trees }) asked.query params e) has.ours (subst (λ limit. RefusesQuery limit old.now asked.query params e) endless h))
 
-  fails_to_read : old.now.schema ≡ counter_schema → old.step_limit ≡ None → (e : Error) → FailsToQuery sql params old new e → IsExcused old new (failure_of e)
+  fails_to_read : HasCounterTables old.now.schema → old.step_limit ≡ None → (e : Error) → FailsToQuery sql params old new e → IsExcused old new (failure_of e)
   unfolding FailsToQuery
   fails_to_read has endless e (inl h) = not_run old new sql params has asked.whole e h
   fails_to_read has endless e (inr h) =
-      let known = sym h.1.is ∙ ap (λ s. understood s sql) has in
-      let bare = subst IsPlain (sym known) asked.plain in
+      let known = sym h.1.is ∙ ap (λ s. understood s sql) has.ours in
+      let bare = subst IsPlain (sym known) (asked.plain (others_in old.now.schema)) in
       let it = rw (bare.1, append-nil params) at (subst (FailsToShow old new sql h.0 (timed params h.0.formats h.1.now) e) bare.0 h.2) in
-      let db : it.0 ≡ old.now = subst (λ b. IsSourceOf b old.now it.0) (ap (λ s. reads_listing s sql) has ∙ asked.unlisted) it.1 in
+      let db : it.0 ≡ old.now = subst (λ b. IsSourceOf b old.now it.0) (ap (λ s. reads_listing s sql) has.ours ∙ (asked.is (others_in old.now.schema)).1) it.1 in
       let refused = subst (λ d. RefusesToRead old.step_limit h.0.command d params e) db it.2 in
-      absurd (reads has endless e (subst (λ k. RefusesToRead old.step_limit k old.now params e) (ap command_of known ∙ asked.is) refused))
+      absurd (reads has endless e (subst (λ k. RefusesToRead old.step_limit k old.now params e) (ap command_of known ∙ (asked.is (others_in old.now.schema)).0) refused))
 
-  never_late : old.now.schema ≡ counter_schema → (e : Error) → ¬ IsTooLate sql params old new e
-  never_late has e h = let none = (subst IsPlain (sym (ap (λ s. understood s sql) has) ∙ h.1.is) asked.plain).0 in let some : IsSome {T = Returning} None = subst IsSome none h.2 in absurd cc
+  never_late : HasCounterTables old.now.schema → (e : Error) → ¬ IsTooLate sql params old new e
+  never_late has e h = let none = (subst IsPlain (sym (ap (λ s. understood s sql) has.ours) ∙ h.1.is) (asked.plain (others_in old.now.schema))).0 in let some : IsSome {T = Returning} None = subst IsSome none h.2 in absurd cc
 
   fails : IsInside old → old.step_limit ≡ None → (e : Error) → FailsToQuery sql params old new e ⊎ IsTooLate sql params old new e → IsExcused old new (failure_of e)
   fails inside endless e h = elim (cases_Bool old.is_open) [
@@ -157,14 +157,14 @@ abbrev pub changing : Mode
 changing = record { keys = Enforced; in_doubt = false; may_wait = false }
 
 -- a write that never stops over these trees
-abbrev pub NeverStops : Trees → Row → Option Returning → Command → Type 0
-NeverStops db params returning command = (text : List ℕ) (stop : Option Error) → ¬ Does None changing params (record { schema = counter_schema; trees = db }) text returning command (Err stop)
+abbrev pub NeverStops : Schema → Trees → Row → Option Returning → Command → Type 0
+NeverStops others db params returning command = (text : List ℕ) (stop : Option Error) → ¬ Does None changing params (record { schema = with_others others; trees = db }) text returning command (Err stop)
 
-module _ (sql : List ℕ) (params : Row) (old new : State) (has : old.now.schema ≡ counter_schema) (endless : old.step_limit ≡ None) (command : Command) (change : is_change command ≡ true) (returning : Option Returning)
-    (never : NeverStops old.now.trees params returning command) where
+module _ (sql : List ℕ) (params : Row) (old new : State) (has : HasCounterTables old.now.schema) (endless : old.step_limit ≡ None) (command : Command) (change : is_change command ≡ true) (returning : Option Returning)
+    (never : NeverStops (others_in old.now.schema) old.now.trees params returning command) where
   never_here : (text : List ℕ) (stop : Option Error) → ¬ Does old.step_limit changing params old.now text returning command (Err stop)
   never_here text stop h =
-      never text stop (subst (λ s. Does None changing params (record { schema = s; trees = old.now.trees }) text returning command (Err stop)) has (subst (λ limit. Does limit changing params old.now text returning command (Err stop)) endless h))
+      never text stop (subst (λ s. Does None changing params (record { schema = s; trees = old.now.trees }) text returning command (Err stop)) has.ours (subst (λ limit. Does limit changing params old.now text returning command (Err stop)) endless h))
 
   run_fails : (c : Compiled) → c.command ≡ command → c.returning ≡ returning → (e : Error) → RunsCommand old new sql c params (Err e) → IsExcused old new (failure_of e)
   run_fails c is shows e (inl (inl misplaced, _)) = absurd (placed command change old e (subst (λ k. IsMisplaced old k e) is misplaced))
@@ -173,28 +173,28 @@ module _ (sql : List ℕ) (params : Row) (old new : State) (has : old.now.schema
 
 -- a write of the tables
 pub record IsWritten (sql : List ℕ) (params : Row) (returning : Option Returning) (command : Command) : Type 0 where
-  pub is : command_of (understood counter_schema sql) ≡ command
-  pub shows : returning_of (understood counter_schema sql) ≡ returning
-  pub whole : IsWhole sql (length params) (understood counter_schema sql)
+  pub is : (others : Schema) → command_of (understood (with_others others) sql) ≡ command
+  pub shows : (others : Schema) → returning_of (understood (with_others others) sql) ≡ returning
+  pub whole : (others : Schema) → IsWhole sql (length params) (understood (with_others others) sql)
   pub change : is_change command ≡ true
 
-module _ (sql : List ℕ) (params : Row) (returning : Option Returning) (command : Command) (written : IsWritten sql params returning command) (old new : State) (never : NeverStops old.now.trees params returning command) where
-  formats : (c : Compiled) → understood counter_schema sql ≡ Ok c → c.formats ≡ []
-  formats c is = (subst (IsWhole sql (length params)) is written.whole).2
+module _ (sql : List ℕ) (params : Row) (returning : Option Returning) (command : Command) (written : IsWritten sql params returning command) (old new : State) (never : NeverStops (others_in old.now.schema) old.now.trees params returning command) where
+  formats : (c : Compiled) → understood (with_others (others_in old.now.schema)) sql ≡ Ok c → c.formats ≡ []
+  formats c is = (subst (IsWhole sql (length params)) is (written.whole (others_in old.now.schema))).2
 
-  module _ (has : old.now.schema ≡ counter_schema) (endless : old.step_limit ≡ None) where
+  module _ (has : HasCounterTables old.now.schema) (endless : old.step_limit ≡ None) where
     ran : (e : Error) (c : Compiled) (it : IsStatement old sql params c) → RunsCommand old new sql c (timed params c.formats it.now) (Err e) → IsExcused old new (failure_of e)
     ran e c it h =
-        let known = sym (ap (λ s. understood s sql) has) ∙ it.is in
-        run_fails sql params old new has endless command written.change returning never c (sym (ap command_of known) ∙ written.is) (sym (ap returning_of known) ∙ written.shows) e
+        let known = sym (ap (λ s. understood s sql) has.ours) ∙ it.is in
+        run_fails sql params old new has endless command written.change returning never c (sym (ap command_of known) ∙ written.is (others_in old.now.schema)) (sym (ap returning_of known) ∙ written.shows (others_in old.now.schema)) e
         (rw (formats c known, append-nil params) at h)
 
     fails_to_execute : returning ≡ None → (e : Error) → ExecutesIn false sql params old new (Err e) → IsExcused old new (failure_of e)
     unfolding ExecutesIn
     fails_to_execute quiet e (inl h) = not_run old new sql params has written.whole e h
     fails_to_execute quiet e (inr h) =
-        let known = sym (ap (λ s. understood s sql) has) ∙ h.1.is in
-        let silent : shows_rows false h.0 ≡ false = shows_none h.0 (sym (ap command_of known) ∙ written.is) (sym (ap returning_of known) ∙ written.shows ∙ quiet) in
+        let known = sym (ap (λ s. understood s sql) has.ours) ∙ h.1.is in
+        let silent : shows_rows false h.0 ≡ false = shows_none h.0 (sym (ap command_of known) ∙ written.is (others_in old.now.schema)) (sym (ap returning_of known) ∙ written.shows (others_in old.now.schema) ∙ quiet) in
         ran e h.0 h.1 (rw silent at h.2)
       where
         quiet_change : (k : Command) → is_change k ≡ true → (is_query k || (not false && (is_pragma k || false))) ≡ false
@@ -210,15 +210,15 @@ module _ (sql : List ℕ) (params : Row) (returning : Option Returning) (command
     unfolding EndsScope
     fails_inside quiet e (inl h) = fails_to_execute quiet e h.0
     fails_inside quiet e (inr h) =
-        let known = sym (ap (λ s. understood s sql) has) ∙ h.0.1.is in
-        absurd (stays command written.change 0 old (subst (Escapes 0 old) (sym (ap command_of known) ∙ written.is) h.0.2))
+        let known = sym (ap (λ s. understood s sql) has.ours) ∙ h.0.1.is in
+        absurd (stays command written.change 0 old (subst (Escapes 0 old) (sym (ap command_of known) ∙ written.is (others_in old.now.schema)) h.0.2))
 
 -- what the trees obey is unique
-pub unique_in : (s : State) → s.now.schema ≡ counter_schema → IsDatabase s.now → Keeps Unique counter_schema s.now.trees
-unique_in s has sound = subst (λ schema. Keeps Unique schema s.now.trees) has (sound.obeys.rules Unique)
+pub unique_in : (s : State) → HasCounterTables s.now.schema → IsDatabase s.now → Keeps Unique (with_others (others_in s.now.schema)) s.now.trees
+unique_in s has sound = subst (λ schema. Keeps Unique schema s.now.trees) has.ours (sound.obeys.rules Unique)
 
 module _ (sql : List ℕ) (params : Row) (returning : Option Returning) (command : Command) (written : IsWritten sql params returning command) (old new : State) (inside : IsInside old) (endless : old.step_limit ≡ None)
-    (stays : IsTrue old.is_open → NeverStops old.now.trees params returning command) where
+    (stays : IsTrue old.is_open → NeverStops (others_in old.now.schema) old.now.trees params returning command) where
   -- a write that never stops, in a transaction, fails if the device does
   pub stays_excused : returning ≡ None → (e : Error) → (IsTrue old.in_transaction → ExecutesInside 0 sql params old new (Err e)) → IsExcused old new (failure_of e)
   stays_excused quiet e runs = elim (cases_Bool old.is_open) [
@@ -227,9 +227,9 @@ module _ (sql : List ℕ) (params : Row) (returning : Option Returning) (command
   ]
 
 module _ (sql : List ℕ) (params : Row) (returning : Option Returning) (command : Command) (written : IsWritten sql params returning command) (old new : State) (count : ℕ) (rows : Rows) (room : HasRoom count old) (sees : Sees old rows)
-    (stays : Holds old.now.trees rows → Keeps Unique counter_schema old.now.trees → HasRoomIn count old.now.trees → NeverStops old.now.trees params returning command) (inside : IsInside old) (endless : old.step_limit ≡ None) where
-  goes_on : IsTrue old.is_open → NeverStops old.now.trees params returning command
-  goes_on is_open = let seen = sees is_open in let sound = room is_open in stays seen.1 (unique_in old seen.0 sound.0) sound.1
+    (stays : AreOthers (others_in old.now.schema) → Holds old.now.trees rows → Keeps Unique (with_others (others_in old.now.schema)) old.now.trees → HasRoomIn count old.now.trees → NeverStops (others_in old.now.schema) old.now.trees params returning command) (inside : IsInside old) (endless : old.step_limit ≡ None) where
+  goes_on : IsTrue old.is_open → NeverStops (others_in old.now.schema) old.now.trees params returning command
+  goes_on is_open = let seen = sees is_open in let sound = room is_open in stays seen.0.others seen.1 (unique_in old seen.0 sound.0) sound.1
 
   -- a write in a transaction fails if the device does
   pub write_excused : returning ≡ None → (e : Error) → (IsTrue old.in_transaction → ExecutesInside 0 sql params old new (Err e)) → IsExcused old new (failure_of e)

@@ -1,5 +1,5 @@
 -- What setting the day does.
-use Rattle.std.proofs.Common.{◌≡◌, ℕ, ℤ, pos, List, [], ◌∷◌, true, false, Some, None, Option, Ok, refl, sym, ap, subst, ◌∙◌}
+use Rattle.std.proofs.Common.{◌≡◌, ℕ, ℤ, pos, List, [], ◌∷◌, true, false, Some, None, Option, Ok, refl, sym, ap, subst, ◌∙◌, arith}
 use Rattle.std.specs.Prelude.{option_map}
 use Rattle.std.specs.Option.{option_to_list}
 use Rattle.std.specs.FinMap.{get, insert}
@@ -18,14 +18,16 @@ use Rattle.sqlite.specs.Query.{IsAnswer}
 use Rattle.sqlite.specs.Program.{overlay}
 use Rattle.sqlite.specs.Listing.{understood}
 use Rattle.sqlite.specs.State.{State, mode_of, Executes}
-use Rattle.sqlite.proofs.Callers.{statement_of, runs_as, one_step}
-use Rattle.ee_store_tables.specs.Tables.{counter_schema, desk}
+use Rattle.sqlite.proofs.Callers.{statement_of}
+use Rattle.ee_store_tables.specs.Tables.{desk, HasCounterTables, with_others, others_in}
 use Rattle.ee_store_tables.specs.Keyed.{row_of, HoldsMap}
 use Rattle.ee_store_tables.specs.Rows.{Rows, Holds, DeskRow, desk_columns, optional, with_day, day_set}
 use Rattle.ee_store_tables.proofs.Meaning.{set_day_text, set_day_query, set_day_is, set_day_plain}
 use Rattle.ee_store_tables.proofs.ReadLemmas.{found_by_number}
 use Rattle.ee_store_tables.proofs.KeyedLemmas.{replaces_keyed}
 use Rattle.ee_store_tables.proofs.WriteLemmas.{cast_int, cast_null, cast_optional, went, same_value, fresh_one, Same, with_desk}
+use Rattle.ee_store_tables.proofs.OtherLemmas.{one_write, Follows, AllButOne, follows, same_ours}
+use Rattle.ee_store_tables.proofs.OurLemmas.{runs_ours}
 
 abbrev pub given_days : Option ℕ → Option ℕ → Row
 given_days day last_day = Int (pos 1) ∷ optional day ∷ optional last_day ∷ []
@@ -65,26 +67,27 @@ module _ (day last_day : Option ℕ) (db new : Trees) (rows : Rows) (stands : Ho
       with_desk db new rows stands (insert rows.desk 1 next) same
       (subst (λ rs. HoldsMap desk_columns rs (insert rows.desk 1 next)) (sym (put ∙ ap (edited db) is_edit)) (replaces_keyed desk_columns 1 (db 0) rows.desk stands.desk d next is free))
 
-pub sets_day : (old new : State) (day last_day : Option ℕ) (count : ℕ) → old.now.schema ≡ counter_schema → Executes set_day_text (given_days day last_day) old new (Ok count)
-    → (new.now.schema ≡ counter_schema) × ((rows : Rows) → Holds old.now.trees rows → Holds new.now.trees (with_day rows day last_day)) × IsDatabase new.now × Same 0 old.now.trees new.now.trees
+pub sets_day : (old new : State) (day last_day : Option ℕ) (count : ℕ) → HasCounterTables old.now.schema → Executes set_day_text (given_days day last_day) old new (Ok count)
+    → Follows old.now new.now × ((rows : Rows) → Holds old.now.trees rows → Holds new.now.trees (with_day rows day last_day)) × IsDatabase new.now × Same 0 old.now.trees new.now.trees
 sets_day old new day last_day count has h =
     let params = given_days day last_day in
     let db = old.now.trees in
     let command = Update 0 (record { lets = []; body = set_day_query }) in
-    let w = runs_as set_day_text params old new counter_schema has command set_day_is set_day_plain count h in
-    let text = statement_of set_day_text (understood counter_schema set_day_text) in
-    let done = went (subst (λ s. Does old.step_limit (mode_of old) params (record old.now { schema = s }) text None command (Ok (w.tally, new.now))) has w.changed) in
+    let w = runs_ours set_day_text params old new has command set_day_is set_day_plain count h in
+    let text = statement_of set_day_text (understood (with_others (others_in old.now.schema)) set_day_text) in
+    let done = went (subst (λ s. Does old.step_limit (mode_of old) params (record old.now { schema = s }) text None command (Ok (w.tally, new.now))) has.ours w.changed) in
     let now = ap (λ (p : Tally × Database). p.1) (same_value (went (went done.2).2).2) in
     let asked = went done.1 in
     let written = went asked.2 in
     let trees : done.0.trees ≡ written.0 = ap (λ (it : Written). it.trees) (same_value written.2) in
     let a : IsAnswer set_day_query (overlay db []) params asked.0 = asked.1.answer Null in
     let edit = edit_of db desk (ids_of asked.0) Given 1 asked.0 in
-    let applied = one_step counter_schema _ db written.0 edit refl written.1 in
+    let applied = one_write (others_in old.now.schema) has.others _ db written.0 edit written.1 in
     let after : new.now.trees ≡ written.0 = ap (λ (d : Database). d.trees) now ∙ trees in
     let put = ap (λ (trees : Trees). trees 0) after ∙ applied.rows in
-    let same : Same 0 db new.now.trees = subst (Same 0 db) (sym after) applied.tables in (
-      ap (λ (d : Database). d.schema) now,
+    let kept : AllButOne (others_in old.now.schema) 0 db new.now.trees = subst (AllButOne (others_in old.now.schema) 0 db) (sym after) applied.tables in
+    let same : Same 0 db new.now.trees = same_ours (others_in old.now.schema) 0 db new.now.trees kept in (
+      follows old.now new.now has 0 (omega arith) (ap (λ (d : Database). d.schema) now) kept,
       λ rows stands. day_holds day last_day db new.now.trees rows stands same asked.0 a put applied.fresh (get rows.desk 1) refl,
       w.sound,
       same,

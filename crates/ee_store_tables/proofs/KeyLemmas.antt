@@ -20,13 +20,15 @@ use Rattle.sqlite_schema.specs.declared.schema.Constraint.TheVariants.{Unique}
 use Rattle.sqlite_schema.specs.Rules.{agree, differ, clashes, passes}
 use Rattle.sqlite_keyed.proofs.RuleLemmas.{first_of_both, second_of_both}
 use Rattle.sqlite_keyed.proofs.ListLemmas.{all_weaker, all_both, all-filter, any_from_none, none_from_any, all_unmap}
-use Rattle.ee_store_tables.specs.Tables.{counter_schema, bonds, paid, answers}
+use Rattle.sqlite.specs.Schema.{Schema}
+use Rattle.ee_store_tables.specs.Tables.{bonds, paid, answers, with_others, AreOthers}
 use Rattle.ee_store_tables.specs.Keyed.{pair_cmp, stored, HoldsPairs, ReadAlike, AreRows}
 use Rattle.ee_store_tables.specs.Rows.{PaidRow, paid_columns}
 use Rattle.ee_store_tables.proofs.PairLemmas.{tied}
 use Rattle.ee_store_tables.proofs.HoldsLemmas.{pair_total, pair_same, never_tied}
 use Rattle.ee_store_tables.proofs.SelectLemmas.{truth_of, equals_holds}
 use Rattle.ee_store_tables.proofs.WriteLemmas.{not_so}
+use Rattle.ee_store_tables.proofs.OtherLemmas.{unguarded}
 
 neither : (a b : Bool) → a ≡ false → b ≡ false → (a || b) ≡ false
 neither true b h k = absurd cc
@@ -85,26 +87,26 @@ left_apart places p rows apart =
     all-filter _ p rows (all_weaker (λ r. clashes plain places rows r ≡ false) (λ r. clashes plain places (filter p rows) r ≡ false) (λ r h. any_from_none _ (filter p rows) (all-filter _ p rows (none_from_any _ rows h))) rows apart)
 
 -- what the rules of the tables say
-pub bonds_apart : (db : Trees) → AllByRecursion (λ r. passes Unique counter_schema db bonds r ≡ true) (db 2) → AllByRecursion (λ r. clashes plain (1 ∷ 2 ∷ []) (db 2) r ≡ false) (db 2)
-bonds_apart db = all_weaker (λ r. passes Unique counter_schema db bonds r ≡ true) (λ r. clashes plain (1 ∷ 2 ∷ []) (db 2) r ≡ false) (λ r h. not_so _ (first_of_both _ _ h)) (db 2)
+pub bonds_apart : (others : Schema) (db : Trees) → AllByRecursion (λ r. passes Unique (with_others others) db bonds r ≡ true) (db 2) → AllByRecursion (λ r. clashes plain (1 ∷ 2 ∷ []) (db 2) r ≡ false) (db 2)
+bonds_apart others db = all_weaker (λ r. passes Unique (with_others others) db bonds r ≡ true) (λ r. clashes plain (1 ∷ 2 ∷ []) (db 2) r ≡ false) (λ r h. not_so _ (first_of_both _ _ h)) (db 2)
 
-pub bonds_unique : (db : Trees) → AllByRecursion (λ r. clashes plain (1 ∷ 2 ∷ []) (db 2) r ≡ false) (db 2) → AllByRecursion (λ r. passes Unique counter_schema db bonds r ≡ true) (db 2)
-bonds_unique db = all_weaker (λ r. clashes plain (1 ∷ 2 ∷ []) (db 2) r ≡ false) (λ r. passes Unique counter_schema db bonds r ≡ true) (λ r e. ap (λ b. not b && true) e) (db 2)
+pub bonds_unique : (others : Schema) → AreOthers others → (db : Trees) → AllByRecursion (λ r. clashes plain (1 ∷ 2 ∷ []) (db 2) r ≡ false) (db 2) → AllByRecursion (λ r. passes Unique (with_others others) db bonds r ≡ true) (db 2)
+bonds_unique others them db = all_weaker (λ r. clashes plain (1 ∷ 2 ∷ []) (db 2) r ≡ false) (λ r. passes Unique (with_others others) db bonds r ≡ true) (λ r e. rw (e, unguarded others them bonds (omega arith) db r) refl) (db 2)
 
-pub answers_apart : (db : Trees) → AllByRecursion (λ r. passes Unique counter_schema db answers r ≡ true) (db 13) → AllByRecursion (λ r. clashes plain (1 ∷ 2 ∷ []) (db 13) r ≡ false) (db 13)
-answers_apart db = all_weaker (λ r. passes Unique counter_schema db answers r ≡ true) (λ r. clashes plain (1 ∷ 2 ∷ []) (db 13) r ≡ false) (λ r h. not_so _ (first_of_both _ _ h)) (db 13)
+pub answers_apart : (others : Schema) (db : Trees) → AllByRecursion (λ r. passes Unique (with_others others) db answers r ≡ true) (db 13) → AllByRecursion (λ r. clashes plain (1 ∷ 2 ∷ []) (db 13) r ≡ false) (db 13)
+answers_apart others db = all_weaker (λ r. passes Unique (with_others others) db answers r ≡ true) (λ r. clashes plain (1 ∷ 2 ∷ []) (db 13) r ≡ false) (λ r h. not_so _ (first_of_both _ _ h)) (db 13)
 
-pub answers_unique : (db : Trees) → AllByRecursion (λ r. clashes plain (1 ∷ 2 ∷ []) (db 13) r ≡ false) (db 13) → AllByRecursion (λ r. passes Unique counter_schema db answers r ≡ true) (db 13)
-answers_unique db = all_weaker (λ r. clashes plain (1 ∷ 2 ∷ []) (db 13) r ≡ false) (λ r. passes Unique counter_schema db answers r ≡ true) (λ r e. ap (λ b. not b && true) e) (db 13)
+pub answers_unique : (others : Schema) → AreOthers others → (db : Trees) → AllByRecursion (λ r. clashes plain (1 ∷ 2 ∷ []) (db 13) r ≡ false) (db 13) → AllByRecursion (λ r. passes Unique (with_others others) db answers r ≡ true) (db 13)
+answers_unique others them db = all_weaker (λ r. clashes plain (1 ∷ 2 ∷ []) (db 13) r ≡ false) (λ r. passes Unique (with_others others) db answers r ≡ true) (λ r e. rw (e, unguarded others them answers (omega arith) db r) refl) (db 13)
 
-pub places_apart : (db : Trees) → AllByRecursion (λ r. passes Unique counter_schema db paid r ≡ true) (db 7) → AllByRecursion (λ r. clashes plain (1 ∷ 2 ∷ []) (db 7) r ≡ false) (db 7)
-places_apart db = all_weaker (λ r. passes Unique counter_schema db paid r ≡ true) (λ r. clashes plain (1 ∷ 2 ∷ []) (db 7) r ≡ false) (λ r h. not_so _ (first_of_both _ _ h)) (db 7)
+pub places_apart : (others : Schema) (db : Trees) → AllByRecursion (λ r. passes Unique (with_others others) db paid r ≡ true) (db 7) → AllByRecursion (λ r. clashes plain (1 ∷ 2 ∷ []) (db 7) r ≡ false) (db 7)
+places_apart others db = all_weaker (λ r. passes Unique (with_others others) db paid r ≡ true) (λ r. clashes plain (1 ∷ 2 ∷ []) (db 7) r ≡ false) (λ r h. not_so _ (first_of_both _ _ h)) (db 7)
 
-pub paid_apart : (db : Trees) → AllByRecursion (λ r. passes Unique counter_schema db paid r ≡ true) (db 7) → AllByRecursion (λ r. clashes plain (3 ∷ 4 ∷ []) (db 7) r ≡ false) (db 7)
-paid_apart db = all_weaker (λ r. passes Unique counter_schema db paid r ≡ true) (λ r. clashes plain (3 ∷ 4 ∷ []) (db 7) r ≡ false) (λ r h. not_so _ (first_of_both _ _ (second_of_both _ _ h))) (db 7)
+pub paid_apart : (others : Schema) (db : Trees) → AllByRecursion (λ r. passes Unique (with_others others) db paid r ≡ true) (db 7) → AllByRecursion (λ r. clashes plain (3 ∷ 4 ∷ []) (db 7) r ≡ false) (db 7)
+paid_apart others db = all_weaker (λ r. passes Unique (with_others others) db paid r ≡ true) (λ r. clashes plain (3 ∷ 4 ∷ []) (db 7) r ≡ false) (λ r h. not_so _ (first_of_both _ _ (second_of_both _ _ h))) (db 7)
 
-pub paid_unique : (db : Trees) → AllByRecursion (λ r. clashes plain (1 ∷ 2 ∷ []) (db 7) r ≡ false) (db 7) → AllByRecursion (λ r. clashes plain (3 ∷ 4 ∷ []) (db 7) r ≡ false) (db 7) → AllByRecursion (λ r. passes Unique counter_schema db paid r ≡ true) (db 7)
-paid_unique db = all_both (λ r. clashes plain (1 ∷ 2 ∷ []) (db 7) r ≡ false) (λ r. clashes plain (3 ∷ 4 ∷ []) (db 7) r ≡ false) (λ r. passes Unique counter_schema db paid r ≡ true) (λ r d e. rw (d, e) refl) (db 7)
+pub paid_unique : (others : Schema) → AreOthers others → (db : Trees) → AllByRecursion (λ r. clashes plain (1 ∷ 2 ∷ []) (db 7) r ≡ false) (db 7) → AllByRecursion (λ r. clashes plain (3 ∷ 4 ∷ []) (db 7) r ≡ false) (db 7) → AllByRecursion (λ r. passes Unique (with_others others) db paid r ≡ true) (db 7)
+paid_unique others them db = all_both (λ r. clashes plain (1 ∷ 2 ∷ []) (db 7) r ≡ false) (λ r. clashes plain (3 ∷ 4 ∷ []) (db 7) r ≡ false) (λ r. passes Unique (with_others others) db paid r ≡ true) (λ r d e. rw (d, e, unguarded others them paid (omega arith) db r) refl) (db 7)
 
 -- ---- keys of two numbers
 

@@ -1,5 +1,5 @@
 -- What marking a bond as paid does.
-use Rattle.std.proofs.Common.{◌≡◌, ℕ, ℤ, pos, List, [], ◌∷◌, filter, true, false, Some, None, Option, Ok, refl, sym, ap, subst, ◌∙◌}
+use Rattle.std.proofs.Common.{◌≡◌, ℕ, ℤ, pos, List, [], ◌∷◌, filter, true, false, Some, None, Option, Ok, refl, sym, ap, subst, ◌∙◌, arith}
 use Rattle.std.specs.Option.{option_to_list}
 use Rattle.std.specs.Prelude.{option_map}
 use Rattle.std.specs.FinMap.{get, insert}
@@ -18,8 +18,8 @@ use Rattle.sqlite.specs.Tree.{Trees, has_rowid, without_rowid}
 use Rattle.sqlite.specs.Effect.{Database, IsDatabase}
 use Rattle.sqlite.specs.Listing.{understood}
 use Rattle.sqlite.specs.State.{State, mode_of, Executes}
-use Rattle.sqlite.proofs.Callers.{statement_of, runs_as, one_step}
-use Rattle.ee_store_tables.specs.Tables.{bonds, counter_schema}
+use Rattle.sqlite.proofs.Callers.{statement_of}
+use Rattle.ee_store_tables.specs.Tables.{bonds, HasCounterTables, with_others, others_in}
 use Rattle.ee_store_tables.specs.Keyed.{stored, ReadAlike, HoldsPairs}
 use Rattle.ee_store_tables.specs.Rows.{BondRow, bond_columns, Rows, Holds, marked, marked_as, Rises}
 use Rattle.ee_store_tables.proofs.Meaning.{mark_bond_text, mark_bond_query, mark_bond_is, mark_bond_plain}
@@ -34,6 +34,8 @@ use Rattle.sqlite_value.proofs.OrderLemmas.{value_cmp-Int}
 use Rattle.ee_store_tables.proofs.ReadLemmas.{found_by_pair}
 use Rattle.ee_store_tables.proofs.BondLemmas.{Stored, key_params}
 use Rattle.ee_store_tables.proofs.WriteLemmas.{cast_int, cast_integer, cast_optional, went, same_value, fresh_one, Same, with_bonds}
+use Rattle.ee_store_tables.proofs.OtherLemmas.{one_write, Follows, AllButOne, follows, same_ours}
+use Rattle.ee_store_tables.proofs.OurLemmas.{runs_ours}
 
 abbrev mark_row : Stored → ℕ → Row
 mark_row p t = Int p.0 ∷ Int p.0 ∷ Int (pos p.1.0.0) ∷ Int (pos p.1.0.1) ∷ bond_columns (record p.1.1 { ticket = Some t })
@@ -99,27 +101,28 @@ module _ (k : ℕ × ℕ) (t : ℕ) (db new : Trees) (rows : Rows) (stands : Hol
       subst (Rises 1 n) (sym (put ∙ ap (edited db) (marks_one k t db rows stands asked a x one.0 one.1)))
       (rises_again n one.0 (stored bond_columns (one.0, (k, record x { ticket = Some t }))) refl (db 2) room (bond_has_rowid k db rows stands x one.0 one.1))
 
-pub marks : (old new : State) (k : ℕ × ℕ) (t : ℕ) (count : ℕ) → old.now.schema ≡ counter_schema → Executes mark_bond_text (key_params k (Int (pos t) ∷ [])) old new (Ok count)
-    → (new.now.schema ≡ counter_schema) × ((rows : Rows) → Holds old.now.trees rows → Holds new.now.trees (marked rows k t)) × IsDatabase new.now × Same 2 old.now.trees new.now.trees
+pub marks : (old new : State) (k : ℕ × ℕ) (t : ℕ) (count : ℕ) → HasCounterTables old.now.schema → Executes mark_bond_text (key_params k (Int (pos t) ∷ [])) old new (Ok count)
+    → Follows old.now new.now × ((rows : Rows) → Holds old.now.trees rows → Holds new.now.trees (marked rows k t)) × IsDatabase new.now × Same 2 old.now.trees new.now.trees
     × ((rows : Rows) → Holds old.now.trees rows → (n : ℕ) → Rises 1 n (old.now.trees 2) → Rises 1 n (new.now.trees 2))
 marks old new k t count has h =
     let params = key_params k (Int (pos t) ∷ []) in
     let db = old.now.trees in
     let command = Update 2 (record { lets = []; body = mark_bond_query }) in
-    let w = runs_as mark_bond_text params old new counter_schema has command mark_bond_is mark_bond_plain count h in
-    let text = statement_of mark_bond_text (understood counter_schema mark_bond_text) in
-    let done = went (subst (λ s. Does old.step_limit (mode_of old) params (record old.now { schema = s }) text None command (Ok (w.tally, new.now))) has w.changed) in
+    let w = runs_ours mark_bond_text params old new has command mark_bond_is mark_bond_plain count h in
+    let text = statement_of mark_bond_text (understood (with_others (others_in old.now.schema)) mark_bond_text) in
+    let done = went (subst (λ s. Does old.step_limit (mode_of old) params (record old.now { schema = s }) text None command (Ok (w.tally, new.now))) has.ours w.changed) in
     let now = ap (λ (p : Tally × Database). p.1) (same_value (went (went done.2).2).2) in
     let asked = went done.1 in
     let written = went asked.2 in
     let trees : done.0.trees ≡ written.0 = ap (λ (it : Written). it.trees) (same_value written.2) in
     let a : IsAnswer mark_bond_query (overlay db []) params asked.0 = asked.1.answer Null in
     let edit = edit_of db bonds (ids_of asked.0) Given 1 asked.0 in
-    let applied = one_step counter_schema _ db written.0 edit refl written.1 in
+    let applied = one_write (others_in old.now.schema) has.others _ db written.0 edit written.1 in
     let after : new.now.trees ≡ written.0 = ap (λ (d : Database). d.trees) now ∙ trees in
     let put = ap (λ (trees : Trees). trees 2) after ∙ applied.rows in
-    let same : Same 2 db new.now.trees = subst (Same 2 db) (sym after) applied.tables in (
-      ap (λ (d : Database). d.schema) now,
+    let kept : AllButOne (others_in old.now.schema) 2 db new.now.trees = subst (AllButOne (others_in old.now.schema) 2 db) (sym after) applied.tables in
+    let same : Same 2 db new.now.trees = same_ours (others_in old.now.schema) 2 db new.now.trees kept in (
+      follows old.now new.now has 2 (omega arith) (ap (λ (d : Database). d.schema) now) kept,
       λ rows stands. marked_holds k t db new.now.trees rows stands same asked.0 a put applied.fresh (get rows.bonds k) refl,
       w.sound,
       same,

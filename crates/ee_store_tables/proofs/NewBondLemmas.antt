@@ -19,7 +19,8 @@ use Rattle.sqlite_value.specs.Keys.{plain}
 use Rattle.sqlite_keyed.proofs.RuleLemmas.{first_of_both, second_of_both}
 use Rattle.ee_store_tables.specs.declared.records.UnpaidBond.{UnpaidBond}
 use Rattle.ee_store_tables.specs.AsRows.{key_of_unpaid, row_of_unpaid, entry_of_unpaid}
-use Rattle.ee_store_tables.specs.Tables.{bonds, counter_schema}
+use Rattle.sqlite.specs.Schema.{Schema}
+use Rattle.ee_store_tables.specs.Tables.{bonds, with_others, AreOthers}
 use Rattle.ee_store_tables.specs.Keyed.{pair_cmp, stored, HoldsPairs}
 use Rattle.ee_store_tables.specs.Rows.{number, optional, BondRow, bond_columns, insert_new, HasRoom, Rises}
 use Rattle.ee_store_tables.proofs.UniqueLemmas.{was_new, all_put}
@@ -30,6 +31,7 @@ use Rattle.ee_store_tables.proofs.RefusalLemmas.{bare_optional, bare_storable, o
 use Rattle.ee_store_tables.proofs.RoomLemmas.{HasNext, has_next, rises_less, room_put}
 use Rattle.ee_store_tables.proofs.PlacesLemmas.{all_before, apart_before}
 use Rattle.ee_store_tables.proofs.WriteLemmas.{cast_int, cast_null, cast_optional, not_so, Same}
+use Rattle.ee_store_tables.proofs.OtherLemmas.{unindexed}
 
 -- the row of a bond, if a table has these rows before it
 abbrev pub bond_row : List Row → UnpaidBond → Row
@@ -107,25 +109,25 @@ puts_bonds (x ∷ xs) rows m held can room serials =
     record { fresh = rw (free, rest.fresh) refl; fits = rw (fits, rest.fits) refl; serials = rest.serials }
 
 -- the columns have their types
-bond_typed : (db : Trees) (rows : List Row) (x : UnpaidBond) (o : Option ℕ) → o ≡ x.coowner → passes Datatype counter_schema db bonds (bond_row rows x) ≡ true
-bond_typed db rows x None is = subst (λ o. passes Datatype counter_schema db bonds (Int (next_rowid rows) ∷ number x.letter ∷ number x.number ∷ number x.denom ∷ number x.issued ∷ number x.owner ∷ optional o ∷ Null ∷ []) ≡ true) is refl
-bond_typed db rows x (Some n) is = subst (λ o. passes Datatype counter_schema db bonds (Int (next_rowid rows) ∷ number x.letter ∷ number x.number ∷ number x.denom ∷ number x.issued ∷ number x.owner ∷ optional o ∷ Null ∷ []) ≡ true) is refl
+bond_typed : (others : Schema) (db : Trees) (rows : List Row) (x : UnpaidBond) (o : Option ℕ) → o ≡ x.coowner → passes Datatype (with_others others) db bonds (bond_row rows x) ≡ true
+bond_typed others db rows x None is = subst (λ o. passes Datatype (with_others others) db bonds (Int (next_rowid rows) ∷ number x.letter ∷ number x.number ∷ number x.denom ∷ number x.issued ∷ number x.owner ∷ optional o ∷ Null ∷ []) ≡ true) is refl
+bond_typed others db rows x (Some n) is = subst (λ o. passes Datatype (with_others others) db bonds (Int (next_rowid rows) ∷ number x.letter ∷ number x.number ∷ number x.denom ∷ number x.issued ∷ number x.owner ∷ optional o ∷ Null ∷ []) ≡ true) is refl
 
-pub bonds_typed : (db : Trees) (xs : List UnpaidBond) (rows : List Row) → list_all (passes Datatype counter_schema db bonds) (bond_rows rows xs) ≡ true
-bonds_typed db [] rows = refl
-bonds_typed db (x ∷ xs) rows = rw (bond_typed db rows x x.coowner refl, bonds_typed db xs (put_row (bond_row rows x) rows)) refl
+pub bonds_typed : (others : Schema) (db : Trees) (xs : List UnpaidBond) (rows : List Row) → list_all (passes Datatype (with_others others) db bonds) (bond_rows rows xs) ≡ true
+bonds_typed others db [] rows = refl
+bonds_typed others db (x ∷ xs) rows = rw (bond_typed others db rows x x.coowner refl, bonds_typed others db xs (put_row (bond_row rows x) rows)) refl
 
 -- each row may be stored, and so may its entries in the indexes
-pub bonds_small : (xs : List UnpaidBond) (rows : List Row) (r : Row) → Has (bond_rows rows xs) r → ¬ IsOversized counter_schema bonds r
-bonds_small [] rows r h = absurd h
-bonds_small (x ∷ xs) rows r (inr later) = bonds_small xs (put_row (bond_row rows x) rows) r later
-bonds_small (x ∷ xs) rows r (inl same) =
+pub bonds_small : (others : Schema) → AreOthers others → (xs : List UnpaidBond) (rows : List Row) (r : Row) → Has (bond_rows rows xs) r → ¬ IsOversized (with_others others) bonds r
+bonds_small others them [] rows r h = absurd h
+bonds_small others them (x ∷ xs) rows r (inr later) = bonds_small others them xs (put_row (bond_row rows x) rows) r later
+bonds_small others them (x ∷ xs) rows r (inl same) =
     let row = bond_row rows x in
-    one_fits counter_schema bonds row (bare_storable row (rw (bare_optional x.coowner) refl) (omega arith) (omega arith), omega arith) (
+    one_fits (with_others others) bonds row (bare_storable row (rw (bare_optional x.coowner) refl) (omega arith) (omega arith), omega arith) (
       λ e. bare_storable (number x.letter ∷ number x.number ∷ Int (next_rowid rows) ∷ []) refl (omega arith) (omega arith),
       (
         λ e. bare_storable (number x.owner ∷ number x.letter ∷ number x.number ∷ Int (next_rowid rows) ∷ []) refl (omega arith) (omega arith),
-        (λ e. absurd (omega (arith, e)), (λ e. absurd (omega (arith, e)), (λ e. absurd (omega (arith, e)), (λ e. absurd (omega (arith, e)), tt)))),
+        (λ e. absurd (omega (arith, e)), (λ e. absurd (omega (arith, e)), (λ e. absurd (omega (arith, e)), (λ e. absurd (omega (arith, e)), unindexed others them 2 (omega arith) _)))),
       ),
     ) r (inl same)
 

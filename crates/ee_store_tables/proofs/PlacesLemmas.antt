@@ -19,13 +19,13 @@ use Rattle.sqlite.specs.Tree.{Trees, rowid, put_row}
 use Rattle.sqlite.specs.Effect.{Database, IsDatabase}
 use Rattle.sqlite.specs.Listing.{understood}
 use Rattle.sqlite.specs.State.{State, mode_of, Executes}
-use Rattle.sqlite.proofs.Callers.{statement_of, runs_as, one_step}
+use Rattle.sqlite.proofs.Callers.{statement_of}
 use Rattle.sqlite_schema.specs.declared.schema.Constraint.TheVariants.{Unique}
 use Rattle.sqlite_schema.specs.Rules.{agree, differ, passes, clashes}
 use Rattle.sqlite_value.specs.Keys.{plain}
 use Rattle.sqlite_keyed.proofs.RuleLemmas.{first_of_both, second_of_both}
 use Rattle.sqlite_keyed.proofs.ListLemmas.{all_weaker, any_from_none, none_from_any}
-use Rattle.ee_store_tables.specs.Tables.{paid, counter_schema}
+use Rattle.ee_store_tables.specs.Tables.{paid, HasCounterTables, with_others, others_in}
 use Rattle.ee_store_tables.specs.Keyed.{pair_cmp, stored, HoldsPairs}
 use Rattle.ee_store_tables.specs.Rows.{number, PaidRow, paid_columns, Rows, Holds, HasRoom, Rises}
 use Rattle.ee_store_tables.specs.Inner.Places.{with_places}
@@ -35,6 +35,8 @@ use Rattle.ee_store_tables.proofs.PairLemmas.{alike_itself}
 use Rattle.ee_store_tables.proofs.HoldsLemmas.{pair_total, pair_same, adds_row}
 use Rattle.ee_store_tables.proofs.RoomLemmas.{rises_less, room_put}
 use Rattle.ee_store_tables.proofs.WriteLemmas.{cast_int, cast_null, went, same_value, not_so, not_foreign, Same, with_paid as with_paid_rows}
+use Rattle.ee_store_tables.proofs.OtherLemmas.{one_write, Follows, AllButOne, follows, same_ours}
+use Rattle.ee_store_tables.proofs.OurLemmas.{runs_ours}
 
 -- the row of a line, if a table has these rows before it
 abbrev pub line_row : List Row → ℕ → ℕ → PaidRow → Row
@@ -104,35 +106,36 @@ abbrev pub given_four : ℕ → ℕ → PaidRow → PaidRow → PaidRow → Paid
 given_four t place a b c d = number t ∷ number place ∷ number a.letter ∷ number a.number ∷ number a.cents ∷ number (place + 1) ∷ number b.letter ∷ number b.number ∷ number b.cents
     ∷ number (place + 1 + 1) ∷ number c.letter ∷ number c.number ∷ number c.cents ∷ number (place + 1 + 1 + 1) ∷ number d.letter ∷ number d.number ∷ number d.cents ∷ []
 
-pub adds_four : (old new : State) (t place : ℕ) (a b c d : PaidRow) (count : ℕ) → old.now.schema ≡ counter_schema → Executes add_four_text (given_four t place a b c d) old new (Ok count)
-    → (new.now.schema ≡ counter_schema) × ((rows : Rows) → Holds old.now.trees rows → Holds new.now.trees (with_places rows t place (a ∷ b ∷ c ∷ d ∷ []))) × IsDatabase new.now × Same 7 old.now.trees new.now.trees
+pub adds_four : (old new : State) (t place : ℕ) (a b c d : PaidRow) (count : ℕ) → HasCounterTables old.now.schema → Executes add_four_text (given_four t place a b c d) old new (Ok count)
+    → Follows old.now new.now × ((rows : Rows) → Holds old.now.trees rows → Holds new.now.trees (with_places rows t place (a ∷ b ∷ c ∷ d ∷ []))) × IsDatabase new.now × Same 7 old.now.trees new.now.trees
     × (new.now.trees 7 ≡ put_all (old.now.trees 7) (line_rows (old.now.trees 7) t place (a ∷ b ∷ c ∷ d ∷ [])))
 adds_four old new t place a b c d count has h =
     let params = given_four t place a b c d in
     let lines = a ∷ b ∷ c ∷ d ∷ [] in
     let db = old.now.trees in
     let command = Insert 4 (Values four_terms 6) in
-    let w = runs_as add_four_text params old new counter_schema has command add_four_is add_four_plain count h in
-    let text = statement_of add_four_text (understood counter_schema add_four_text) in
-    let done = went (subst (λ s. Does old.step_limit (mode_of old) params (record old.now { schema = s }) text None command (Ok (w.tally, new.now))) has w.changed) in
+    let w = runs_ours add_four_text params old new has command add_four_is add_four_plain count h in
+    let text = statement_of add_four_text (understood (with_others (others_in old.now.schema)) add_four_text) in
+    let done = went (subst (λ s. Does old.step_limit (mode_of old) params (record old.now { schema = s }) text None command (Ok (w.tally, new.now))) has.ours w.changed) in
     let now = ap (λ (p : Tally × Database). p.1) (same_value (went (went done.2).2).2) in
     let given_rows = went done.1 in
     let written = went (went given_rows.2).2 in
     let counted = went written.2 in
     let trees : done.0.trees ≡ written.0 = ap (λ (it : Written). it.trees) (same_value counted.2) ∙ same_value counted.1 in
     let edit = edit_of db paid [] Chosen 0 given_rows.0 in
-    let applied = one_step counter_schema _ db written.0 edit refl written.1 in
+    let applied = one_write (others_in old.now.schema) has.others _ db written.0 edit written.1 in
     let put_in = line_rows (db 7) t place lines in
     let news : edit.news ≡ put_in = ap (λ all. (edit_of db paid [] Chosen 0 all).news) given_rows.1.1 ∙ numbered_are (db 7) t place lines in
     let put : written.0 7 ≡ put_all (db 7) put_in = applied.rows ∙ ap (put_all (db 7)) news in
     let fresh : are_fresh (db 7) put_in ≡ true = subst (λ all. are_fresh (db 7) all ≡ true) news applied.fresh in
-    let unique = subst (AllByRecursion (λ r. passes Unique counter_schema written.0 paid r ≡ true)) put (applied.fits.rules Unique not_foreign).1.1.1.1.0 in
+    let unique = subst (AllByRecursion (λ r. passes Unique (with_others (others_in old.now.schema)) written.0 paid r ≡ true)) put (applied.fits.rules Unique not_foreign).1.1.1.1.0 in
     let apart : AllByRecursion (λ r. clashes plain (1 ∷ 2 ∷ []) (put_all (db 7) put_in) r ≡ false) (put_all (db 7) put_in) =
-    all_weaker (λ r. passes Unique counter_schema written.0 paid r ≡ true) (λ r. clashes plain (1 ∷ 2 ∷ []) (put_all (db 7) put_in) r ≡ false)
+    all_weaker (λ r. passes Unique (with_others (others_in old.now.schema)) written.0 paid r ≡ true) (λ r. clashes plain (1 ∷ 2 ∷ []) (put_all (db 7) put_in) r ≡ false)
     (λ r one. subst (λ rs. clashes plain (1 ∷ 2 ∷ []) rs r ≡ false) put (not_so _ (first_of_both _ _ one))) (put_all (db 7) put_in) unique in
     let after : new.now.trees ≡ written.0 = ap (λ (d : Database). d.trees) now ∙ trees in
-    let same : Same 7 db new.now.trees = subst (Same 7 db) (sym after) applied.tables in (
-      ap (λ (d : Database). d.schema) now,
+    let kept : AllButOne (others_in old.now.schema) 7 db new.now.trees = subst (AllButOne (others_in old.now.schema) 7 db) (sym after) applied.tables in
+    let same : Same 7 db new.now.trees = same_ours (others_in old.now.schema) 7 db new.now.trees kept in (
+      follows old.now new.now has 7 (omega arith) (ap (λ (d : Database). d.schema) now) kept,
       λ rows stands.
           with_paid_rows db new.now.trees rows stands (places_in rows.paid t place lines) same
           (subst (λ rs. HoldsPairs paid_columns rs (places_in rows.paid t place lines)) (sym (ap (λ (trees : Trees). trees 7) after ∙ put)) (places_hold t place lines (db 7) rows.paid stands.paid fresh apart)),

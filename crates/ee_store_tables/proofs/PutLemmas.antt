@@ -19,7 +19,8 @@ use Rattle.sqlite_schema.specs.declared.schema.Constraint.TheVariants.{Unique}
 use Rattle.sqlite_schema.specs.Rules.{Keeps, clashes}
 use Rattle.sqlite_value.specs.Keys.{plain}
 use Rattle.sqlite_keyed.proofs.RuleLemmas.{first_of_both}
-use Rattle.ee_store_tables.specs.Tables.{counter_schema, paid}
+use Rattle.sqlite.specs.Schema.{Schema}
+use Rattle.ee_store_tables.specs.Tables.{paid, with_others, AreOthers}
 use Rattle.ee_store_tables.specs.Keyed.{pair_cmp, stored, HoldsPairs}
 use Rattle.ee_store_tables.specs.Rows.{Rows, Holds, PaidRow, paid_columns, Rises}
 use Rattle.ee_store_tables.specs.Inner.Places.{CanPlaceAll}
@@ -31,6 +32,7 @@ use Rattle.ee_store_tables.proofs.CauseLemmas.{NeverStops, never_false}
 use Rattle.ee_store_tables.proofs.RefusalLemmas.{passed, no_stop, never_source, never_sourced, IsAllowed, never_edited, bare_storable, one_fits, never_concluded, all_unique, number_fits}
 use Rattle.ee_store_tables.proofs.KeyLemmas.{IsOther, put_apart, same_rowid, places_apart, paid_apart, paid_unique, other_key, all_alike, keys_differ, bonds_differ}
 use Rattle.ee_store_tables.proofs.RoomLemmas.{HasNext, has_next}
+use Rattle.ee_store_tables.proofs.OtherLemmas.{no_acts, unindexed}
 
 -- no line pays this bond
 abbrev pub NonePays : FinMap pair_cmp PaidRow → ℕ × ℕ → Type 0
@@ -66,12 +68,12 @@ puts_all t place (x ∷ xs) rows m held can room places bonds =
     record { fresh = rw (free, rest.fresh) refl; fits = rw (fits, rest.fits) refl; places = rest.places; bonds = rest.bonds }
 
 -- each row may be stored, and so may its entries in the indexes
-pub lines_small : (t place : ℕ) (xs : List PaidRow) (rows : List Row) (r : Row) → Has (line_rows rows t place xs) r → ¬ IsOversized counter_schema paid r
-lines_small t place [] rows r h = absurd h
-lines_small t place (x ∷ xs) rows r (inr later) = lines_small t (place + 1) xs (put_row (line_row rows t place x) rows) r later
-lines_small t place (x ∷ xs) rows r (inl same) =
+pub lines_small : (others : Schema) → AreOthers others → (t place : ℕ) (xs : List PaidRow) (rows : List Row) (r : Row) → Has (line_rows rows t place xs) r → ¬ IsOversized (with_others others) paid r
+lines_small others them t place [] rows r h = absurd h
+lines_small others them t place (x ∷ xs) rows r (inr later) = lines_small others them t (place + 1) xs (put_row (line_row rows t place x) rows) r later
+lines_small others them t place (x ∷ xs) rows r (inl same) =
     let row = line_row rows t place x in
-    one_fits counter_schema paid row (bare_storable row refl (omega arith) (omega arith), omega arith) (
+    one_fits (with_others others) paid row (bare_storable row refl (omega arith) (omega arith), omega arith) (
       λ e. absurd (omega (arith, e)),
       (
         λ e. absurd (omega (arith, e)),
@@ -79,7 +81,7 @@ lines_small t place (x ∷ xs) rows r (inl same) =
           λ e. absurd (omega (arith, e)),
           (
             λ e. bare_storable (Int (pos t) ∷ Int (pos place) ∷ Int (next_rowid rows) ∷ []) refl (omega arith) (omega arith),
-            (λ e. bare_storable (Int (pos x.letter) ∷ Int (pos x.number) ∷ Int (next_rowid rows) ∷ []) refl (omega arith) (omega arith), (λ e. absurd (omega (arith, e)), tt)),
+            (λ e. bare_storable (Int (pos x.letter) ∷ Int (pos x.number) ∷ Int (next_rowid rows) ∷ []) refl (omega arith) (omega arith), (λ e. absurd (omega (arith, e)), unindexed others them 7 (omega arith) _)),
           ),
         ),
       ),
@@ -87,7 +89,7 @@ lines_small t place (x ∷ xs) rows r (inl same) =
 
 -- ---- four lines by one statement
 
-module _ (db : Trees) (rows : Rows) (stands : Holds db rows) (unique : Keeps Unique counter_schema db) (room : Rises 1 4 (db 7)) (t place : ℕ) (a b c d : PaidRow) (can : CanPlaceAll rows t place (a ∷ b ∷ c ∷ d ∷ [])) where
+module _ (others : Schema) (them : AreOthers others) (db : Trees) (rows : Rows) (stands : Holds db rows) (unique : Keeps Unique (with_others others) db) (room : Rises 1 4 (db 7)) (t place : ℕ) (a b c d : PaidRow) (can : CanPlaceAll rows t place (a ∷ b ∷ c ∷ d ∷ [])) where
   abbrev four : List PaidRow
   four = a ∷ b ∷ c ∷ d ∷ []
 
@@ -98,12 +100,12 @@ module _ (db : Trees) (rows : Rows) (stands : Holds db rows) (unique : Keeps Uni
   four_edit news = record { table = paid; gone = []; news = news }
 
   puts : PutsAll (db 7) news
-  puts = puts_all t place four (db 7) rows.paid stands.paid can room (places_apart db unique.1.1.1.1.0) (paid_apart db unique.1.1.1.1.0)
+  puts = puts_all t place four (db 7) rows.paid stands.paid can room (places_apart others db unique.1.1.1.1.0) (paid_apart others db unique.1.1.1.1.0)
 
-  four_unique : Keeps Unique counter_schema (with_tree db 7 (edited db (four_edit news)))
-  four_unique = all_unique (with_tree db 7 (edited db (four_edit news))) unique.1.1.0 (paid_unique (with_tree db 7 (edited db (four_edit news))) puts.places puts.bonds) unique.1.1.1.1.1.1.1.0
+  four_unique : Keeps Unique (with_others others) (with_tree db 7 (edited db (four_edit news)))
+  four_unique = all_unique others them db 7 (omega arith) (edited db (four_edit news)) unique unique.1.1.0 (paid_unique others them (with_tree db 7 (edited db (four_edit news))) puts.places puts.bonds) unique.1.1.1.1.1.1.1.0
 
-  four_allowed : IsAllowed counter_schema Enforced db (four_edit news)
+  four_allowed : IsAllowed (with_others others) Enforced db (four_edit news)
   four_allowed = record {
     typed = refl;
     present = refl;
@@ -113,21 +115,21 @@ module _ (db : Trees) (rows : Rows) (stands : Holds db rows) (unique : Keeps Uni
     keyed = refl;
     fits = puts.fits;
     referred = refl;
-    acts = refl;
-    small = lines_small t place four (db 7);
+    acts = no_acts others them Enforced db (four_edit news);
+    small = lines_small others them t place four (db 7);
   }
 
-  four_edited : (sources : List Row) → sources ≡ line_sources t place four → (stop : Option Error) → ¬ Edited counter_schema Enforced db (edit_of db paid [] Chosen 0 sources) (Err stop)
+  four_edited : (sources : List Row) → sources ≡ line_sources t place four → (stop : Option Error) → ¬ Edited (with_others others) Enforced db (edit_of db paid [] Chosen 0 sources) (Err stop)
   four_edited sources is stop h =
       let same : edit_of db paid [] Chosen 0 sources ≡ four_edit news = ap (λ all. edit_of db paid [] Chosen 0 all) is ∙ ap four_edit (numbered_are (db 7) t place four) in
-      never_edited counter_schema Enforced db (four_edit news) four_allowed stop (subst (λ e. Edited counter_schema Enforced db e (Err stop)) same h)
+      never_edited (with_others others) Enforced db (four_edit news) four_allowed stop (subst (λ e. Edited (with_others others) Enforced db e (Err stop)) same h)
 
-  pub add_four_stays : NeverStops db (given_four t place a b c d) None (Insert 4 (Values four_terms 6))
+  pub add_four_stays : NeverStops others db (given_four t place a b c d) None (Insert 4 (Values four_terms 6))
   add_four_stays text stop h =
       let written = passed h (λ s w.
-      let given = passed w (never_sourced (record { schema = counter_schema; trees = db }) (given_four t place a b c d) (Values four_terms 6) (λ e r. never_source never_false r)) in
+      let given = passed w (never_sourced (record { schema = (with_others others); trees = db }) (given_four t place a b c d) (Values four_terms 6) (λ e r. never_source never_false r)) in
       let counter = passed given.2 (λ s e. no_stop e) in
       let edited = passed counter.2 (four_edited given.0 given.1.1) in
       let counted = passed edited.2 (λ s e. no_stop e) in
       no_stop counted.2) in
-      never_concluded paid (given_four t place a b c d) written.0 stop written.2
+      never_concluded others them paid (given_four t place a b c d) written.0 stop written.2

@@ -1,6 +1,6 @@
 -- Where nothing speaks against a write, it is not refused.
 use Rattle.std.proofs.Common.{◌≡◌, ◌≢◌, ◌⊎◌, inl, inr, ℕ, zero, suc, ◌<◌, ◌≤◌, ◌+◌, ℤ, pos, negsuc, List, [], ◌∷◌, length, Bool, true, false, Some, None, Option, Ok, Err, Result, refl, sym, ap, subst, ◌∙◌, arith, ◌^◌, nat_cmp, true≢false, mul-le-mul_right, length-append}
-use Rattle.std.specs.Prelude.{◌&&◌, IsSome, if◌then◌else◌}
+use Rattle.std.specs.Prelude.{◌&&◌, not, IsSome, if◌then◌else◌}
 use Rattle.std.specs.List.{AllByRecursion, list_all}
 use Rattle.std.specs.Float.{NotNan}
 use Rattle.std.specs.Float.Ieee
@@ -23,7 +23,7 @@ use Rattle.sqlite_sql.specs.Ops.{fits_i64}
 use Rattle.sqlite_sql.specs.Catalog.{entry_of}
 use Rattle.sqlite_schema.specs.declared.schema.Keys.{Keys}
 use Rattle.sqlite_schema.specs.declared.schema.Constraint.TheVariants.{Datatype, NotNull, Check, PrimaryKey, Unique, ForeignKey}
-use Rattle.sqlite_schema.specs.Rules.{Keeps, passes, table_reals, index_reals, Refers}
+use Rattle.sqlite_schema.specs.Rules.{Keeps, passes, guards, clashes, table_reals, index_reals, Refers}
 use Rattle.sqlite_rules.specs.declared.error.Refusal.{Refusal}
 use Rattle.sqlite_rules.specs.declared.error.Refusal.TheVariants.{Violates, Mismatch, NoRowid, BadReference, TooDeep}
 use Rattle.sqlite_rules.specs.Lists.{Has}
@@ -41,13 +41,14 @@ use Rattle.std.proofs.lemmas.Cmp.{nat_cmp_total}
 use Rattle.std.specs.Ordering.{is_eq}
 use Rattle.std.specs.FinMap.{FinMap, get, nat_cmp-IsAntisymmetric}
 use Rattle.ee_store_tables.specs.Rows.{optional}
-use Rattle.ee_store_tables.specs.Tables.{counter_schema, bonds, paid, answers}
+use Rattle.ee_store_tables.specs.Tables.{bonds, paid, answers, with_others, AreOthers, desk, rates, tickets, batches, extensions}
 use Rattle.ee_store_tables.specs.Keyed.{row_of, HoldsMap}
 use Rattle.ee_store_tables.proofs.PairLemmas.{tied, any_alike}
 use Rattle.ee_store_tables.proofs.HoldsLemmas.{never_tied}
 use Rattle.ee_store_tables.proofs.ReadLemmas.{keyed_rows}
 use Rattle.ee_store_tables.proofs.SelectLemmas.{cmp_pos, turned_test}
 use Rattle.ee_store_tables.proofs.CauseLemmas.{changing}
+use Rattle.ee_store_tables.proofs.OtherLemmas.{no_references, unguarded, still_unique}
 
 -- a part that did not stop went on
 pub passed : {B E R : Type 0} {b : Result B E} {Stops : E → Type 0} → ((stop : E) × Stops stop × (b ≡ Err stop)) ⊎ R → ((stop : E) → ¬ Stops stop) → R
@@ -162,33 +163,55 @@ one_fits schema table row fits entries r (inl same) (inr big) =
 
 -- ---- after the write
 
--- no table refers to another
-pub no_references : (among : Among) (db : Trees) → Refers among counter_schema db
-no_references among db = (each_true _, (each_true _, (each_true _, (each_true _, (each_true _, (each_true _, (each_true _, (each_true _, tt))))))))
+abbrev pub task_on : Schema → Table → Row → Task
+task_on others table params = record { limit = None; keys = Enforced; schema = with_others others; table = table; params = params }
 
-abbrev pub task_on : Table → Row → Task
-task_on table params = record { limit = None; keys = Enforced; schema = counter_schema; table = table; params = params }
-
-pub never_concluded : (table : Table) (params : Row) (w : Written) (stop : Option Error) → ¬ Concludes (task_on table params) changing None w (Err stop)
-never_concluded table params w stop h =
-    let tested = passed h (λ s broken. broken.0 (no_references among.All w.trees)) in let shown = passed tested.2 (λ s e. no_stop e) in no_stop shown.2
+pub never_concluded : (others : Schema) → AreOthers others → (table : Table) (params : Row) (w : Written) (stop : Option Error) → ¬ Concludes (task_on others table params) changing None w (Err stop)
+never_concluded others them table params w stop h =
+    let tested = passed h (λ s broken. broken.0 (no_references others them among.All w.trees)) in let shown = passed tested.2 (λ s e. no_stop e) in no_stop shown.2
 
 -- ---- unique keys
 
--- only bonds, lines and answers have some
-pub all_unique : (db : Trees) → AllByRecursion (λ r. passes Unique counter_schema db bonds r ≡ true) (db 2) → AllByRecursion (λ r. passes Unique counter_schema db paid r ≡ true) (db 7) → AllByRecursion (λ r. passes Unique counter_schema db answers r ≡ true) (db 13) → Keeps Unique counter_schema db
-all_unique db of_bonds of_lines of_answers = (each_true _, (each_true _, (of_bonds, (each_true _, (of_lines, (each_true _, (each_true _, (of_answers, tt))))))))
+module _ (others : Schema) (them : AreOthers others) (db : Trees) (tree : ℕ) (low : tree ≤ 14) (next : List Row) (unique : Keeps Unique (with_others others) db) where
+  -- each row of this table passes
+  free : (table : Table) → table.tree ≤ 14 → (now : Trees) → ((row : Row) → passes Unique (with_others others) now table row ≡ list_all (λ i. not (guards i table && clashes i.order i.columns (now table.tree) row)) others.indexes) → (rows : List Row)
+      → AllByRecursion (λ row. passes Unique (with_others others) now table row ≡ true) rows
+  free table here now is [] = tt
+  free table here now is (row ∷ rows) = (is row ∙ unguarded others them table here now row, free table here now is rows)
 
--- so a write of another table leaves them
-pub unique_beside : (db : Trees) (tree : ℕ) (next : List Row) → 2 ≢ tree → 7 ≢ tree → 13 ≢ tree → Keeps Unique counter_schema db → Keeps Unique counter_schema (with_tree db tree next)
-unique_beside db tree next not_bonds not_lines not_answers unique =
-    all_unique (with_tree db tree next)
-    (subst (λ rows. AllByRecursion (λ r. passes Unique counter_schema (λ _. rows) bonds r ≡ true) rows) (sym (kept 2 not_bonds)) unique.1.1.0)
-    (subst (λ rows. AllByRecursion (λ r. passes Unique counter_schema (λ _. rows) paid r ≡ true) rows) (sym (kept 7 not_lines)) unique.1.1.1.1.0)
-    (subst (λ rows. AllByRecursion (λ r. passes Unique counter_schema (λ _. rows) answers r ≡ true) rows) (sym (kept 13 not_answers)) unique.1.1.1.1.1.1.1.0)
-  where
-    kept : (t : ℕ) → t ≢ tree → with_tree db tree next t ≡ db t
-    kept t apart = ap (λ b. if b then next else db t) (ne_eqb t tree apart)
+  abbrev now : Trees
+  now = with_tree db tree next
+
+  -- of the counter's tables only bonds, lines and answers have unique keys
+  pub all_unique : AllByRecursion (λ r. passes Unique (with_others others) now bonds r ≡ true) (now 2) → AllByRecursion (λ r. passes Unique (with_others others) now paid r ≡ true) (now 7)
+      → AllByRecursion (λ r. passes Unique (with_others others) now answers r ≡ true) (now 13) → Keeps Unique (with_others others) now
+  all_unique of_bonds of_lines of_answers = (
+    free desk (omega arith) now (λ _. refl) (now 0),
+    (
+      free rates (omega arith) now (λ _. refl) (now 1),
+      (
+        of_bonds,
+        (
+          free tickets (omega arith) now (λ _. refl) (now 5),
+          (
+            of_lines,
+            (free batches (omega arith) now (λ _. refl) (now 10), (free extensions (omega arith) now (λ _. refl) (now 12), (of_answers, still_unique others them db tree next low unique))),
+          ),
+        ),
+      ),
+    ),
+  )
+
+  -- so a write of another table leaves them
+  pub unique_beside : 2 ≢ tree → 7 ≢ tree → 13 ≢ tree → Keeps Unique (with_others others) now
+  unique_beside not_bonds not_lines not_answers =
+      all_unique
+      (subst (λ rows. AllByRecursion (λ r. passes Unique (with_others others) (λ _. rows) bonds r ≡ true) rows) (sym (kept 2 not_bonds)) unique.1.1.0)
+      (subst (λ rows. AllByRecursion (λ r. passes Unique (with_others others) (λ _. rows) paid r ≡ true) rows) (sym (kept 7 not_lines)) unique.1.1.1.1.0)
+      (subst (λ rows. AllByRecursion (λ r. passes Unique (with_others others) (λ _. rows) answers r ≡ true) rows) (sym (kept 13 not_answers)) unique.1.1.1.1.1.1.1.0)
+    where
+      kept : (t : ℕ) → t ≢ tree → with_tree db tree next t ≡ db t
+      kept t apart = ap (λ b. if b then next else db t) (ne_eqb t tree apart)
 
 -- a key without an entry is a rowid that no row has
 pub key_free : {X : Type 0} (columns : X → Row) (n : ℕ) (rows : List Row) (m : FinMap nat_cmp X) (h : HoldsMap columns rows m) (new : Row) → get m n ≡ None → is_taken rows (Int (pos n) ∷ new) ≡ false

@@ -16,10 +16,9 @@ use Rattle.sqlite.specs.Collation.TheVariants.{Binary}
 use Rattle.sqlite.specs.Query.{Output, output, output_cmp}
 use Rattle.sqlite.specs.State.{State, Shown}
 use Rattle.sqlite.specs.Tree.{IsAscending}
-use Rattle.sqlite.proofs.Callers.{reads_as}
 use Rattle.sqlite_value.proofs.OrderLemmas.{then-Equal}
 use Rattle.sqlite_keyed.proofs.ListLemmas.{map-map, ascending-filter, ascending_weaker, filter_all, all_of}
-use Rattle.ee_store_tables.specs.Tables.{counter_schema}
+use Rattle.ee_store_tables.specs.Tables.{HasCounterTables}
 use Rattle.ee_store_tables.specs.Keyed.{pair_cmp, row_of, stored, ReadAlike, HoldsMap, HoldsPairs}
 use Rattle.ee_store_tables.specs.Rows.{number, optional, TicketRow, ticket_columns, PaidRow, paid_columns, BondRow, bond_columns, first_number, last_number}
 use Rattle.ee_store_tables.specs.AsRows.{sum_of, sum_columns, placed_of, placed_columns, unpaid_bond_of, unpaid_columns}
@@ -27,6 +26,7 @@ use Rattle.ee_store_tables.proofs.Meaning.{last_ticket_text, last_ticket_query, 
 use Rattle.ee_store_tables.proofs.ReadLemmas.{keyed_same}
 use Rattle.ee_store_tables.proofs.SelectLemmas.{cmp_pos, equals_holds}
 use Rattle.ee_store_tables.proofs.OrderLemmas.{keys_rise, rise_among, in_order, backward, backward_permutes, backward_rises}
+use Rattle.ee_store_tables.proofs.OurLemmas.{reads_ours}
 
 test_is : (m n : ℕ) → is_eq (nat_cmp n m) ≡ (m == n)
 test_is m n = grind (arith, nat_tests)
@@ -54,13 +54,13 @@ module _ (day : ℕ) where
   day_rises : (e f : ℕ × TicketRow) → nat_cmp e.0 f.0 ≡ Less → output_cmp day_tickets_query (day_out e) (day_out f) ≡ Less
   day_rises e f less = then-Equal _ ∙ cmp_pos e.0 f.0 ∙ less
 
-  pub finds_day : (old new : State) (m : FinMap nat_cmp TicketRow) (rows : List Row) → old.now.schema ≡ counter_schema → HoldsMap ticket_columns (old.now.trees 5) m
+  pub finds_day : (old new : State) (m : FinMap nat_cmp TicketRow) (rows : List Row) → HasCounterTables old.now.schema → HoldsMap ticket_columns (old.now.trees 5) m
       → Shown day_tickets_text (Int (pos day) ∷ []) old new rows → rows ≡ map sum_columns (map sum_of (filter (λ e. e.1.day == day) (entries m)))
   finds_day old new m rows has stands shown =
       in_order (λ p. row_of ticket_columns (pos p.1.0, p.1)) (λ p. p.1) 5 day_tickets_query.filter day_tickets_query.project day_tickets_query.order day_tickets_query.limit (Int (pos day) ∷ []) (λ e. e.1.day == day) day_out day_agrees day_shows
       old.now.trees rows stands.table.numbered (entries m) refl (keyed_same ticket_columns (old.now.trees 5) stands.table.numbered stands.keyed stands.table.are) stands.table.same
       (ascending_weaker _ _ day_rises _ (ascending-filter _ (λ e. e.1.day == day) (entries m) (keys_rise nat_cmp (entries m) (entries_sorted m))))
-      ((reads_as day_tickets_text (Int (pos day) ∷ []) old new counter_schema has _ day_tickets_is.0 day_tickets_plain day_tickets_is.1 rows shown).answer Null)
+      ((reads_ours day_tickets_text (Int (pos day) ∷ []) old new has _ day_tickets_is day_tickets_plain rows shown).answer Null)
       ∙ map-map (λ (o : Output). o.1) day_out _ ∙ sym (map-map sum_columns sum_of _)
 
 -- ---- the first ticket of a day
@@ -79,13 +79,13 @@ module _ (day : ℕ) where
   first_shows : (r : Row) (p : ℤ × (ℕ × TicketRow)) → ReadAlike r (row_of ticket_columns (pos p.1.0, p.1)) → output first_ticket_query ((Int (pos day) ∷ []) ∷ r ∷ []) ≡ number_out p.1
   first_shows r p one = rw (one 0) refl
 
-  pub finds_first : (old new : State) (m : FinMap nat_cmp TicketRow) (rows : List Row) → old.now.schema ≡ counter_schema → HoldsMap ticket_columns (old.now.trees 5) m
+  pub finds_first : (old new : State) (m : FinMap nat_cmp TicketRow) (rows : List Row) → HasCounterTables old.now.schema → HoldsMap ticket_columns (old.now.trees 5) m
       → Shown first_ticket_text (Int (pos day) ∷ []) old new rows → rows ≡ option_to_list (option_map (λ n. number n ∷ []) (first_number (filter (λ e. e.1.day == day) (entries m))))
   finds_first old new m rows has stands shown =
       in_order (λ p. row_of ticket_columns (pos p.1.0, p.1)) (λ p. p.1) 5 first_ticket_query.filter first_ticket_query.project first_ticket_query.order first_ticket_query.limit (Int (pos day) ∷ []) (λ e. e.1.day == day) number_out (day_agrees day) first_shows
       old.now.trees rows stands.table.numbered (entries m) refl (keyed_same ticket_columns (old.now.trees 5) stands.table.numbered stands.keyed stands.table.are) stands.table.same
       (ascending_weaker _ _ first_rises _ (ascending-filter _ (λ e. e.1.day == day) (entries m) (keys_rise nat_cmp (entries m) (entries_sorted m))))
-      ((reads_as first_ticket_text (Int (pos day) ∷ []) old new counter_schema has _ first_ticket_is.0 first_ticket_plain first_ticket_is.1 rows shown).answer Null)
+      ((reads_ours first_ticket_text (Int (pos day) ∷ []) old new has _ first_ticket_is first_ticket_plain rows shown).answer Null)
       ∙ ap (take 1) (map-map (λ (o : Output). o.1) number_out _) ∙ first_row _
 
 -- ---- the last ticket
@@ -109,7 +109,7 @@ last_first [] = refl
 last_first (e ∷ []) = refl
 last_first (e ∷ f ∷ more) = ap (map (λ (e : ℕ × TicketRow). number e.0 ∷ [])) (first_of (backward more) (e ∷ []) f) ∙ last_first (f ∷ more)
 
-pub finds_last : (old new : State) (m : FinMap nat_cmp TicketRow) (rows : List Row) → old.now.schema ≡ counter_schema → HoldsMap ticket_columns (old.now.trees 5) m
+pub finds_last : (old new : State) (m : FinMap nat_cmp TicketRow) (rows : List Row) → HasCounterTables old.now.schema → HoldsMap ticket_columns (old.now.trees 5) m
     → Shown last_ticket_text [] old new rows → rows ≡ option_to_list (option_map (λ n. number n ∷ []) (last_number (entries m)))
 finds_last old new m rows has stands shown =
     let every = filter_all (λ (e : ℕ × TicketRow). true) (backward (entries m)) (all_of _ (λ e. refl) (backward (entries m))) in
@@ -117,7 +117,7 @@ finds_last old new m rows has stands shown =
     old.now.trees rows stands.table.numbered (backward (entries m)) refl (keyed_same ticket_columns (old.now.trees 5) stands.table.numbered stands.keyed stands.table.are)
     (IsPermutation-trans _ _ _ stands.table.same (backward_permutes (entries m)))
     (subst (IsAscending _) (sym every) (ascending_weaker _ _ last_rises _ (backward_rises _ (entries m) (keys_rise nat_cmp (entries m) (entries_sorted m)))))
-    ((reads_as last_ticket_text [] old new counter_schema has _ last_ticket_is.0 last_ticket_plain last_ticket_is.1 rows shown).answer Null)
+    ((reads_ours last_ticket_text [] old new has _ last_ticket_is last_ticket_plain rows shown).answer Null)
     ∙ ap (λ es. take 1 (map (λ (o : Output). o.1) (map number_out es))) every ∙ ap (take 1) (map-map (λ (o : Output). o.1) number_out (backward (entries m)))
     ∙ first_map (λ (e : ℕ × TicketRow). number e.0 ∷ []) (backward (entries m)) ∙ last_first (entries m)
 
@@ -136,13 +136,13 @@ module _ (ticket : ℕ) where
   line_rises : (e f : (ℕ × ℕ) × PaidRow) → (e.0.0 == ticket) ≡ true → (f.0.0 == ticket) ≡ true → pair_cmp e.0 f.0 ≡ Less → output_cmp ticket_lines_query (line_out e) (line_out f) ≡ Less
   line_rises e f one two less = then-Equal _ ∙ cmp_pos e.0.1 f.0.1 ∙ ap (λ o. ordering_then o (nat_cmp e.0.1 f.0.1)) (sym (both_are e.0.0 f.0.0 ticket one two)) ∙ less
 
-  pub finds_lines : (old new : State) (m : FinMap pair_cmp PaidRow) (rows : List Row) → old.now.schema ≡ counter_schema → HoldsPairs paid_columns (old.now.trees 7) m
+  pub finds_lines : (old new : State) (m : FinMap pair_cmp PaidRow) (rows : List Row) → HasCounterTables old.now.schema → HoldsPairs paid_columns (old.now.trees 7) m
       → Shown ticket_lines_text (Int (pos ticket) ∷ []) old new rows → rows ≡ map placed_columns (map placed_of (filter (λ e. e.0.0 == ticket) (entries m)))
   finds_lines old new m rows has stands shown =
       in_order (stored paid_columns) (λ p. p.1) 7 ticket_lines_query.filter ticket_lines_query.project ticket_lines_query.order ticket_lines_query.limit (Int (pos ticket) ∷ []) (λ e. e.0.0 == ticket) line_out line_agrees line_shows
       old.now.trees rows stands.numbered (entries m) refl stands.are stands.same
       (rise_among _ _ _ line_rises _ (recursion_from_All _ _ (filter_passes (λ e. e.0.0 == ticket) (entries m))) (ascending-filter _ (λ e. e.0.0 == ticket) (entries m) (keys_rise pair_cmp (entries m) (entries_sorted m))))
-      ((reads_as ticket_lines_text (Int (pos ticket) ∷ []) old new counter_schema has _ ticket_lines_is.0 ticket_lines_plain ticket_lines_is.1 rows shown).answer Null)
+      ((reads_ours ticket_lines_text (Int (pos ticket) ∷ []) old new has _ ticket_lines_is ticket_lines_plain rows shown).answer Null)
       ∙ map-map (λ (o : Output). o.1) line_out _ ∙ sym (map-map placed_columns placed_of _)
 
 -- ---- the bonds of an owner
@@ -163,11 +163,11 @@ module _ (owner : ℕ) where
   own_rises : (e f : (ℕ × ℕ) × BondRow) → pair_cmp e.0 f.0 ≡ Less → output_cmp bonds_of_owner_query (own_out e) (own_out f) ≡ Less
   own_rises e f less = ap₂ ordering_then (cmp_pos e.0.0 f.0.0) (then-Equal _ ∙ cmp_pos e.0.1 f.0.1) ∙ less
 
-  pub finds_own : (old new : State) (m : FinMap pair_cmp BondRow) (rows : List Row) → old.now.schema ≡ counter_schema → HoldsPairs bond_columns (old.now.trees 2) m
+  pub finds_own : (old new : State) (m : FinMap pair_cmp BondRow) (rows : List Row) → HasCounterTables old.now.schema → HoldsPairs bond_columns (old.now.trees 2) m
       → Shown bonds_of_owner_text (Int (pos owner) ∷ []) old new rows → rows ≡ map unpaid_columns (map unpaid_bond_of (filter is_own (entries m)))
   finds_own old new m rows has stands shown =
       in_order (stored bond_columns) (λ p. p.1) 2 bonds_of_owner_query.filter bonds_of_owner_query.project bonds_of_owner_query.order bonds_of_owner_query.limit (Int (pos owner) ∷ []) is_own own_out own_agrees own_shows
       old.now.trees rows stands.numbered (entries m) refl stands.are stands.same
       (ascending_weaker _ _ own_rises _ (ascending-filter _ is_own (entries m) (keys_rise pair_cmp (entries m) (entries_sorted m))))
-      ((reads_as bonds_of_owner_text (Int (pos owner) ∷ []) old new counter_schema has _ bonds_of_owner_is.0 bonds_of_owner_plain bonds_of_owner_is.1 rows shown).answer Null)
+      ((reads_ours bonds_of_owner_text (Int (pos owner) ∷ []) old new has _ bonds_of_owner_is bonds_of_owner_plain rows shown).answer Null)
       ∙ map-map (λ (o : Output). o.1) own_out _ ∙ sym (map-map unpaid_columns unpaid_bond_of _)

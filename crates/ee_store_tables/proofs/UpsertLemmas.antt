@@ -37,7 +37,8 @@ use Rattle.sqlite.specs.Does.{AtPlace, OnRows}
 use Rattle.sqlite.specs.Effect.{RefusesSource}
 use Rattle.sqlite_keyed.proofs.RuleLemmas.{first_of_both}
 use Rattle.sqlite_keyed.proofs.ListLemmas.{any_from_none}
-use Rattle.ee_store_tables.specs.Tables.{counter_schema, bonds}
+use Rattle.sqlite.specs.Schema.{Schema}
+use Rattle.ee_store_tables.specs.Tables.{bonds, with_others, AreOthers}
 use Rattle.ee_store_tables.specs.Keyed.{row_of, stored, ReadAlike, HoldsMap}
 use Rattle.ee_store_tables.specs.Rows.{Rows, Holds, rate_columns, BondRow, bond_columns, optional, Rises}
 use Rattle.ee_store_tables.proofs.PairLemmas.{tied, any_alike}
@@ -50,6 +51,7 @@ use Rattle.ee_store_tables.proofs.CauseLemmas.{NeverStops, changing, never_false
 use Rattle.ee_store_tables.proofs.RefusalLemmas.{passed, no_stop, never_so, never_source, never_sourced, IsAllowed, never_edited, is_bare, bare_storable, one_fits, never_concluded, all_unique, unique_beside, number_fits, task_on}
 use Rattle.ee_store_tables.proofs.KeyLemmas.{IsOther, put_apart, same_rowid, bonds_apart, bonds_unique, alike_both}
 use Rattle.ee_store_tables.proofs.RoomLemmas.{HasNext, has_next}
+use Rattle.ee_store_tables.proofs.OtherLemmas.{no_acts, unshared, unindexed}
 
 -- the row passes each rule of its own
 pub record IsWell (task : Task) (new : Row) : Type 0 where
@@ -95,7 +97,7 @@ module _ (task : Task) (target : Option (List ℕ)) (new : Row) (db : Trees) (we
 
 -- ---- a rate or an extension
 
-module _ (place : ℕ) (name : List ℕ) (tree : ℕ) (known : IsRateTable place name tree) (db : Trees) (m : FinMap nat_cmp ℕ) (stands : HoldsMap rate_columns (db tree) m) (unique : Keeps Unique counter_schema db) (n : ℕ) (low : n < 2 ^ 63) (x : ℕ) where
+module _ (place : ℕ) (name : List ℕ) (tree : ℕ) (known : IsRateTable place name tree) (others : Schema) (them : AreOthers others) (db : Trees) (m : FinMap nat_cmp ℕ) (stands : HoldsMap rate_columns (db tree) m) (unique : Keeps Unique (with_others others) db) (n : ℕ) (low : n < 2 ^ 63) (x : ℕ) where
   abbrev rate_row : Row
   rate_row = row_of rate_columns (pos n, (n, x))
 
@@ -103,71 +105,71 @@ module _ (place : ℕ) (name : List ℕ) (tree : ℕ) (known : IsRateTable place
   rate_edit news = record { table = rate_table name tree; gone = []; news = news }
 
   abbrev rate_task : Task
-  rate_task = task_on (rate_table name tree) (given_rate n x)
+  rate_task = task_on others (rate_table name tree) (given_rate n x)
 
   agrees : (r : Row) (e : ℕ × ℕ) → ReadAlike r (row_of rate_columns (pos e.0, e)) → agree plain (0 ∷ []) r (0 ∷ []) rate_row ≡ tied nat_cmp nat_cmp_total n e
   unfolding binary first_key
   agrees r e one = rw (one 0, equals_holds e.0 n) (and-true _)
 
   -- a rowid that conflicts with none is new
-  rate_fresh : ((r : Row) → Has (db tree) r → conflicts (Some (0 ∷ [])) counter_schema.indexes (rate_table name tree) rate_row r ≡ false) → is_taken (db tree) rate_row ≡ false
+  rate_fresh : ((r : Row) → Has (db tree) r → conflicts (Some (0 ∷ [])) (with_others others).indexes (rate_table name tree) rate_row r ≡ false) → is_taken (db tree) rate_row ≡ false
   rate_fresh none =
       let are = keyed_rows rate_columns (db tree) stands.table.numbered stands.keyed stands.table.are in
       any_alike (λ e. row_of rate_columns (pos e.0, e)) (λ r. is_eq (value_cmp (rowid r) (Int (pos n)))) (tied nat_cmp nat_cmp_total n) (λ r e one. rw (one 0) (ap is_eq (cmp_pos e.0 n) ∙ turned_test e.0 n)) (db tree) _ are
       ∙ sym (any_alike (λ e. row_of rate_columns (pos e.0, e)) (λ r. agree plain (0 ∷ []) r (0 ∷ []) rate_row) (tied nat_cmp nat_cmp_total n) agrees (db tree) _ are)
-      ∙ any_from_none _ (db tree) (all_from (λ r. agree plain (0 ∷ []) r (0 ∷ []) rate_row ≡ false) (db tree) (λ r has. sym (rates_conflict place name tree known rate_row r) ∙ none r has))
+      ∙ any_from_none _ (db tree) (all_from (λ r. agree plain (0 ∷ []) r (0 ∷ []) rate_row ≡ false) (db tree) (λ r has. sym (rates_conflict place name tree known others them rate_row r) ∙ none r has))
 
-  rate_allowed : is_taken (db tree) rate_row ≡ false → IsAllowed counter_schema Enforced db (rate_edit (rate_row ∷ []))
+  rate_allowed : is_taken (db tree) rate_row ≡ false → IsAllowed (with_others others) Enforced db (rate_edit (rate_row ∷ []))
   rate_allowed fresh = record {
     typed = refl;
     present = refl;
     checked = refl;
     fresh = ap (λ b. not b && true) fresh;
-    unique = unique_beside db tree (edited db (rate_edit (rate_row ∷ []))) known.unindexed.0 known.unindexed.1.1.1.0 known.unindexed.1.1.1.1.1.0 unique;
+    unique = unique_beside others them db tree known.low (edited db (rate_edit (rate_row ∷ []))) unique known.unindexed.0 known.unindexed.1.1.1.0 known.unindexed.1.1.1.1.1.0;
     keyed = refl;
     fits = number_fits n low;
     referred = refl;
-    acts = refl;
-    small = one_fits counter_schema (rate_table name tree) rate_row (bare_storable rate_row refl (omega arith) (omega arith), omega arith) (
+    acts = no_acts others them Enforced db (rate_edit (rate_row ∷ []));
+    small = one_fits (with_others others) (rate_table name tree) rate_row (bare_storable rate_row refl (omega arith) (omega arith), omega arith) (
       λ e. absurd (known.unindexed.0 e),
-      (λ e. absurd (known.unindexed.1.0 e), (λ e. absurd (known.unindexed.1.1.0 e), (λ e. absurd (known.unindexed.1.1.1.0 e), (λ e. absurd (known.unindexed.1.1.1.1.0 e), (λ e. absurd (known.unindexed.1.1.1.1.1.0 e), tt))))),
+      (λ e. absurd (known.unindexed.1.0 e), (λ e. absurd (known.unindexed.1.1.0 e), (λ e. absurd (known.unindexed.1.1.1.0 e), (λ e. absurd (known.unindexed.1.1.1.1.0 e), (λ e. absurd (known.unindexed.1.1.1.1.1.0 e), unindexed others them tree known.low _))))),
     );
   }
 
-  rate_puts : ((r : Row) → Has (db tree) r → conflicts (Some (0 ∷ [])) counter_schema.indexes (rate_table name tree) rate_row r ≡ false) → (stop : Option Error) → ¬ Puts rate_task rate_row db (Err stop)
+  rate_puts : ((r : Row) → Has (db tree) r → conflicts (Some (0 ∷ [])) (with_others others).indexes (rate_table name tree) rate_row r ≡ false) → (stop : Option Error) → ¬ Puts rate_task rate_row db (Err stop)
   rate_puts none stop h =
       let same : edit_of db (rate_table name tree) [] Given 0 (rate_row ∷ []) ≡ rate_edit (rate_row ∷ []) = ap rate_edit (rw (cast_null, cast_int n, cast_int x) refl) in
-      let put = passed h (λ s e. never_edited counter_schema Enforced db (rate_edit (rate_row ∷ [])) (rate_allowed (rate_fresh none)) s (subst (λ edit. Edited counter_schema Enforced db edit (Err s)) same e)) in
+      let put = passed h (λ s e. never_edited (with_others others) Enforced db (rate_edit (rate_row ∷ [])) (rate_allowed (rate_fresh none)) s (subst (λ edit. Edited (with_others others) Enforced db edit (Err s)) same e)) in
       no_stop put.2
 
   rate_tried : (stop : Option Error) → ¬ Tries rate_task Abort (record { target = Some (0 ∷ []); update = None } ∷ []) rate_row db (Err stop)
   rate_tried = never_tried rate_task (Some (0 ∷ [])) rate_row db (record { fits = first_of_both _ _ (number_fits n low); keyed = refl; typed = refl; present = refl; checked = refl }) rate_puts
 
-  rate_stays : NeverStops db (given_rate n x) None (insert_rate place)
+  rate_stays : NeverStops others db (given_rate n x) None (insert_rate place)
   rate_stays text stop h =
       let rules : List Upsert = record { target = Some (0 ∷ []); update = None } ∷ [] in
-      let does = subst (λ at. AtPlace (λ table. OnRows (task_on table (given_rate n x)) changing None (insert_rate place) db) at (Err stop)) known.there h in
+      let does = subst (λ at. AtPlace (λ table. OnRows (task_on others table (given_rate n x)) changing None (insert_rate place) db) at (Err stop)) (known.there others) h in
       let new_is : with_rowid Chosen (db tree) (cast_row (rate_table name tree) (Int (pos n) ∷ Null ∷ Int (pos x) ∷ [])) ≡ rate_row = rw (cast_null, cast_int n, cast_int x) refl in
       let written = passed does (λ s w.
-      let given = passed w (never_sourced (record { schema = counter_schema; trees = db }) (given_rate n x) (Values (col 0 0 ∷ lit Null ∷ col 0 1 ∷ []) 3) (λ e r. never_source never_false r)) in
+      let given = passed w (never_sourced (record { schema = (with_others others); trees = db }) (given_rate n x) (Values (col 0 0 ∷ lit Null ∷ col 0 1 ∷ []) 3) (λ e r. never_source never_false r)) in
       let counter = passed given.2 (λ s e. no_stop e) in
       let each = passed counter.2 (λ s e.
       let one = passed (subst (λ sources. TriesEach rate_task Abort rules sources (count_of counter.0) (nothing db) (Err s)) given.1.1 e) (λ s t. rate_tried s (subst (λ r. Tries rate_task Abort rules r db (Err s)) new_is t)) in
       no_stop one.2) in
       let counted = passed each.2 (λ s e. no_stop e) in
       no_stop counted.2) in
-      never_concluded (rate_table name tree) (given_rate n x) written.0 stop written.2
+      never_concluded others them (rate_table name tree) (given_rate n x) written.0 stop written.2
 
-module _ (db : Trees) (rows : Rows) (stands : Holds db rows) (unique : Keeps Unique counter_schema db) (n : ℕ) (low : n < 2 ^ 63) (x : ℕ) where
-  pub add_rate_stays : NeverStops db (given_rate n x) None (insert_rate 1)
-  add_rate_stays = rate_stays 1 (codes "rates") 1 rates_are db rows.rates stands.rates unique n low x
+module _ (others : Schema) (them : AreOthers others) (db : Trees) (rows : Rows) (stands : Holds db rows) (unique : Keeps Unique (with_others others) db) (n : ℕ) (low : n < 2 ^ 63) (x : ℕ) where
+  pub add_rate_stays : NeverStops others db (given_rate n x) None (insert_rate 1)
+  add_rate_stays = rate_stays 1 (codes "rates") 1 rates_are others them db rows.rates stands.rates unique n low x
 
-  pub add_extension_stays : NeverStops db (given_rate n x) None (insert_rate 6)
-  add_extension_stays = rate_stays 6 (codes "extensions") 12 extensions_are db rows.extensions stands.extensions unique n low x
+  pub add_extension_stays : NeverStops others db (given_rate n x) None (insert_rate 6)
+  add_extension_stays = rate_stays 6 (codes "extensions") 12 extensions_are others them db rows.extensions stands.extensions unique n low x
 
 -- ---- a bond
 
-module _ (db : Trees) (rows : Rows) (stands : Holds db rows) (unique : Keeps Unique counter_schema db) (room : Rises 1 1 (db 2)) (k : ℕ × ℕ) (bond : BondRow) where
+module _ (others : Schema) (them : AreOthers others) (db : Trees) (rows : Rows) (stands : Holds db rows) (unique : Keeps Unique (with_others others) db) (room : Rises 1 1 (db 2)) (k : ℕ × ℕ) (bond : BondRow) where
   abbrev id : ℤ
   id = next_rowid (db 2)
 
@@ -184,16 +186,16 @@ module _ (db : Trees) (rows : Rows) (stands : Holds db rows) (unique : Keeps Uni
   bond_edit news = record { table = bonds; gone = []; news = news }
 
   abbrev bond_task : Task
-  bond_task = task_on bonds (given_with bond.coowner)
+  bond_task = task_on others bonds (given_with bond.coowner)
 
   next : HasNext 1 1 (db 2)
   next = has_next 1 1 (db 2) room
 
-  bond_typed : (o : Option ℕ) → (list_all (passes Datatype counter_schema db bonds) (row_with o ∷ []) ≡ true) × (is_typed bonds (row_with o) ≡ true) × (list_all is_bare (row_with o) ≡ true)
+  bond_typed : (o : Option ℕ) → (list_all (passes Datatype (with_others others) db bonds) (row_with o ∷ []) ≡ true) × (is_typed bonds (row_with o) ≡ true) × (list_all is_bare (row_with o) ≡ true)
   bond_typed None = (refl, refl, refl)
   bond_typed (Some n) = (refl, refl, refl)
 
-  bond_given : (o : Option ℕ) (e : Error) → ¬ RefusesSource None (record { schema = counter_schema; trees = db }) (given_with o) (Values (lit Null ∷ col 0 0 ∷ col 0 1 ∷ col 0 2 ∷ col 0 3 ∷ col 0 4 ∷ col 0 5 ∷ lit Null ∷ []) 8) e
+  bond_given : (o : Option ℕ) (e : Error) → ¬ RefusesSource None (record { schema = (with_others others); trees = db }) (given_with o) (Values (lit Null ∷ col 0 0 ∷ col 0 1 ∷ col 0 2 ∷ col 0 3 ∷ col 0 4 ∷ col 0 5 ∷ lit Null ∷ []) 8) e
   bond_given None e r = never_source never_false r
   bond_given (Some n) e r = never_source never_false r
 
@@ -209,37 +211,37 @@ module _ (db : Trees) (rows : Rows) (stands : Holds db rows) (unique : Keeps Uni
       neither_one true h = h
       neither_one false h = h
 
-  others : ((r : Row) → Has (db 2) r → conflicts (Some (1 ∷ 2 ∷ [])) counter_schema.indexes bonds bond_row r ≡ false) → AllByRecursion (IsOther (1 ∷ 2 ∷ []) bond_row (db 2)) (db 2)
-  others none =
+  all_other : ((r : Row) → Has (db 2) r → conflicts (Some (1 ∷ 2 ∷ [])) (with_others others).indexes bonds bond_row r ≡ false) → AllByRecursion (IsOther (1 ∷ 2 ∷ []) bond_row (db 2)) (db 2)
+  all_other none =
       alike_both (stored bond_columns) (λ r. (agree plain (1 ∷ 2 ∷ []) r (1 ∷ 2 ∷ []) bond_row || false) ≡ false) (IsOther (1 ∷ 2 ∷ []) bond_row (db 2)) turned (db 2) stands.bonds.numbered stands.bonds.are
-      (all_from (λ r. (agree plain (1 ∷ 2 ∷ []) r (1 ∷ 2 ∷ []) bond_row || false) ≡ false) (db 2) none)
+      (all_from (λ r. (agree plain (1 ∷ 2 ∷ []) r (1 ∷ 2 ∷ []) bond_row || false) ≡ false) (db 2) (λ r has. sym (ap (λ b. agree plain (1 ∷ 2 ∷ []) r (1 ∷ 2 ∷ []) bond_row || b) (unshared others them (Some (1 ∷ 2 ∷ [])) bonds (omega arith) bond_row r)) ∙ none r has))
 
-  bond_allowed : AllByRecursion (IsOther (1 ∷ 2 ∷ []) bond_row (db 2)) (db 2) → IsAllowed counter_schema Enforced db (bond_edit (bond_row ∷ []))
+  bond_allowed : AllByRecursion (IsOther (1 ∷ 2 ∷ []) bond_row (db 2)) (db 2) → IsAllowed (with_others others) Enforced db (bond_edit (bond_row ∷ []))
   bond_allowed apart = record {
     typed = (bond_typed bond.coowner).0;
     present = refl;
     checked = refl;
     fresh = ap (λ b. not b && true) (next.fresh bond_row (ap Int next.next));
-    unique = all_unique (with_tree db 2 (edited db (bond_edit (bond_row ∷ [])))) (bonds_unique (with_tree db 2 (edited db (bond_edit (bond_row ∷ []))))
-        (put_apart (1 ∷ 2 ∷ []) bond_row (db 2) (same_rowid id) apart (bonds_apart db unique.1.1.0))) unique.1.1.1.1.0 unique.1.1.1.1.1.1.1.0;
+    unique = all_unique others them db 2 (omega arith) (edited db (bond_edit (bond_row ∷ []))) unique (bonds_unique others them (with_tree db 2 (edited db (bond_edit (bond_row ∷ []))))
+        (put_apart (1 ∷ 2 ∷ []) bond_row (db 2) (same_rowid id) apart (bonds_apart others db unique.1.1.0))) unique.1.1.1.1.0 unique.1.1.1.1.1.1.1.0;
     keyed = refl;
     fits = ap (λ i. fits_i64 i && true) next.next ∙ number_fits next.top (omega (arith, next.room));
     referred = refl;
-    acts = refl;
-    small = one_fits counter_schema bonds bond_row (bare_storable bond_row (bond_typed bond.coowner).2 (omega arith) (omega arith), omega arith) (
+    acts = no_acts others them Enforced db (bond_edit (bond_row ∷ []));
+    small = one_fits (with_others others) bonds bond_row (bare_storable bond_row (bond_typed bond.coowner).2 (omega arith) (omega arith), omega arith) (
       λ e. bare_storable (Int (pos k.0) ∷ Int (pos k.1) ∷ Int id ∷ []) refl (omega arith) (omega arith),
       (
         λ e. bare_storable (Int (pos bond.owner) ∷ Int (pos k.0) ∷ Int (pos k.1) ∷ Int id ∷ []) refl (omega arith) (omega arith),
-        (λ e. absurd (omega (arith, e)), (λ e. absurd (omega (arith, e)), (λ e. absurd (omega (arith, e)), (λ e. absurd (omega (arith, e)), tt)))),
+        (λ e. absurd (omega (arith, e)), (λ e. absurd (omega (arith, e)), (λ e. absurd (omega (arith, e)), (λ e. absurd (omega (arith, e)), unindexed others them 2 (omega arith) _)))),
       ),
     );
   }
 
-  bond_puts : ((r : Row) → Has (db 2) r → conflicts (Some (1 ∷ 2 ∷ [])) counter_schema.indexes bonds bond_row r ≡ false) → (stop : Option Error) → ¬ Puts bond_task bond_row db (Err stop)
+  bond_puts : ((r : Row) → Has (db 2) r → conflicts (Some (1 ∷ 2 ∷ [])) (with_others others).indexes bonds bond_row r ≡ false) → (stop : Option Error) → ¬ Puts bond_task bond_row db (Err stop)
   bond_puts none stop h =
       let same : edit_of db bonds [] Given 0 (bond_row ∷ []) ≡ bond_edit (bond_row ∷ []) =
       ap bond_edit (rw (cast_null, cast_integer id, cast_int k.0, cast_int k.1, cast_int bond.denom, cast_int bond.issued, cast_int bond.owner, cast_optional bond.coowner) refl) in
-      let put = passed h (λ s e. never_edited counter_schema Enforced db (bond_edit (bond_row ∷ [])) (bond_allowed (others none)) s (subst (λ edit. Edited counter_schema Enforced db edit (Err s)) same e)) in
+      let put = passed h (λ s e. never_edited (with_others others) Enforced db (bond_edit (bond_row ∷ [])) (bond_allowed (all_other none)) s (subst (λ edit. Edited (with_others others) Enforced db edit (Err s)) same e)) in
       no_stop put.2
 
   bond_tried : (stop : Option Error) → ¬ Tries bond_task Abort (record { target = Some (1 ∷ 2 ∷ []); update = None } ∷ []) bond_row db (Err stop)
@@ -247,16 +249,16 @@ module _ (db : Trees) (rows : Rows) (stands : Holds db rows) (unique : Keeps Uni
       never_tried bond_task (Some (1 ∷ 2 ∷ [])) bond_row db
       (record { fits = ap fits_i64 next.next ∙ first_of_both _ _ (number_fits next.top (omega (arith, next.room))); keyed = refl; typed = (bond_typed bond.coowner).1; present = refl; checked = refl }) bond_puts
 
-  pub add_bond_stays : NeverStops db (given_with bond.coowner) None (InsertOr 2 Abort (Values (lit Null ∷ col 0 0 ∷ col 0 1 ∷ col 0 2 ∷ col 0 3 ∷ col 0 4 ∷ col 0 5 ∷ lit Null ∷ []) 8) (record { target = Some (1 ∷ 2 ∷ []); update = None } ∷ []))
+  pub add_bond_stays : NeverStops others db (given_with bond.coowner) None (InsertOr 2 Abort (Values (lit Null ∷ col 0 0 ∷ col 0 1 ∷ col 0 2 ∷ col 0 3 ∷ col 0 4 ∷ col 0 5 ∷ lit Null ∷ []) 8) (record { target = Some (1 ∷ 2 ∷ []); update = None } ∷ []))
   add_bond_stays text stop h =
       let rules : List Upsert = record { target = Some (1 ∷ 2 ∷ []); update = None } ∷ [] in
       let new_is : with_rowid Chosen (db 2) (cast_row bonds (Null ∷ given_with bond.coowner ++ Null ∷ [])) ≡ bond_row = rw (cast_null, cast_int k.0, cast_int k.1, cast_int bond.denom, cast_int bond.issued, cast_int bond.owner, cast_optional bond.coowner) refl in
       let written = passed h (λ s w.
-      let given = passed w (never_sourced (record { schema = counter_schema; trees = db }) (given_with bond.coowner) (Values (lit Null ∷ col 0 0 ∷ col 0 1 ∷ col 0 2 ∷ col 0 3 ∷ col 0 4 ∷ col 0 5 ∷ lit Null ∷ []) 8) (bond_given bond.coowner)) in
+      let given = passed w (never_sourced (record { schema = (with_others others); trees = db }) (given_with bond.coowner) (Values (lit Null ∷ col 0 0 ∷ col 0 1 ∷ col 0 2 ∷ col 0 3 ∷ col 0 4 ∷ col 0 5 ∷ lit Null ∷ []) 8) (bond_given bond.coowner)) in
       let counter = passed given.2 (λ s e. no_stop e) in
       let each = passed counter.2 (λ s e.
       let one = passed (subst (λ sources. TriesEach bond_task Abort rules sources (count_of counter.0) (nothing db) (Err s)) given.1.1 e) (λ s t. bond_tried s (subst (λ r. Tries bond_task Abort rules r db (Err s)) new_is t)) in
       no_stop one.2) in
       let counted = passed each.2 (λ s e. no_stop e) in
       no_stop counted.2) in
-      never_concluded bonds (given_with bond.coowner) written.0 stop written.2
+      never_concluded others them bonds (given_with bond.coowner) written.0 stop written.2

@@ -10,8 +10,9 @@ use Rattle.sqlite.specs.Order.{Row}
 use Rattle.sqlite.specs.Effect.{IsDatabase}
 use Rattle.sqlite.specs.Tree.{Trees, rowid}
 use Rattle.sqlite.specs.State.{State}
+use Rattle.sqlite.specs.Schema.{Schema}
 use Rattle.sqlite_catalog.specs.Listing.{IsSound}
-use Rattle.ee_store_tables.specs.Tables.{counter_schema}
+use Rattle.ee_store_tables.specs.Tables.{HasCounterTables, KeepsOthers}
 use Rattle.ee_store_tables.specs.Keyed.{pair_cmp, HoldsMap, HoldsPairs}
 
 pub record DeskRow : Type 0 where
@@ -94,22 +95,25 @@ pub record Holds (db : Trees) (rows : Rows) : Type 0 where
   pub extensions : HoldsMap rate_columns (db 12) rows.extensions
   pub answers : HoldsPairs reply_columns (db 13) rows.answers
 
--- the trees list the counter's tables and obey them, as `sqlite` keeps them, and hold these rows
+-- the trees list the counter's tables, and maybe others', and obey them, as `sqlite` keeps them, and hold these rows
 pub record Stores (db : Trees) (rows : Rows) : Type 0 where
-  pub sound : IsSound counter_schema db
+  pub schema : Schema
+  pub tables : HasCounterTables schema
+  pub sound : IsSound schema db
   pub holds : Holds db rows
 
--- A transaction has begun, over the counter's tables. Nothing is said of a store that a failing disk has shut.
+-- A transaction has begun, over the counter's tables. Others' tables are as the last commit left them. Nothing is said of a
+-- store that a failing disk has shut.
 abbrev pub IsInside : State → Type 0
-IsInside s = IsTrue s.is_open → IsTrue s.in_transaction × (s.now.schema ≡ counter_schema)
+IsInside s = IsTrue s.is_open → IsTrue s.in_transaction × HasCounterTables s.now.schema × KeepsOthers s.committed s.now
 
 -- a transaction sees these rows
 abbrev pub Sees : State → Rows → Type 0
-Sees s rows = IsTrue s.is_open → (s.now.schema ≡ counter_schema) × Holds s.now.trees rows
+Sees s rows = IsTrue s.is_open → HasCounterTables s.now.schema × Holds s.now.trees rows
 
 -- the last commit left these rows
 abbrev pub Has : State → Rows → Type 0
-Has s rows = IsTrue s.is_open → (s.committed.schema ≡ counter_schema) × Holds s.committed.trees rows
+Has s rows = IsTrue s.is_open → HasCounterTables s.committed.schema × Holds s.committed.trees rows
 
 -- the rowids rise from one, and this many more fit above them
 abbrev pub Rises : ℕ → ℕ → List Row → Type 0

@@ -6,6 +6,7 @@ use Rattle.sqlite.specs.Effect.{IsDatabase}
 use Rattle.sqlite.specs.State.{State, HasCleanDisk, IsUnchanged, KeepsCommit, Survives}
 use Rattle.ee_store_tables.specs.declared.failures.Failure.{Failure}
 use Rattle.ee_store_tables.specs.declared.failures.Failure.TheVariants.{NoMemory, StoreFailed}
+use Rattle.ee_store_tables.specs.Tables.{KeepsOthers}
 use Rattle.ee_store_tables.specs.Rows.{Rows, IsInside, Sees, HasRoom}
 
 -- ---- what each statement keeps
@@ -94,3 +95,9 @@ IsExcused old new StoreFailed = HasCause old new
 -- in a transaction that sees allowed rows, without a limit on steps
 abbrev pub FailsByCause : {X : Type 0} → State → State → Result X Failure → (Rows → Type 0) → Type 0
 FailsByCause old new result Allows = HasCleanDisk new → IsInside old → old.step_limit ≡ None → (rows : Rows) → Sees old rows → Allows rows → IfErr result (IsExcused old new)
+
+-- ---- tables of others
+
+-- what the last commit left of others' tables, the commits of a call left
+abbrev pub LeavesOthers : State → State → Type 0
+LeavesOthers old new = IsTrue new.is_open → KeepsOthers old.committed new.committed

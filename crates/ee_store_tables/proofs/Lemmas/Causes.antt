@@ -10,7 +10,8 @@ use Rattle.ee_store_tables.specs.declared.failures.Failure.{Failure}
 use Rattle.ee_store_tables.specs.Rows.{Rises, HasRoomIn, HasRoom}
 use Rattle.ee_store_tables.specs.Statements.{HasCause, IsExcused}
 use Rattle.ee_store_tables.proofs.CauseLemmas
-use Rattle.ee_store_tables.proofs.RefusalLemmas
+use Rattle.ee_store_tables.proofs.OtherLemmas
+use Rattle.ee_store_tables.proofs.OtherLemmas.{none_besides, ours_only}
 use Rattle.ee_store_tables.proofs.RoomLemmas
 use Rattle.ee_store_tables.proofs.TransactionLemmas.{begun}
 
@@ -33,7 +34,7 @@ cause_then = CauseLemmas.cause_then
 
 -- no table refers to another
 pub no_references : (among : Among) (db : Trees) → Refers among counter_schema db
-no_references = RefusalLemmas.no_references
+no_references = OtherLemmas.no_references none_besides ours_only
 
 -- ---- room
 -- an empty table has room for all rowids but one

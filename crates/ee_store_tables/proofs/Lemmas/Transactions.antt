@@ -6,6 +6,7 @@ use Rattle.sqlite.specs.Steps.{FailsToCommit}
 use Rattle.sqlite.specs.Tree.{Trees}
 use Rattle.sqlite.specs.declared.error.Error.{Error}
 use Rattle.ee_store_tables.specs.Rows.{Has, IsInside, Rows, Sees}
+use Rattle.ee_store_tables.specs.Statements.{LeavesOthers}
 use Rattle.ee_store_tables.proofs.KeepLemmas
 use Rattle.ee_store_tables.proofs.TransactionLemmas
 pub use Rattle.ee_store_tables.proofs.TransactionLemmas.{begun}
@@ -51,6 +52,15 @@ begun_sees = TransactionLemmas.begun_sees
 pub still_has : (old start : State) (is : start ≡ begun old) (middle new : State) (rows : Rows) → Has old rows → KeepsCommit start middle
     → KeepsCommit middle new → Has new rows
 still_has = TransactionLemmas.still_has
+
+-- and leaves others' tables as they were
+pub still_others : (old start : State) (is : start ≡ begun old) (middle new : State) → KeepsCommit start middle → KeepsCommit middle new → LeavesOthers old new
+still_others = TransactionLemmas.still_others
+
+-- so does a commit
+pub committed_others : (old start : State) (is : start ≡ begun old) (middle new : State) → KeepsCommit start middle → IsInside middle
+    → Shows middle new middle.now middle.now false → LeavesOthers old new
+committed_others = TransactionLemmas.committed_others
 
 -- rolling back commits nothing
 pub rolled_keeps : (old start : State) (is : start ≡ begun old) (middle new : State) → IsRolledBack middle new → KeepsCommit middle new

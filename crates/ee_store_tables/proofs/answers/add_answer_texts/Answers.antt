@@ -7,8 +7,9 @@ use Rattle.ee_store_tables.proofs.AskLemmas.{writes_answer}
 use Rattle.ee_store_tables.proofs.InsertLemmas.{add_answer_stays}
 use Rattle.ee_store_tables.proofs.RoomLemmas.{room_answer, room_put}
 use Rattle.sqlite.specs.Held.{state}
-use Rattle.ee_store_tables.proofs.KeepLemmas.{inside_if_ok}
+use Rattle.ee_store_tables.proofs.KeepLemmas.{inside_if_ok, still_inside}
 use Rattle.ee_store_tables.proofs.AnswerLemmas.{given_answer, adds_answer}
+use Rattle.ee_store_tables.specs.Tables.{others_in}
 use Rattle.ee_store_tables.proofs.answers.add_answer_texts.Goals as goal
 
 pub returns-clause-added : goal.returns-clause-added
@@ -20,7 +21,7 @@ returns-clause-added g c clean rows sees =
     let ran = rw (c.whole.ensures, c.whole-2.ensures, c.to_sql.ensures, c.to_sql-2.ensures) at it.0 in
     let first = sees it.1.was_open in
     let after = adds_answer old new (c.args.desk, c.args.number) (record { act = c.args.act.now; reply = c.args.reply.now }) c.in_ok-execute.field-0 first.0 ran in
-    λ _. (after.0, after.1 rows first.1)
+    λ _. (after.0.tables, after.1 rows first.1)
 
 pub returns-clause-inside : goal.returns-clause-inside
 returns-clause-inside g c clean inside_old =
@@ -29,7 +30,7 @@ returns-clause-inside g c clean inside_old =
     let inside = inside_if_ok old.in_transaction c.execute.result c.in_ok-execute.field-0 c.in_ok-execute.was c.execute.ensures.ended in
     let it = c.in_ok-execute.ensures.runs clean inside in
     let ran = rw (c.whole.ensures, c.whole-2.ensures, c.to_sql.ensures, c.to_sql-2.ensures) at it.0 in
-    λ _. (it.1.mode, (adds_answer old new (c.args.desk, c.args.number) (record { act = c.args.act.now; reply = c.args.reply.now }) c.in_ok-execute.field-0 (inside_old it.1.was_open).1 ran).0)
+    still_inside old new it.1 inside_old (adds_answer old new (c.args.desk, c.args.number) (record { act = c.args.act.now; reply = c.args.reply.now }) c.in_ok-execute.field-0 (inside_old it.1.was_open).1 ran).0
 
 pub returns-clause-sound : goal.returns-clause-sound
 returns-clause-sound g c clean inside_old =
@@ -50,7 +51,7 @@ returns-in_err-execute-clause-cause g c clean inside endless rows sees allowed =
     (stays_excused add_answer_text (given_answer k x) None _ (writes_answer k x) old new inside endless (λ is_open.
     let seen = sees is_open in
     let fits = allowed.0 is_open in
-    add_answer_stays old.now.trees rows seen.1 (unique_in old seen.0 fits.0) fits.1 k x allowed.1 allowed.2) refl c.in_err-execute.field-0.0
+    add_answer_stays (others_in old.now.schema) seen.0.others old.now.trees rows seen.1 (unique_in old seen.0 fits.0) fits.1 k x allowed.1 allowed.2) refl c.in_err-execute.field-0.0
     (rw (c.whole.ensures, c.whole-2.ensures, c.to_sql.ensures, c.to_sql-2.ensures) at (c.in_err-execute.ensures.runs clean))))
 
 pub returns-clause-room : goal.returns-clause-room

@@ -8,7 +8,7 @@ use Rattle.ee_store_tables.specs.Rows.{Sees, HasRoom, with_bonds, CanRegisterAll
 use Rattle.ee_store_tables.specs.Statements.{IsExcused}
 use Rattle.ee_store_tables.proofs.CauseLemmas.{from_err, excused_after}
 use Rattle.ee_store_tables.proofs.RoomLemmas.{room_less}
-use Rattle.ee_store_tables.proofs.KeepLemmas.{clean_before}
+use Rattle.ee_store_tables.proofs.KeepLemmas.{clean_before, writes_then, one_if_any}
 use Rattle.ee_store_tables.proofs.TenLemmas.{with_more, can_first, can_then}
 use Rattle.ee_store_tables.proofs.bonds.+add_new_bonds.Goals as goal
 
@@ -39,6 +39,12 @@ returns-in_err-add_ten-clause-cause g t c clean inside endless rows sees allowed
     let count = c.split_at.ensures.back_len in
     from_err c.from_residual.result c.from_residual.ensures.1 (λ failure same. subst (IsExcused old new) (sym same)
     (c.in_err-add_ten.ensures.cause clean inside endless rows sees (room_less old 10 _ (omega (arith, count)) allowed.0, can)))
+
+pub returns-clause-writes_if_any : goal.returns-clause-writes_if_any
+returns-clause-writes_if_any g t c =
+    let old = state g.S.Store c.args.tx.now.conn.now in
+    let middle = state g.S.Store c.add_ten.new.tx.conn.now in
+    writes_then old middle (state g.S.Store c.add_new_bonds.new.tx.conn.now) _ c.add_new_bonds.result (one_if_any old middle _ c.in_ok-add_ten.ensures.writes_inside) c.add_new_bonds.ensures.writes_if_any
 
 pub returns-clause-room : goal.returns-clause-room
 returns-clause-room g t c clean inside =

@@ -15,6 +15,7 @@ use Rattle.ee_store_tables.proofs.Meaning.{add_bond_text}
 use Rattle.ee_store_tables.proofs.KeepLemmas.{inside_if_ok, writes_inside, fails_inside}
 use Rattle.ee_store_tables.proofs.WriteLemmas.{bound_optional}
 use Rattle.ee_store_tables.proofs.RegisterLemmas.{given_bond, adds_bond}
+use Rattle.ee_store_tables.specs.Tables.{others_in}
 use Rattle.ee_store_tables.proofs.bonds.add_bond.Goals as goal
 
 pub returns-clause-added : goal.returns-clause-added
@@ -29,7 +30,7 @@ returns-clause-added g c clean rows sees =
     let ran = subst (λ row. Executes add_bond_text row old new (Ok c.in_ok-execute.field-0)) given it.0 in
     let first = sees it.1.was_open in
     let after = adds_bond old new (key_of_unpaid c.args.bond) (row_of_unpaid c.args.bond) c.in_ok-execute.field-0 first.0 ran in
-    λ _. (after.0, after.1 rows first.1)
+    λ _. (after.0.tables, after.1 rows first.1)
 
 pub returns-clause-writes_inside : goal.returns-clause-writes_inside
 returns-clause-writes_inside g c =
@@ -74,5 +75,5 @@ returns-in_err-execute-clause-cause g c clean inside endless rows sees allowed =
     let given : params ≡ given_bond (key_of_unpaid c.args.bond) (row_of_unpaid c.args.bond) = λ i. bound_value (c.whole.ensures i) ∷ bound_value (c.whole-2.ensures i) ∷ bound_value (c.whole-3.ensures i) ∷ bound_value (c.whole-4.ensures i) ∷ bound_value (c.whole-5.ensures i) ∷ part-5 i ∷ [] in
     from_err c.from_residual.result c.from_residual.ensures.1 (λ failure same. subst (IsExcused old new) (sym same)
     (write_excused add_bond_text (given_bond k x) None _ (writes_bond k x) old new 1 rows allowed sees
-    (λ stands unique room. add_bond_stays old.now.trees rows stands unique room.0 k x) inside endless refl c.in_err-execute.field-0.0
+    (λ them stands unique room. add_bond_stays (others_in old.now.schema) them old.now.trees rows stands unique room.0 k x) inside endless refl c.in_err-execute.field-0.0
     (λ within. subst (λ row. ExecutesInside 0 add_bond_text row old new (Err c.in_err-execute.field-0.0)) given (c.in_err-execute.ensures.runs clean within))))

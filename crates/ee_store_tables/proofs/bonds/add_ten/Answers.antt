@@ -12,6 +12,7 @@ use Rattle.ee_store_tables.proofs.CauseLemmas.{from_err, write_excused}
 use Rattle.ee_store_tables.proofs.KeepLemmas.{inside_if_ok, writes_inside, fails_inside}
 use Rattle.ee_store_tables.proofs.NewBondLemmas.{room_bonds}
 use Rattle.ee_store_tables.proofs.TenLemmas.{adds_bonds, bonds_stay, writes_bonds, bound_bonds}
+use Rattle.ee_store_tables.specs.Tables.{others_in}
 use Rattle.ee_store_tables.proofs.bonds.add_ten.Goals as goal
 
 pub returns-clause-added : goal.returns-clause-added
@@ -25,7 +26,7 @@ returns-clause-added g c clean rows sees =
     let ran = subst (λ row. Executes add_ten_text row old new (Ok c.in_ok-execute.field-0)) given it.0 in
     let first = sees it.1.was_open in
     let after = adds_bonds bonds c.requires.ten old new c.in_ok-execute.field-0 first.0 ran in
-    λ _. (after.0, after.1 rows first.1)
+    λ _. (after.0.tables, after.1 rows first.1)
 
 pub returns-clause-writes_inside : goal.returns-clause-writes_inside
 returns-clause-writes_inside g c =
@@ -65,5 +66,5 @@ returns-in_err-execute-clause-cause g c clean inside endless rows sees allowed =
     let given : bound c.as_slice.result.now ≡ flat_map unpaid_columns bonds = bound_bonds c.as_slice.result.now bonds (ap (map owned) c.as_slice.ensures.value ∙ c.in_ok-values.ensures.values) in
     from_err c.from_residual-in_err-execute.result c.from_residual-in_err-execute.ensures.1 (λ failure same. subst (IsExcused old new) (sym same)
     (write_excused add_ten_text (flat_map unpaid_columns bonds) None _ (writes_bonds bonds c.requires.ten) old new 10 rows allowed.0 sees
-    (λ stands unique room. bonds_stay bonds c.requires.ten old.now.trees rows stands unique room.0 allowed.1) inside endless refl c.in_err-execute.field-0.0
+    (λ them stands unique room. bonds_stay bonds c.requires.ten (others_in old.now.schema) them old.now.trees rows stands unique room.0 allowed.1) inside endless refl c.in_err-execute.field-0.0
     (λ within. subst (λ row. ExecutesInside 0 add_ten_text row old new (Err c.in_err-execute.field-0.0)) given (c.in_err-execute.ensures.runs clean within))))

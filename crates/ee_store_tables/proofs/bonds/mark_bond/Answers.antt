@@ -10,6 +10,7 @@ use Rattle.sqlite.specs.Held.{state}
 use Rattle.ee_store_tables.proofs.Meaning.{mark_bond_text}
 use Rattle.ee_store_tables.proofs.KeepLemmas.{inside_if_ok, writes_inside, fails_inside}
 use Rattle.ee_store_tables.proofs.MarkLemmas.{marks}
+use Rattle.ee_store_tables.specs.Tables.{others_in}
 use Rattle.ee_store_tables.proofs.bonds.mark_bond.Goals as goal
 
 pub returns-clause-marked : goal.returns-clause-marked
@@ -21,7 +22,7 @@ returns-clause-marked g c clean rows sees =
     let ran = rw (c.whole.ensures, c.whole-2.ensures, c.whole-3.ensures) at it.0 in
     let first = sees it.1.was_open in
     let after = marks old new (c.args.serial.letter, c.args.serial.number) c.args.ticket c.in_ok-execute.field-0 first.0 ran in
-    λ _. (after.0, after.1 rows first.1)
+    λ _. (after.0.tables, after.1 rows first.1)
 
 pub returns-clause-writes_inside : goal.returns-clause-writes_inside
 returns-clause-writes_inside g c =
@@ -47,7 +48,7 @@ returns-in_err-execute-clause-cause g c clean inside endless rows sees allowed =
     let t = c.args.ticket in
     from_err c.from_residual.result c.from_residual.ensures.1 (λ failure same. subst (IsExcused old new) (sym same)
     (write_excused mark_bond_text (key_params k (Int (pos t) ∷ [])) None _ (writes_mark k t) old new 0 rows allowed sees
-    (λ stands unique room. mark_bond_stays k t old.now.trees rows stands unique room.0) inside endless refl c.in_err-execute.field-0.0
+    (λ them stands unique room. mark_bond_stays k t (others_in old.now.schema) them old.now.trees rows stands unique room.0) inside endless refl c.in_err-execute.field-0.0
     (rw (c.whole.ensures, c.whole-2.ensures, c.whole-3.ensures) at (c.in_err-execute.ensures.runs clean))))
 
 pub returns-clause-room : goal.returns-clause-room

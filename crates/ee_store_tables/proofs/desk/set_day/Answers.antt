@@ -14,6 +14,7 @@ use Rattle.ee_store_tables.proofs.Meaning.{set_day_text}
 use Rattle.ee_store_tables.proofs.KeepLemmas.{inside_if_ok, writes_inside, fails_inside}
 use Rattle.ee_store_tables.proofs.WriteLemmas.{bound_optional}
 use Rattle.ee_store_tables.proofs.DeskLemmas.{given_days, sets_day}
+use Rattle.ee_store_tables.specs.Tables.{others_in}
 use Rattle.ee_store_tables.proofs.desk.set_day.Goals as goal
 
 pub returns-clause-set : goal.returns-clause-set
@@ -29,7 +30,7 @@ returns-clause-set g c clean rows sees =
     let ran = subst (λ row. Executes set_day_text row old new (Ok c.in_ok-execute.field-0)) given it.0 in
     let first = sees it.1.was_open in
     let after = sets_day old new c.args.day c.args.last_day c.in_ok-execute.field-0 first.0 ran in
-    λ _. (after.0, after.1 rows first.1)
+    λ _. (after.0.tables, after.1 rows first.1)
 
 pub returns-clause-writes_inside : goal.returns-clause-writes_inside
 returns-clause-writes_inside g c =
@@ -75,5 +76,5 @@ returns-in_err-execute-clause-cause g c clean inside endless rows sees allowed =
     let given : params ≡ given_days c.args.day c.args.last_day = λ i. bound_value (c.whole.ensures i) ∷ part-1 i ∷ part-2 i ∷ [] in
     from_err c.from_residual.result c.from_residual.ensures.1 (λ failure same. subst (IsExcused old new) (sym same)
     (write_excused set_day_text (given_days c.args.day c.args.last_day) None _ (writes_day c.args.day c.args.last_day) old new 0 rows allowed sees
-    (λ stands unique _. set_day_stays c.args.day c.args.last_day old.now.trees rows stands unique) inside endless refl c.in_err-execute.field-0.0
+    (λ them stands unique _. set_day_stays c.args.day c.args.last_day (others_in old.now.schema) them old.now.trees rows stands unique) inside endless refl c.in_err-execute.field-0.0
     (λ within. subst (λ row. ExecutesInside 0 set_day_text row old new (Err c.in_err-execute.field-0.0)) given (c.in_err-execute.ensures.runs clean within))))

@@ -5,9 +5,10 @@ use Rattle.ee_store_tables.proofs.Meaning.{set_version_text}
 use Rattle.ee_store_tables.proofs.CauseLemmas.{from_err, stays_excused, unique_in}
 use Rattle.ee_store_tables.proofs.AskLemmas.{writes_version}
 use Rattle.ee_store_tables.proofs.UpdateLemmas.{set_version_stays}
-use Rattle.ee_store_tables.proofs.KeepLemmas.{inside_if_ok}
+use Rattle.ee_store_tables.proofs.KeepLemmas.{inside_if_ok, still_inside}
 use Rattle.ee_store_tables.proofs.VersionLemmas.{given_version, sets_version}
 use Rattle.ee_store_tables.proofs.RoomLemmas.{room_beside}
+use Rattle.ee_store_tables.specs.Tables.{others_in}
 use Rattle.ee_store_tables.proofs.desk.set_version.Goals as goal
 
 pub returns-clause-set : goal.returns-clause-set
@@ -19,7 +20,7 @@ returns-clause-set g c clean rows sees =
     let ran = rw (c.whole.ensures, c.whole-2.ensures) at it.0 in
     let first = sees it.1.was_open in
     let after = sets_version old new c.args.version c.in_ok-execute.field-0 first.0 ran in
-    λ _. (after.0, after.1 rows first.1)
+    λ _. (after.0.tables, after.1 rows first.1)
 
 pub returns-clause-inside : goal.returns-clause-inside
 returns-clause-inside g c clean inside_old =
@@ -28,7 +29,7 @@ returns-clause-inside g c clean inside_old =
     let inside = inside_if_ok old.in_transaction c.execute.result c.in_ok-execute.field-0 c.in_ok-execute.was c.execute.ensures.ended in
     let it = c.in_ok-execute.ensures.runs clean inside in
     let ran = rw (c.whole.ensures, c.whole-2.ensures) at it.0 in
-    λ _. (it.1.mode, (sets_version old new c.args.version c.in_ok-execute.field-0 (inside_old it.1.was_open).1 ran).0)
+    still_inside old new it.1 inside_old (sets_version old new c.args.version c.in_ok-execute.field-0 (inside_old it.1.was_open).1 ran).0
 
 pub returns-clause-sound : goal.returns-clause-sound
 returns-clause-sound g c clean inside_old =
@@ -56,5 +57,5 @@ returns-in_err-execute-clause-cause g c clean inside endless rows sees sound =
     from_err c.from_residual.result c.from_residual.ensures.1 (λ failure same. subst (IsExcused old new) (sym same)
     (stays_excused set_version_text (given_version c.args.version) None _ (writes_version c.args.version) old new inside endless (λ is_open.
     let seen = sees is_open in
-    set_version_stays c.args.version old.now.trees rows seen.1 (unique_in old seen.0 (sound is_open))) refl c.in_err-execute.field-0.0
+    set_version_stays c.args.version (others_in old.now.schema) seen.0.others old.now.trees rows seen.1 (unique_in old seen.0 (sound is_open))) refl c.in_err-execute.field-0.0
     (rw (c.whole.ensures, c.whole-2.ensures) at (c.in_err-execute.ensures.runs clean))))

@@ -8,6 +8,7 @@ use Rattle.ee_store_tables.proofs.RoomLemmas.{room_beside}
 use Rattle.sqlite.specs.Held.{state}
 use Rattle.ee_store_tables.proofs.KeepLemmas.{inside_if_ok, writes_inside, fails_inside}
 use Rattle.ee_store_tables.proofs.RateLemmas.{given_rate, adds_extension}
+use Rattle.ee_store_tables.specs.Tables.{others_in}
 use Rattle.ee_store_tables.proofs.extensions.add_extension.Goals as goal
 
 pub returns-clause-added : goal.returns-clause-added
@@ -19,7 +20,7 @@ returns-clause-added g c clean rows sees =
     let ran = rw (c.whole.ensures, c.whole-2.ensures) at it.0 in
     let first = sees it.1.was_open in
     let after = adds_extension old new c.args.extension.period c.args.extension.rate c.in_ok-execute.field-0 first.0 ran in
-    λ _. (after.0, after.1 rows first.1)
+    λ _. (after.0.tables, after.1 rows first.1)
 
 pub returns-clause-writes_inside : goal.returns-clause-writes_inside
 returns-clause-writes_inside g c =
@@ -45,7 +46,7 @@ returns-in_err-execute-clause-cause g c clean inside endless rows sees allowed =
     let x = c.args.extension.rate in
     from_err c.from_residual.result c.from_residual.ensures.1 (λ failure same. subst (IsExcused old new) (sym same)
     (write_excused add_extension_text (given_rate n x) None _ (writes_extension n x) old new 0 rows allowed sees
-    (λ stands unique _. add_extension_stays old.now.trees rows stands unique n c.requires.0 x) inside endless refl c.in_err-execute.field-0.0
+    (λ them stands unique _. add_extension_stays (others_in old.now.schema) them old.now.trees rows stands unique n c.requires.0 x) inside endless refl c.in_err-execute.field-0.0
     (rw (c.whole.ensures, c.whole-2.ensures) at (c.in_err-execute.ensures.runs clean))))
 
 pub returns-clause-room : goal.returns-clause-room

@@ -8,6 +8,7 @@ use Rattle.sqlite.specs.Held.{state}
 use Rattle.ee_store_tables.specs.AsRows.{row_of_line}
 use Rattle.ee_store_tables.proofs.KeepLemmas.{inside_if_ok, writes_inside, fails_inside}
 use Rattle.ee_store_tables.proofs.PlacesLemmas.{given_four, adds_four, room_lines}
+use Rattle.ee_store_tables.specs.Tables.{others_in}
 use Rattle.ee_store_tables.proofs.lines.add_four.Goals as goal
 
 pub returns-clause-added : goal.returns-clause-added
@@ -19,7 +20,7 @@ returns-clause-added g c clean rows sees =
     let ran = rw (c.whole.ensures, c.whole-2.ensures, c.whole-3.ensures, c.whole-4.ensures, c.whole-5.ensures, c.whole-6.ensures, c.whole-7.ensures, c.whole-8.ensures, c.whole-9.ensures, c.whole-10.ensures, c.whole-11.ensures, c.whole-12.ensures, c.whole-13.ensures, c.whole-14.ensures, c.whole-15.ensures, c.whole-16.ensures, c.whole-17.ensures) at it.0 in
     let first = sees it.1.was_open in
     let after = adds_four old new c.args.ticket c.args.place (row_of_line c.args.first) (row_of_line c.args.second) (row_of_line c.args.third) (row_of_line c.args.fourth) c.in_ok-execute.field-0 first.0 ran in
-    λ _. (after.0, after.1 rows first.1)
+    λ _. (after.0.tables, after.1 rows first.1)
 
 pub returns-clause-writes_inside : goal.returns-clause-writes_inside
 returns-clause-writes_inside g c =
@@ -50,7 +51,7 @@ returns-in_err-execute-clause-cause g c clean inside endless rows sees allowed =
     let w = row_of_line c.args.fourth in
     from_err c.from_residual.result c.from_residual.ensures.1 (λ failure same. subst (IsExcused old new) (sym same)
     (write_excused add_four_text (given_four t p x y z w) None _ (writes_four t p x y z w) old new 4 rows allowed.0 sees
-    (λ stands unique room. add_four_stays old.now.trees rows stands unique room.1 t p x y z w allowed.1) inside endless refl c.in_err-execute.field-0.0
+    (λ them stands unique room. add_four_stays (others_in old.now.schema) them old.now.trees rows stands unique room.1 t p x y z w allowed.1) inside endless refl c.in_err-execute.field-0.0
     (rw (c.whole.ensures, c.whole-2.ensures, c.whole-3.ensures, c.whole-4.ensures, c.whole-5.ensures, c.whole-6.ensures, c.whole-7.ensures, c.whole-8.ensures, c.whole-9.ensures, c.whole-10.ensures, c.whole-11.ensures, c.whole-12.ensures, c.whole-13.ensures, c.whole-14.ensures, c.whole-15.ensures, c.whole-16.ensures, c.whole-17.ensures) at (c.in_err-execute.ensures.runs clean))))
 
 pub returns-clause-room : goal.returns-clause-room

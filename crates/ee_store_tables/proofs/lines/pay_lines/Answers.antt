@@ -7,7 +7,7 @@ use Rattle.ee_store_tables.specs.Inner.Places.{with_places}
 use Rattle.ee_store_tables.specs.Statements.{IsExcused}
 use Rattle.ee_store_tables.proofs.CauseLemmas.{from_err, excused_from}
 use Rattle.ee_store_tables.proofs.RoomLemmas.{room_less}
-use Rattle.ee_store_tables.proofs.KeepLemmas.{clean_before}
+use Rattle.ee_store_tables.proofs.KeepLemmas.{clean_before, writes_then}
 use Rattle.ee_store_tables.proofs.LineLemmas.{line_by_line, can_place}
 use Rattle.ee_store_tables.proofs.lines.pay_lines.Goals as goal
 
@@ -18,6 +18,11 @@ returns-clause-added g c clean =
     let before = clean_before middle new c.mark_lines.ensures.writes_if_any.crash clean in
     let lines = map row_of_line c.args.lines.now in
     on_ok_weaker c.mark_lines.result (λ after rows sees. subst (Sees new) (sym (line_by_line rows c.args.ticket c.args.place lines)) (after (with_places rows c.args.ticket c.args.place lines) (c.in_ok-add_lines.ensures.added before rows sees))) (c.mark_lines.ensures.marked clean)
+
+pub returns-clause-writes_if_any : goal.returns-clause-writes_if_any
+returns-clause-writes_if_any g c =
+    writes_then (state g.S.Store c.args.tx.now.conn.now) (state g.S.Store c.add_lines.new.tx.conn.now) (state g.S.Store c.mark_lines.new.tx.conn.now) _ c.mark_lines.result
+    c.in_ok-add_lines.ensures.writes_if_any c.mark_lines.ensures.writes_if_any
 
 pub returns-clause-room : goal.returns-clause-room
 returns-clause-room g c clean inside =

@@ -9,6 +9,7 @@ use Rattle.ee_store_tables.proofs.Meaning.{add_ticket_text}
 use Rattle.ee_store_tables.specs.Statements.{IsExcused}
 use Rattle.ee_store_tables.proofs.KeepLemmas.{inside_if_ok, writes_inside, fails_inside}
 use Rattle.ee_store_tables.proofs.TicketLemmas.{adds_ticket, given_ticket}
+use Rattle.ee_store_tables.specs.Tables.{others_in}
 use Rattle.ee_store_tables.proofs.tickets.add_ticket.Goals as goal
 
 pub returns-clause-added : goal.returns-clause-added
@@ -20,7 +21,7 @@ returns-clause-added g c clean rows sees =
     let ran = rw (c.whole.ensures, c.whole-2.ensures, c.whole-3.ensures, c.whole-4.ensures, c.whole-5.ensures) at it.0 in
     let first = sees it.1.was_open in
     let after = adds_ticket old new c.args.number (row_of_ticket c.args.ticket) c.in_ok-execute.field-0 first.0 ran in
-    λ _. (after.0, after.1 rows first.1)
+    λ _. (after.0.tables, after.1 rows first.1)
 
 pub returns-clause-writes_inside : goal.returns-clause-writes_inside
 returns-clause-writes_inside g c =
@@ -46,7 +47,7 @@ returns-in_err-execute-clause-cause g c clean inside endless rows sees allowed =
     let x = row_of_ticket c.args.ticket in
     from_err c.from_residual.result c.from_residual.ensures.1 (λ failure same. subst (IsExcused old new) (sym same)
     (write_excused add_ticket_text (given_ticket n x) None _ (writes_ticket n x) old new 0 rows allowed.0 sees
-    (λ stands unique _. add_ticket_stays old.now.trees rows stands unique n c.requires.number x allowed.1) inside endless refl c.in_err-execute.field-0.0
+    (λ them stands unique _. add_ticket_stays (others_in old.now.schema) them old.now.trees rows stands unique n c.requires.number x allowed.1) inside endless refl c.in_err-execute.field-0.0
     (rw (c.whole.ensures, c.whole-2.ensures, c.whole-3.ensures, c.whole-4.ensures, c.whole-5.ensures) at (c.in_err-execute.ensures.runs clean))))
 
 pub returns-clause-room : goal.returns-clause-room
