@@ -1,5 +1,5 @@
 -- The steps of the migration: what they make of the rows, and why they fail.
-use Rattle.std.proofs.Common.{◌≡◌, ◌≢◌, ◌+◌, ◌≤◌, ◌^◌, inl, inr, ℕ, false, List, IsTrue, Ok, Err, Result, IfErr, sym, subst, ◌∙◌, arith, true≢false}
+use Rattle.std.proofs.Common.{◌≡◌, ◌≢◌, ◌+◌, ◌≤◌, ◌^◌, inl, inr, ℕ, false, List, IsTrue, Ok, Err, Result, IfErr, sym, ap, subst, ◌∙◌, arith, true≢false}
 use Rattle.std.specs.Prelude.{OnOk}
 use Rattle.std.specs.Result.{IsErrAnd}
 use Rattle.sqlite.specs.Tree.{Trees}
@@ -7,13 +7,15 @@ use Rattle.sqlite_trees.specs.declared.error.StoreError.{StoreError}
 use Rattle.sqlite_trees.specs.declared.error.StoreError.TheVariants.{OutOfMemory, Io, Corrupt, Full, Broken, Unstorable}
 use Rattle.sqlite.specs.declared.error.Error.{Error}
 use Rattle.sqlite.specs.Effect.{Database, IsDatabase}
-use Rattle.sqlite.specs.State.{State, Shows, Survives, HasCleanDisk, store_error, HasCause as Explains}
+use Rattle.sqlite.specs.State.{State, Shows, Survives, KeepsCommit, HasCleanDisk, store_error, HasCause as Explains}
 use Rattle.sqlite.specs.Steps.{FailsToCommit}
 use Rattle.ee_store_tables.specs.Failures.{failure_of}
 use Rattle.ee_store_tables.proofs.Lemmas.Transactions.{begun}
 use Rattle.ee_store_tables.specs.declared.failures.Failure.{Failure}
 use Rattle.ee_store_tables.specs.declared.failures.Failure.TheVariants as failure
 use Rattle.ee_store_tables.specs.Statements as statement
+use Rattle.ee_store_tables.specs.Tables.{counter_schema, others_in, KeepsOthers}
+use Rattle.ee_store_tables.proofs.Lemmas.Others.{none_besides, keeps_none}
 use Rattle.ee_store_tables.specs.Keyed.{pair_cmp, stored, HoldsMap}
 use Rattle.ee_store_tables.specs.Rows.{Rows, Holds, Has, HasRoom, HasRoomIn, Rises, rate_columns, bond_columns, paid_columns, reply_columns}
 use Rattle.ee_store_tables.proofs.Lemmas.Rows.{kept_map, kept_pairs}
@@ -147,3 +149,7 @@ stays_current Earliest s rows is had = absurd cc
 pub of_earlier : (form : Form) (all : List StoredAnswer) (s : State) → form ≢ Current → CanBecome form all s → (rows : Rows) × HadIn form s rows × Lists all rows × AnswersFit rows
 of_earlier form all s earlier (inl current) = absurd (earlier current)
 of_earlier form all s earlier (inr it) = it
+
+-- a store of version 1 has no tables of others, so none are to be kept
+pub none_kept : (old new : State) → KeepsCommit old new → (IsTrue old.is_open → others_in old.committed.schema ≡ none_besides) → new.now.schema ≡ counter_schema → IsTrue new.is_open → KeepsOthers new.committed new.now
+none_kept old new keeps none ours is_open = keeps_none new.committed new.now (ap (λ (d : Database). others_in d.schema) (keeps.committed is_open) ∙ none (keeps.was_open is_open)) (ap others_in ours)

@@ -1,4 +1,4 @@
--- The forms that the tables of a store have, and the rows of a store in each form.
+-- The forms that the tables of a store have, and the rows of a store in each form. Tables of others may follow those of version 2.
 -- Nothing is said of a store that a failing disk has shut.
 use Rattle.std.specs.Prelude.{◌≡◌, ℕ, [], ◌∷◌, IsTrue, codes, map}
 use Rattle.std.specs.Ordering.{nat_cmp}
@@ -8,7 +8,7 @@ use Rattle.sqlite.specs.Table.{Table}
 use Rattle.sqlite.specs.Tree.{Trees}
 use Rattle.sqlite.specs.State.{State}
 use Rattle.sqlite_catalog.specs.Listing.{IsSound, automatic}
-use Rattle.ee_store_tables.specs.Tables.{counter_schema, keyed_table, number_column, text_column, index_on, desk, rates, bonds, tickets, paid, batches, extensions}
+use Rattle.ee_store_tables.specs.Tables.{HasCounterTables, keyed_table, number_column, text_column, index_on, desk, rates, bonds, tickets, paid, batches, extensions}
 use Rattle.ee_store_tables.specs.Keyed.{pair_cmp, HoldsMap, HoldsPairs}
 use Rattle.ee_store_tables.specs.Rows.{Rows, ReplyRow, Holds, Stores, desk_columns, rate_columns, bond_columns, ticket_columns, paid_columns, batch_columns, reply_columns}
 use Rattle.ee_store_schema.specs.declared.forms.Form.{Form}
@@ -31,10 +31,11 @@ first_tables = record {
 abbrev pub earliest_tables : Schema
 earliest_tables = record first_tables { tables = desk ∷ rates ∷ bonds ∷ tickets ∷ paid ∷ batches ∷ replies ∷ [] }
 
-abbrev pub schema_of : Form → Schema
-schema_of Current = counter_schema
-schema_of First = first_tables
-schema_of Earliest = earliest_tables
+-- a schema has the tables of this form
+abbrev pub IsIn : Form → Schema → Type 0
+IsIn Current schema = HasCounterTables schema
+IsIn First schema = schema ≡ first_tables
+IsIn Earliest schema = schema ≡ earliest_tables
 
 -- the version in the desk's row of tables in this form
 abbrev pub version_of : Form → ℕ
@@ -100,7 +101,7 @@ StoresIn Earliest db rows = StoresEarliest db rows
 
 -- the last commit left tables in this form
 abbrev pub HasForm : Form → State → Type 0
-HasForm form s = IsTrue s.is_open → s.committed.schema ≡ schema_of form
+HasForm form s = IsTrue s.is_open → IsIn form s.committed.schema
 
 -- the last commit left tables of this program
 abbrev pub IsOurs : State → Type 0
@@ -110,4 +111,4 @@ IsOurs s = (form : Form) × HasForm form s
 
 -- the last commit left tables in this form with these rows
 abbrev pub HadIn : Form → State → Rows → Type 0
-HadIn form s rows = IsTrue s.is_open → (s.committed.schema ≡ schema_of form) × HoldsIn form s.committed.trees rows
+HadIn form s rows = IsTrue s.is_open → IsIn form s.committed.schema × HoldsIn form s.committed.trees rows

@@ -3,7 +3,6 @@ use Rattle.std.specs.Prelude.{◌≡◌, IsTrue, [], None}
 use Rattle.std.specs.FinMap.{empty, insert}
 use Rattle.sqlite.specs.Schema.{Schema}
 use Rattle.sqlite.specs.State.{State}
-use Rattle.ee_store_tables.specs.Tables.{desk, rates, bonds, tickets, paid, batches, extensions, answers}
 use Rattle.ee_store_tables.specs.Rows.{Rows, DeskRow}
 
 abbrev pub no_tables : Schema

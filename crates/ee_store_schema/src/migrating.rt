@@ -11,11 +11,10 @@ ghost use Rattle.ee_store_tables.specs.Statements.{TakesRoom};
 ghost use Rattle.ee_store_schema.specs.declared.forms.Form.TheVariants.{Current};
 ghost use Rattle.ee_store_tables.specs.Failures.{failure_of};
 ghost use Rattle.ee_store_schema.specs.Faults.{FailsForCause, StaysOutside, fault_told};
-ghost use Rattle.ee_store_schema.specs.Forms.{HasForm, HadIn, schema_of};
+ghost use Rattle.ee_store_schema.specs.Forms.{HasForm, HadIn};
 ghost use Rattle.ee_store_schema.specs.Inner.Forms.{SeesForm, SeesIn};
-ghost use Rattle.ee_store_schema.specs.Inner.Making.{IsOver};
 ghost use Rattle.ee_store_schema.specs.Migrating.{Lists, become, migrated, Migrates, AnswersFit, CanBecome, answer_entry, BondsAndLinesHaveRoom};
-ghost use Rattle.ee_store_schema.specs.Inner.Migrating.{unanswered, copied, CanAdd, CanAddAll, HasPlace, FailsIn};
+ghost use Rattle.ee_store_schema.specs.Inner.Migrating.{BegunIn, unanswered, copied, CanAdd, CanAddAll, HasPlace, FailsIn};
 
 use crate::answers::StoredAnswer;
 use crate::faults::OpenFault;
@@ -32,7 +31,7 @@ fn replace_tables<S: Alter>(tx: &mut Transaction<'_, S>, form: Form) -> Result<(
     requires earlier { form ≢ Form.Current }
     ensures same_reference { tx.new.conn.ghost_name ≡ tx.old.conn.ghost_name }
     ensures open { HasCleanDisk (state S.Store tx.new.conn.now) → OnOk result (IsTrue (state S.Store tx.new.conn.now).is_open) }
-    ensures inside { HasCleanDisk (state S.Store tx.new.conn.now) → OnOk result (SeesForm form (state S.Store tx.old.conn.now)
+    ensures inside { HasCleanDisk (state S.Store tx.new.conn.now) → OnOk result (BegunIn form (state S.Store tx.old.conn.now)
         → IsInside (state S.Store tx.new.conn.now)) }
     ensures made { HasCleanDisk (state S.Store tx.new.conn.now) → OnOk result ((rows : Rows) → SeesIn form (state S.Store tx.old.conn.now) rows
         → Sees (state S.Store tx.new.conn.now) (unanswered rows)) }
@@ -40,7 +39,7 @@ fn replace_tables<S: Alter>(tx: &mut Transaction<'_, S>, form: Form) -> Result<(
         → HasPlace n (state S.Store tx.new.conn.now)) }
     ensures room { HasCleanDisk (state S.Store tx.new.conn.now) → OnOk result (SeesForm form (state S.Store tx.old.conn.now) → (n : ℕ)
         → BondsAndLinesHaveRoom n (state S.Store tx.old.conn.now).now.trees → 1 + n ≤ 2 ^ 63 → HasRoom n (state S.Store tx.new.conn.now)) }
-    ensures cause { FailsIn (IsOver (schema_of form)) (state S.Store tx.old.conn.now) (state S.Store tx.new.conn.now) result }
+    ensures cause { FailsIn (λ s. IsTrue s.in_transaction × SeesForm form s) (state S.Store tx.old.conn.now) (state S.Store tx.new.conn.now) result }
     ensures commit { HasCleanDisk (state S.Store tx.new.conn.now) → KeepsCommit (state S.Store tx.old.conn.now) (state S.Store tx.new.conn.now) }
     ensures crash { Survives (state S.Store tx.old.conn.now) (state S.Store tx.new.conn.now) (λ _. ⊥) }
 {
@@ -122,17 +121,18 @@ fn migrate_in<S: Alter>(
     requires earlier { form ≢ Form.Current }
     ensures same_reference { tx.new.conn.ghost_name ≡ tx.old.conn.ghost_name }
     ensures open { HasCleanDisk (state S.Store tx.new.conn.now) → OnOk result (IsTrue (state S.Store tx.new.conn.now).is_open) }
-    ensures inside { HasCleanDisk (state S.Store tx.new.conn.now) → OnOk result (SeesForm form (state S.Store tx.old.conn.now)
+    ensures inside { HasCleanDisk (state S.Store tx.new.conn.now) → OnOk result (BegunIn form (state S.Store tx.old.conn.now)
         → IsInside (state S.Store tx.new.conn.now)) }
     ensures made { HasCleanDisk (state S.Store tx.new.conn.now) → OnOk result ((rows : Rows) → SeesIn form (state S.Store tx.old.conn.now) rows
         → Lists answers.now rows → Sees (state S.Store tx.new.conn.now) (migrated rows)) }
-    ensures sound { HasCleanDisk (state S.Store tx.new.conn.now) → OnOk result (SeesForm form (state S.Store tx.old.conn.now)
+    ensures sound { HasCleanDisk (state S.Store tx.new.conn.now) → OnOk result (BegunIn form (state S.Store tx.old.conn.now)
         → IsTrue (state S.Store tx.new.conn.now).is_open → IsDatabase (state S.Store tx.new.conn.now).now) }
-    ensures room { HasCleanDisk (state S.Store tx.new.conn.now) → OnOk result ((rows : Rows) → SeesIn form (state S.Store tx.old.conn.now) rows → (n : ℕ)
+    ensures room { HasCleanDisk (state S.Store tx.new.conn.now) → OnOk result ((rows : Rows) → SeesIn form (state S.Store tx.old.conn.now) rows
+        → HasForm form (state S.Store tx.old.conn.now) → (n : ℕ)
         → BondsAndLinesHaveRoom (n + length answers.now) (state S.Store tx.old.conn.now).now.trees → 1 + (n + length answers.now) ≤ 2 ^ 63
         → HasRoom n (state S.Store tx.new.conn.now)) }
-    ensures cause { FailsIn (λ s. IsTrue s.in_transaction × (rows : Rows) × SeesIn form s rows × Lists answers.now rows
-        × AnswersFit rows) (state S.Store tx.old.conn.now) (state S.Store tx.new.conn.now) result }
+    ensures cause { FailsIn (λ s. IsTrue s.in_transaction × (rows : Rows) × SeesIn form s rows × HasForm form s
+        × Lists answers.now rows × AnswersFit rows) (state S.Store tx.old.conn.now) (state S.Store tx.new.conn.now) result }
     ensures commit { HasCleanDisk (state S.Store tx.new.conn.now) → KeepsCommit (state S.Store tx.old.conn.now) (state S.Store tx.new.conn.now) }
     ensures crash { Survives (state S.Store tx.old.conn.now) (state S.Store tx.new.conn.now) (λ _. ⊥) }
 {

@@ -5,7 +5,7 @@ use Rattle.sqlite.specs.State.{State, KeepsCommit}
 use Rattle.ee_store_tables.proofs.Lemmas.Transactions.{begun}
 use Rattle.ee_store_tables.specs.Rows.{Rows}
 use Rattle.ee_store_schema.specs.declared.forms.Form.{Form}
-use Rattle.ee_store_schema.specs.Forms.{HoldsIn, HasForm, HadIn}
+use Rattle.ee_store_schema.specs.Forms.{IsIn, HoldsIn, HasForm, HadIn}
 use Rattle.ee_store_schema.specs.Inner.Forms.{SeesForm, SeesIn}
 use Rattle.ee_store_schema.specs.Making.{IsBlank, no_tables}
 use Rattle.ee_store_schema.specs.Inner.Making.{SeesTables}
@@ -23,12 +23,12 @@ was_open old start middle is keeps is_open = subst (λ (s : State). IsTrue s.is_
 
 module _ (form : Form) (old : State) (settled : IsTrue old.is_open → old.now ≡ old.committed) where
   begun_form : HasForm form old → SeesForm form (begun old)
-  begun_form ours is_open = ap (λ (d : Database). d.schema) (settled is_open) ∙ ours is_open
+  begun_form ours is_open = subst (λ (d : Database). IsIn form d.schema) (sym (settled is_open)) (ours is_open)
 
   begun_had : (rows : Rows) → HadIn form old rows → SeesIn form (begun old) rows
   begun_had rows had is_open =
       let it = had is_open in
-      (ap (λ (d : Database). d.schema) (settled is_open) ∙ it.0, subst (λ (d : Database). HoldsIn form d.trees rows) (sym (settled is_open)) it.1)
+      (subst (λ (d : Database). IsIn form d.schema) (sym (settled is_open)) it.0, subst (λ (d : Database). HoldsIn form d.trees rows) (sym (settled is_open)) it.1)
 
   module _ (start : State) (is : start ≡ begun old) where
     -- it sees the tables that the store has
@@ -38,3 +38,7 @@ module _ (form : Form) (old : State) (settled : IsTrue old.is_open → old.now �
     -- and their rows
     pub sees_had : (rows : Rows) → HadIn form old rows → SeesIn form start rows
     sees_had rows had = subst (λ s. SeesIn form s rows) (sym is) (begun_had rows had)
+
+    -- the last commit is what it was
+    pub still_form : HasForm form old → HasForm form start
+    still_form ours = subst (HasForm form) (sym is) ours

@@ -4,7 +4,7 @@ use Rattle.sqlite.specs.Schema.{Schema}
 use Rattle.sqlite.specs.State.{State}
 use Rattle.ee_store_tables.specs.Rows.{Rows}
 use Rattle.ee_store_schema.specs.declared.forms.Form.{Form}
-use Rattle.ee_store_schema.specs.Forms.{schema_of, HoldsIn}
+use Rattle.ee_store_schema.specs.Forms.{IsIn, HoldsIn}
 
 -- ---- the tables of a store
 
@@ -14,7 +14,7 @@ SeesSchema schema s = IsTrue s.is_open → s.now.schema ≡ schema
 
 -- a transaction sees tables in this form
 abbrev pub SeesForm : Form → State → Type 0
-SeesForm form s = SeesSchema (schema_of form) s
+SeesForm form s = IsTrue s.is_open → IsIn form s.now.schema
 
 -- a transaction sees tables of this program
 abbrev pub HasOurTables : State → Type 0
@@ -24,4 +24,4 @@ HasOurTables s = (form : Form) × SeesForm form s
 
 -- a transaction sees tables in this form with these rows
 abbrev pub SeesIn : Form → State → Rows → Type 0
-SeesIn form s rows = IsTrue s.is_open → (s.now.schema ≡ schema_of form) × HoldsIn form s.now.trees rows
+SeesIn form s rows = IsTrue s.is_open → IsIn form s.now.schema × HoldsIn form s.now.trees rows

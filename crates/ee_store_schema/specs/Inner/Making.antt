@@ -1,7 +1,6 @@
 -- Definitions that private contracts alone cite; specs/Making.antt has the others.
 use Rattle.std.specs.Prelude.{◌≡◌, ◌≢◌, IsTrue, List, ℕ, [], ◌∷◌, Some, None, Ok, Err, Result, IfErr, OnOk, true, false, not, slice_get, codes}
 use Rattle.std.specs.List.{AllByRecursion, list_all}
-use Rattle.std.specs.FinMap.{empty}
 use Rattle.sqlite.specs.Table.{Table}
 use Rattle.sqlite.specs.Schema.{Schema}
 use Rattle.sqlite_schema.specs.declared.schema.Index.{Index}

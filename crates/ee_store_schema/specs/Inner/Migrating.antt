@@ -7,8 +7,15 @@ use Rattle.ee_store_tables.specs.Rows.{Rows, ReplyRow, FitsRow, Rises}
 use Rattle.ee_store_tables.specs.Keyed.{pair_cmp}
 use Rattle.ee_store_tables.specs.Statements.{IsExcused}
 use Rattle.ee_store_tables.specs.declared.failures.Failure.{Failure}
+use Rattle.ee_store_schema.specs.declared.forms.Form.{Form}
+use Rattle.ee_store_schema.specs.Forms.{HasForm}
+use Rattle.ee_store_schema.specs.Inner.Forms.{SeesForm}
 
 -- ---- the steps
+
+-- a transaction has begun on a store in this form, and sees its tables
+abbrev pub BegunIn : Form → State → Type 0
+BegunIn form s = SeesForm form s × HasForm form s
 
 -- without the replies
 abbrev pub unanswered : Rows → Rows

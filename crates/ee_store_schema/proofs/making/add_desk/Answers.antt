@@ -1,6 +1,7 @@
 use Rattle.std.proofs.Common.{rules}
 use Rattle.sqlite.specs.Held.{state}
 use Rattle.ee_store_tables.proofs.Lemmas.Transactions.{inside_if_ok}
+use Rattle.ee_store_tables.proofs.Lemmas.Others.{ours_alone}
 use Rattle.ee_store_schema.proofs.FirstLemmas.{adds_first, first_sound}
 use Rattle.ee_store_schema.proofs.Lemmas.Faults.{told_as}
 use Rattle.ee_store_schema.proofs.MakeUsable.{within_or_ended, adds_desk_usable}
@@ -16,7 +17,8 @@ returns-clause-added g c clean sees =
     let inside = inside_if_ok old.in_transaction c.execute.result c.in_ok-execute.field-0 c.in_ok-execute.was c.execute.ensures.ended in
     let it = c.in_ok-execute.ensures.runs clean inside in
     let before = sees it.1.was_open in
-    λ _. adds_first old new c.in_ok-execute.field-0 before.0 before.1 it.0
+    let after = adds_first old new c.in_ok-execute.field-0 before.0 before.1 it.0 in
+    λ _. (ours_alone new.now.schema after.0, after.1)
 
 pub returns-in_err-execute-clause-usable : goal.returns-in_err-execute-clause-usable
 returns-in_err-execute-clause-usable g c clean =

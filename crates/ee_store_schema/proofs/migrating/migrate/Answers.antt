@@ -4,6 +4,7 @@ use Rattle.sqlite.specs.Held.{state}
 use Rattle.sqlite.specs.State.{State, HasCleanDisk, Survives}
 use Rattle.sqlite.specs.Steps.{FailsToCommit}
 use Rattle.ee_store_tables.specs.Rows.{Rows, Has, HasRoom, Stores}
+use Rattle.ee_store_tables.specs.Tables.{HasCounterTables}
 use Rattle.ee_store_tables.specs.Failures.{failure_of}
 use Rattle.ee_store_tables.proofs.Lemmas.Causes.{excused_before}
 use Rattle.ee_store_tables.proofs.Lemmas.Meeting.{stored_sees}
@@ -13,7 +14,8 @@ use Rattle.ee_store_schema.specs.declared.forms.Form.TheVariants.{Current}
 use Rattle.ee_store_schema.specs.Faults.{IsExcused, fault_told}
 use Rattle.ee_store_schema.specs.Forms.{HadIn, HasForm}
 use Rattle.ee_store_schema.specs.Migrating.{BondsAndLinesHaveRoom, CanBecome, Lists, become, migrated, Migrates}
-use Rattle.ee_store_schema.proofs.Lemmas.Beginning.{was_open, sees_form, sees_had}
+use Rattle.ee_store_schema.specs.Inner.Migrating.{BegunIn}
+use Rattle.ee_store_schema.proofs.Lemmas.Beginning.{was_open, sees_form, sees_had, still_form}
 use Rattle.ee_store_schema.proofs.Lemmas.Faults.{handed_on}
 use Rattle.ee_store_schema.proofs.Lemmas.Forms.{had_form}
 use Rattle.ee_store_schema.proofs.MigrateLemmas.{told_never, committed_room, told_excused, begun_excused, commit_excused, failure_then, becomes_migrated, stays_current, of_earlier}
@@ -53,7 +55,7 @@ returns-in_err-migrate_in-clause-cause g c =
     let unlimited : start.step_limit ≡ None = subst (λ (s : State). s.step_limit ≡ None) (sym is) limit in
     handed_on (IsExcused old new) c.from_residual.result (fault_told failure) c.from_residual.ensures.1
     (told_excused old new failure (excused_before old middle new c.drop-tx.ensures.survives.counts failure (begun_excused old start middle is failure
-    (c.in_err-migrate_in.ensures.cause before (begun_inside, had.0, sees_had form old settled start is had.0 had.1, had.2, had.3) unlimited)))))
+    (c.in_err-migrate_in.ensures.cause before (begun_inside, had.0, sees_had form old settled start is had.0 had.1, still_form form old settled start is (had_form form old had.0 had.1), had.2, had.3) unlimited)))))
 
 pub returns-in-Err-clause-told : goal.returns-in-Err-clause-told
 returns-in-Err-clause-told g c = subst (λ e. (e ≢ Unusable) × (e ≢ WrongVersion)) (sym c.commit_fault.ensures) (told_never (failure_of c.in-Err.error))
@@ -76,7 +78,7 @@ returns-in-Err-clause-cause g c =
     (λ clean starts limit.
     let had = of_earlier form all old earlier starts.1 in
     let before = clean_before middle new c.commit.ensures.survives clean in
-    let inside = (it.inside before (λ o. (sees_had form old settled start is had.0 had.1 o).0) (it.open before)).0 in
+    let inside = (it.inside before ((λ o. (sees_had form old settled start is had.0 had.1 o).0), still_form form old settled start is (had_form form old had.0 had.1)) (it.open before)).0 in
     let fails = subst (λ r. IfErr r (FailsToCommit middle new)) c.in-Err.is (c.commit.ensures.err clean) in
     subst (IsExcused old new) (sym c.commit_fault.ensures) (told_excused old new (failure_of e) (begun_excused old start new is (failure_of e)
     (failure_then start middle new it.crash c.commit.ensures.survives clean (failure_of e) (commit_excused middle new e inside fails)))))
@@ -101,7 +103,8 @@ returns-in-Err-clause-crash g c =
       earlier = earlier;
       was_open = was_open old start middle is (it.commit before) is_open;
       stores = λ rows had listed.
-          let ours = sees_form form old settled start is (had_form form old rows had) in
+          let has = had_form form old rows had in
+          let ours : BegunIn form start = (sees_form form old settled start is has, still_form form old settled start is has) in
           subst (Stores middle.now.trees) (sym (becomes_migrated form rows earlier))
           (stored_sees middle (migrated rows) is_open (it.sound before ours is_open) (it.made before rows (sees_had form old settled start is rows had) listed));
     }) it.crash c.commit.ensures.survives)
@@ -139,7 +142,7 @@ returns-in-Ok-clause-current g c =
     subst (λ h. HasCleanDisk (state g.S.Store h) → HasForm form old → HasForm Current (state g.S.Store h)) (sym same) (λ clean ours is_open.
     let before = clean_before middle new c.commit.ensures.survives clean in
     let shows = (c.in-Ok.ensures.ok clean).1 in
-    ap (λ (d : Database). d.schema) shows.committed_is ∙ (it.inside before (sees_form form old settled start is ours) shows.was_open).1)
+    subst (λ (d : Database). HasCounterTables d.schema) (sym shows.committed_is) (it.inside before (sees_form form old settled start is ours, still_form form old settled start is ours) shows.was_open).1)
 
 pub returns-in-Ok-clause-room : goal.returns-in-Ok-clause-room
 returns-in-Ok-clause-room g c =
@@ -159,7 +162,7 @@ returns-in-Ok-clause-room g c =
     let was = was_open old start middle is (it.commit before) (it.open before) in
     let begun_with : start.now.trees ≡ old.committed.trees = ap (λ (s : State). s.now.trees) is ∙ ap (λ (d : Database). d.trees) (settled was) in
     committed_room middle new (c.in-Ok.ensures.ok clean).1 n
-    (it.room before rows (sees_had form old settled start is rows had) n (subst (BondsAndLinesHaveRoom (n + count)) (sym begun_with) few) most))
+    (it.room before rows (sees_had form old settled start is rows had) (still_form form old settled start is (had_form form old rows had)) n (subst (BondsAndLinesHaveRoom (n + count)) (sym begun_with) few) most))
 
 pub returns-in-Ok-clause-crash : goal.returns-in-Ok-clause-crash
 returns-in-Ok-clause-crash g c =
@@ -181,7 +184,8 @@ returns-in-Ok-clause-crash g c =
       earlier = earlier;
       was_open = was_open old start middle is (it.commit before) is_open;
       stores = λ rows had listed.
-          let ours = sees_form form old settled start is (had_form form old rows had) in
+          let has = had_form form old rows had in
+          let ours : BegunIn form start = (sees_form form old settled start is has, still_form form old settled start is has) in
           subst (Stores middle.now.trees) (sym (becomes_migrated form rows earlier))
           (stored_sees middle (migrated rows) is_open (it.sound before ours is_open) (it.made before rows (sees_had form old settled start is rows had) listed));
     }) it.crash c.commit.ensures.survives)
