@@ -14,7 +14,7 @@ use Rattle.sqlite_schema.specs.declared.schema.Constraint.TheVariants.{Datatype}
 use Rattle.sqlite_schema.specs.Rules.{passes, are_typed, Keeps}
 use Rattle.sqlite_keyed.proofs.ListLemmas.{map-map, all_weaker}
 use Rattle.sqlite_keyed.proofs.RuleLemmas.{first_of_both}
-use Rattle.ee_store_tables.specs.Tables.{counter_schema, desk, rates, bonds, tickets, paid, batches, extensions, answers}
+use Rattle.ee_store_tables.specs.Tables.{with_others, others_in, HasCounterTables, desk, rates, bonds, tickets, paid, batches, extensions, answers}
 use Rattle.ee_store_tables.specs.Keyed.{pair_cmp, row_of, stored, ReadAlike, HoldsMap, HoldsPairs}
 use Rattle.ee_store_tables.specs.Rows.{DeskRow, BondRow, TicketRow, PaidRow, BatchRow, ReplyRow, desk_columns, rate_columns, bond_columns, ticket_columns, paid_columns, batch_columns, reply_columns}
 use Rattle.ee_store_tables.proofs.Lemmas.Rows.{pair_total}
@@ -30,7 +30,7 @@ use Rattle.ee_store_load.specs.declared.entries.StoredReply.{StoredReply}
 use Rattle.ee_store_load.specs.declared.entries.Rowid.{Rowid}
 use Rattle.ee_store_schema.specs.declared.forms.Form.{Form}
 use Rattle.ee_store_schema.specs.declared.forms.Form.TheVariants.{Current, First, Earliest}
-use Rattle.ee_store_schema.specs.Forms.{replies, first_tables, earliest_tables, schema_of}
+use Rattle.ee_store_schema.specs.Forms.{replies, first_tables, earliest_tables, IsIn}
 use Rattle.ee_store_schema.specs.declared.answers.StoredAnswer.{StoredAnswer}
 use Rattle.ee_store_schema.specs.Migrating.{answer_entry}
 use Rattle.ee_store_load.specs.Reading.{rises}
@@ -63,16 +63,16 @@ keeps_types : (schema : Schema) (db : Database) → IsDatabase db → db.schema 
 keeps_types schema db sound has = subst (λ s. Keeps Datatype s db.trees) has (sound.obeys.rules Datatype)
 
 -- the rows of a table have the types of its columns
-typed : (form : Form) (db : Database) → IsDatabase db → db.schema ≡ schema_of form → AreAllTyped db.trees
+typed : (form : Form) (db : Database) → IsDatabase db → IsIn form db.schema → AreAllTyped db.trees
 typed Current db sound has =
-    let each = keeps_types counter_schema db sound has in
+    let each = keeps_types (with_others (others_in db.schema)) db sound has.ours in
     record {
-      desk = typed_rows counter_schema db.trees desk each.0;
-      rates = typed_rows counter_schema db.trees rates each.1.0;
-      bonds = typed_rows counter_schema db.trees bonds each.1.1.0;
-      tickets = typed_rows counter_schema db.trees tickets each.1.1.1.0;
-      paid = typed_rows counter_schema db.trees paid each.1.1.1.1.0;
-      batches = typed_rows counter_schema db.trees batches each.1.1.1.1.1.0;
+      desk = typed_rows (with_others (others_in db.schema)) db.trees desk each.0;
+      rates = typed_rows (with_others (others_in db.schema)) db.trees rates each.1.0;
+      bonds = typed_rows (with_others (others_in db.schema)) db.trees bonds each.1.1.0;
+      tickets = typed_rows (with_others (others_in db.schema)) db.trees tickets each.1.1.1.0;
+      paid = typed_rows (with_others (others_in db.schema)) db.trees paid each.1.1.1.1.0;
+      batches = typed_rows (with_others (others_in db.schema)) db.trees batches each.1.1.1.1.1.0;
     }
 typed First db sound has =
     let each = keeps_types first_tables db sound has in
@@ -95,13 +95,13 @@ typed Earliest db sound has =
       batches = typed_rows earliest_tables db.trees batches each.1.1.1.1.1.0;
     }
 
-typed_replies : (form : Form) → form ≢ Current → (db : Database) → IsDatabase db → db.schema ≡ schema_of form → AreTyped db.trees replies
+typed_replies : (form : Form) → form ≢ Current → (db : Database) → IsDatabase db → IsIn form db.schema → AreTyped db.trees replies
 typed_replies Current earlier db sound has = absurd (earlier refl)
 typed_replies First earlier db sound has = typed_rows first_tables db.trees replies (keeps_types first_tables db sound has).1.1.1.1.1.1.0
 typed_replies Earliest earlier db sound has = typed_rows earliest_tables db.trees replies (keeps_types earliest_tables db sound has).1.1.1.1.1.1.0
 
-typed_extensions : (form : Form) → form ≢ Earliest → (db : Database) → IsDatabase db → db.schema ≡ schema_of form → AreTyped db.trees extensions
-typed_extensions Current later db sound has = typed_rows counter_schema db.trees extensions (keeps_types counter_schema db sound has).1.1.1.1.1.1.0
+typed_extensions : (form : Form) → form ≢ Earliest → (db : Database) → IsDatabase db → IsIn form db.schema → AreTyped db.trees extensions
+typed_extensions Current later db sound has = typed_rows (with_others (others_in db.schema)) db.trees extensions (keeps_types (with_others (others_in db.schema)) db sound has.ours).1.1.1.1.1.1.0
 typed_extensions First later db sound has = typed_rows first_tables db.trees extensions (keeps_types first_tables db sound has).1.1.1.1.1.1.1.0
 typed_extensions Earliest later db sound has = absurd (later refl)
 
@@ -110,7 +110,7 @@ typed_extensions Earliest later db sound has = absurd (later refl)
 alike_desk : (r : Row) → are_typed desk.key 0 desk.columns (drop 1 r) ≡ true → (e : ℕ × DeskRow) → shown_by desk_terms r ≡ Int (pos e.0) ∷ desk_columns e.1 → ReadAlike r (row_of desk_columns (pos e.0, e))
 alike_desk r typed e is = reads_alike r (row_of desk_columns (pos e.0, e)) (ap (λ xs. column xs 0) is, (key_empty desk.columns r typed, (ap (λ xs. column xs 1) is, (ap (λ xs. column xs 2) is, (ap (λ xs. column xs 3) is, tt))))) (short_row desk.key desk.columns r typed)
 
-pub holds_desk : (form : Form) (db : Database) → IsDatabase db → db.schema ≡ schema_of form → (all : List StoredDesk) → ShowsAll db.trees 0 desk_terms (map spec.desk_shown all) → rises (λ a b. nat_lt a.id b.id) all ≡ true
+pub holds_desk : (form : Form) (db : Database) → IsDatabase db → IsIn form db.schema → (all : List StoredDesk) → ShowsAll db.trees 0 desk_terms (map spec.desk_shown all) → rises (λ a b. nat_lt a.id b.id) all ≡ true
     → HoldsMap desk_columns (db.trees 0) (spec.desk_map all)
 holds_desk form db sound has all shows up =
     let same = subst (IsPermutation (map (shown_by desk_terms) (db.trees 0))) (sym (map-map (λ (e : ℕ × DeskRow). Int (pos e.0) ∷ desk_columns e.1) spec.desk_entry all)) shows in
@@ -130,13 +130,13 @@ held_rates tree types all shows up =
     let sorted = sorted_if_rises nat_cmp nat_cmp_total spec.rate_entry all (sym (rises_same _ _ (λ (a b : StoredRate). number_below a.period b.period) all) ∙ up) in
     holds_keyed rate_columns un_rates back_rates rate_terms (λ _. refl) tree (map spec.rate_entry all) same (all_weaker _ _ alike_rates tree types) sorted
 
-pub holds_rates : (form : Form) (db : Database) → IsDatabase db → db.schema ≡ schema_of form → (all : List StoredRate) → ShowsAll db.trees 1 rate_terms (map spec.rate_shown all) → rises (λ a b. nat_lt a.period b.period) all ≡ true
+pub holds_rates : (form : Form) (db : Database) → IsDatabase db → IsIn form db.schema → (all : List StoredRate) → ShowsAll db.trees 1 rate_terms (map spec.rate_shown all) → rises (λ a b. nat_lt a.period b.period) all ≡ true
     → HoldsMap rate_columns (db.trees 1) (spec.rate_map all)
 holds_rates form db sound has = held_rates (db.trees 1) (typed form db sound has).rates
 
 -- ---- extensions
 
-pub holds_extensions : (form : Form) → form ≢ Earliest → (db : Database) → IsDatabase db → db.schema ≡ schema_of form → (all : List StoredRate) → ShowsAll db.trees 12 rate_terms (map spec.rate_shown all)
+pub holds_extensions : (form : Form) → form ≢ Earliest → (db : Database) → IsDatabase db → IsIn form db.schema → (all : List StoredRate) → ShowsAll db.trees 12 rate_terms (map spec.rate_shown all)
     → rises (λ a b. nat_lt a.period b.period) all ≡ true → HoldsMap rate_columns (db.trees 12) (spec.rate_map all)
 holds_extensions form later db sound has = held_rates (db.trees 12) (typed_extensions form later db sound has)
 
@@ -145,7 +145,7 @@ holds_extensions form later db sound has = held_rates (db.trees 12) (typed_exten
 alike_tickets : (r : Row) → are_typed tickets.key 0 tickets.columns (drop 1 r) ≡ true → (e : ℕ × TicketRow) → shown_by ticket_terms r ≡ Int (pos e.0) ∷ ticket_columns e.1 → ReadAlike r (row_of ticket_columns (pos e.0, e))
 alike_tickets r typed e is = reads_alike r (row_of ticket_columns (pos e.0, e)) (ap (λ xs. column xs 0) is, (key_empty tickets.columns r typed, (ap (λ xs. column xs 1) is, (ap (λ xs. column xs 2) is, (ap (λ xs. column xs 3) is, (ap (λ xs. column xs 4) is, tt)))))) (short_row tickets.key tickets.columns r typed)
 
-pub holds_tickets : (form : Form) (db : Database) → IsDatabase db → db.schema ≡ schema_of form → (all : List StoredTicket) → ShowsAll db.trees 5 ticket_terms (map spec.ticket_shown all) → rises (λ a b. nat_lt a.ticket b.ticket) all ≡ true
+pub holds_tickets : (form : Form) (db : Database) → IsDatabase db → IsIn form db.schema → (all : List StoredTicket) → ShowsAll db.trees 5 ticket_terms (map spec.ticket_shown all) → rises (λ a b. nat_lt a.ticket b.ticket) all ≡ true
     → HoldsMap ticket_columns (db.trees 5) (spec.ticket_map all)
 holds_tickets form db sound has all shows up =
     let same = subst (IsPermutation (map (shown_by ticket_terms) (db.trees 5))) (sym (map-map (λ (e : ℕ × TicketRow). Int (pos e.0) ∷ ticket_columns e.1) spec.ticket_entry all)) shows in
@@ -158,7 +158,7 @@ holds_tickets form db sound has all shows up =
 alike_batches : (r : Row) → are_typed batches.key 0 batches.columns (drop 1 r) ≡ true → (e : ℕ × BatchRow) → shown_by batch_terms r ≡ Int (pos e.0) ∷ batch_columns e.1 → ReadAlike r (row_of batch_columns (pos e.0, e))
 alike_batches r typed e is = reads_alike r (row_of batch_columns (pos e.0, e)) (ap (λ xs. column xs 0) is, (key_empty batches.columns r typed, (ap (λ xs. column xs 1) is, (ap (λ xs. column xs 2) is, (ap (λ xs. column xs 3) is, tt))))) (short_row batches.key batches.columns r typed)
 
-pub holds_batches : (form : Form) (db : Database) → IsDatabase db → db.schema ≡ schema_of form → (all : List StoredBatch) → ShowsAll db.trees 10 batch_terms (map spec.batch_shown all) → rises (λ a b. nat_lt a.day b.day) all ≡ true
+pub holds_batches : (form : Form) (db : Database) → IsDatabase db → IsIn form db.schema → (all : List StoredBatch) → ShowsAll db.trees 10 batch_terms (map spec.batch_shown all) → rises (λ a b. nat_lt a.day b.day) all ≡ true
     → HoldsMap batch_columns (db.trees 10) (spec.batch_map all)
 holds_batches form db sound has all shows up =
     let same = subst (IsPermutation (map (shown_by batch_terms) (db.trees 10))) (sym (map-map (λ (e : ℕ × BatchRow). Int (pos e.0) ∷ batch_columns e.1) spec.batch_entry all)) shows in
@@ -171,7 +171,7 @@ holds_batches form db sound has all shows up =
 alike_replies : (r : Row) → are_typed replies.key 0 replies.columns (drop 1 r) ≡ true → (e : ℕ × ReplyRow) → shown_by reply_terms r ≡ Int (pos e.0) ∷ reply_columns e.1 → ReadAlike r (row_of reply_columns (pos e.0, e))
 alike_replies r typed e is = reads_alike r (row_of reply_columns (pos e.0, e)) (ap (λ xs. column xs 0) is, (key_empty replies.columns r typed, (ap (λ xs. column xs 1) is, (ap (λ xs. column xs 2) is, tt)))) (short_row replies.key replies.columns r typed)
 
-pub holds_replies : (form : Form) → form ≢ Current → (db : Database) → IsDatabase db → db.schema ≡ schema_of form → (all : List StoredReply) → ShowsAll db.trees 11 reply_terms (map spec.reply_shown all) → rises (λ a b. nat_lt a.number b.number) all ≡ true
+pub holds_replies : (form : Form) → form ≢ Current → (db : Database) → IsDatabase db → IsIn form db.schema → (all : List StoredReply) → ShowsAll db.trees 11 reply_terms (map spec.reply_shown all) → rises (λ a b. nat_lt a.number b.number) all ≡ true
     → HoldsMap reply_columns (db.trees 11) (inner.reply_map all)
 holds_replies form earlier db sound has all shows up =
     let same = subst (IsPermutation (map (shown_by reply_terms) (db.trees 11))) (sym (map-map (λ (e : ℕ × ReplyRow). Int (pos e.0) ∷ reply_columns e.1) inner.reply_entry all)) shows in
@@ -185,14 +185,14 @@ alike_answers : (r : Row) → are_typed answers.key 0 answers.columns (drop 1 r)
     → ReadAlike r (stored reply_columns (i, e))
 alike_answers r typed i e first is = reads_alike r (stored reply_columns (i, e)) (first, (ap (λ xs. column xs 0) is, (ap (λ xs. column xs 1) is, (ap (λ xs. column xs 2) is, (ap (λ xs. column xs 3) is, tt))))) (short_row answers.key answers.columns r typed)
 
-pub holds_answers : (db : Database) → IsDatabase db → db.schema ≡ counter_schema → (all : List StoredAnswer) (ids : List Rowid) → ShowsAll db.trees 13 answer_terms (map inner.answer_shown all)
+pub holds_answers : (db : Database) → IsDatabase db → HasCounterTables db.schema → (all : List StoredAnswer) (ids : List Rowid) → ShowsAll db.trees 13 answer_terms (map inner.answer_shown all)
     → rises (λ a b. pair_lt (a.desk, a.number) (b.desk, b.number)) all ≡ true → ShowsAll db.trees 13 rowid_terms (map (λ it. Int it.rowid ∷ []) ids) → rises (λ a b. int_lt a.rowid b.rowid) ids ≡ true
     → HoldsPairs reply_columns (db.trees 13) (spec.answer_map all)
 holds_answers db sound has all ids shows up numbers ids_up =
     let same = subst (IsPermutation (map (shown_by answer_terms) (db.trees 13))) (sym (map-map (λ (e : (ℕ × ℕ) × ReplyRow). Int (pos e.0.0) ∷ Int (pos e.0.1) ∷ reply_columns e.1) answer_entry all)) shows in
     let rowids = subst (IsPermutation (map (shown_by rowid_terms) (db.trees 13))) (sym (map-map (λ (j : ℤ). Int j ∷ []) (λ (it : Rowid). it.rowid) ids)) numbers in
     let sorted = sorted_if_rises pair_cmp pair_total answer_entry all (sym (rises_same _ _ (λ (a b : StoredAnswer). pair_below (a.desk, a.number) (b.desk, b.number)) all) ∙ up) in
-    let types = typed_rows counter_schema db.trees answers (keeps_types counter_schema db sound has).1.1.1.1.1.1.1.0 in
+    let types = typed_rows (with_others (others_in db.schema)) db.trees answers (keeps_types (with_others (others_in db.schema)) db sound has.ours).1.1.1.1.1.1.1.0 in
     holds_pairs reply_columns un_replies back_replies answer_terms (db.trees 13) (map answer_entry all) (map (λ (it : Rowid). it.rowid) ids) same rowids
     (all_weaker _ _ alike_answers (db.trees 13) types) (apart_if_rises (λ (it : Rowid). it.rowid) ids ids_up) sorted
 
@@ -202,7 +202,7 @@ alike_bonds : (r : Row) → are_typed bonds.key 0 bonds.columns (drop 1 r) ≡ t
     → ReadAlike r (stored bond_columns (i, e))
 alike_bonds r typed i e first is = reads_alike r (stored bond_columns (i, e)) (first, (ap (λ xs. column xs 0) is, (ap (λ xs. column xs 1) is, (ap (λ xs. column xs 2) is, (ap (λ xs. column xs 3) is, (ap (λ xs. column xs 4) is, (ap (λ xs. column xs 5) is, (ap (λ xs. column xs 6) is, tt)))))))) (short_row bonds.key bonds.columns r typed)
 
-pub holds_bonds : (form : Form) (db : Database) → IsDatabase db → db.schema ≡ schema_of form → (all : List Held) (ids : List Rowid) → ShowsAll db.trees 2 bond_terms (map inner.bond_shown all)
+pub holds_bonds : (form : Form) (db : Database) → IsDatabase db → IsIn form db.schema → (all : List Held) (ids : List Rowid) → ShowsAll db.trees 2 bond_terms (map inner.bond_shown all)
     → rises (λ a b. pair_lt (key_of a.bond.serial) (key_of b.bond.serial)) all ≡ true → ShowsAll db.trees 2 rowid_terms (map (λ it. Int it.rowid ∷ []) ids) → rises (λ a b. int_lt a.rowid b.rowid) ids ≡ true
     → HoldsPairs bond_columns (db.trees 2) (spec.bond_map all)
 holds_bonds form db sound has all ids shows up numbers ids_up =
@@ -218,7 +218,7 @@ alike_lines : (r : Row) → are_typed paid.key 0 paid.columns (drop 1 r) ≡ tru
     → ReadAlike r (stored paid_columns (i, e))
 alike_lines r typed i e first is = reads_alike r (stored paid_columns (i, e)) (first, (ap (λ xs. column xs 0) is, (ap (λ xs. column xs 1) is, (ap (λ xs. column xs 2) is, (ap (λ xs. column xs 3) is, (ap (λ xs. column xs 4) is, tt)))))) (short_row paid.key paid.columns r typed)
 
-pub holds_lines : (form : Form) (db : Database) → IsDatabase db → db.schema ≡ schema_of form → (all : List StoredLine) (ids : List Rowid) → ShowsAll db.trees 7 line_terms (map spec.line_shown all)
+pub holds_lines : (form : Form) (db : Database) → IsDatabase db → IsIn form db.schema → (all : List StoredLine) (ids : List Rowid) → ShowsAll db.trees 7 line_terms (map spec.line_shown all)
     → rises (λ a b. pair_lt (a.ticket, a.place) (b.ticket, b.place)) all ≡ true → ShowsAll db.trees 7 rowid_terms (map (λ it. Int it.rowid ∷ []) ids) → rises (λ a b. int_lt a.rowid b.rowid) ids ≡ true
     → HoldsPairs paid_columns (db.trees 7) (spec.line_map all)
 holds_lines form db sound has all ids shows up numbers ids_up =

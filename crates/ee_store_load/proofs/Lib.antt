@@ -19,4 +19,5 @@ mod CanRead
 mod FiveLemmas
 mod FirstAnswers
 mod LastLemmas
+mod OursLemmas
 mod TestLemmas

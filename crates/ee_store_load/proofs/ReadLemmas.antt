@@ -1,5 +1,5 @@
 -- What reading several tables in turn gives.
-use Rattle.std.proofs.Common.{◌≡◌, ◌≢◌, Ok, Err, Result, IfOk, OnOk, sym, ap, subst, ◌∙◌}
+use Rattle.std.proofs.Common.{◌≡◌, ◌≢◌, Ok, Err, Result, IfOk, OnOk, sym, subst}
 use Rattle.std.specs.Result.{IsErrAnd}
 use Rattle.std.proofs.lemmas.Result.{on_ok_weaker}
 use Rattle.sqlite.specs.Effect.{Database, IsDatabase}
@@ -11,6 +11,7 @@ use Rattle.ee_store_schema.specs.declared.faults.OpenFault.{OpenFault}
 use Rattle.ee_store_schema.specs.declared.faults.OpenFault.TheVariants.{WrongVersion}
 use Rattle.ee_store_schema.proofs.Lemmas.Causes.{then_survives}
 use Rattle.ee_store_schema.specs.declared.forms.Form.{Form}
+use Rattle.ee_store_schema.specs.Forms.{IsIn}
 use Rattle.ee_store_schema.specs.Inner.Forms.{SeesForm, HasOurTables}
 use Rattle.ee_store_load.specs.Inner.Reading.{IsSoundNow, OnlyLoads}
 
@@ -26,7 +27,7 @@ each_ok (Ok x) f p = f x p
 each_ok (Err e) f p = tt
 
 pub still_form : (form : Form) (a b : State) → IsUnchanged a b → SeesForm form a → SeesForm form b
-still_form form a b same ours is_open = ap (λ (d : Database). d.schema) same.0.now_is ∙ ours same.0.was_open
+still_form form a b same ours is_open = subst (λ (d : Database). IsIn form d.schema) (sym same.0.now_is) (ours same.0.was_open)
 
 pub still_ours : (a b : State) → IsUnchanged a b → HasOurTables a → HasOurTables b
 still_ours a b same ours = (ours.0, still_form ours.0 a b same ours.1)

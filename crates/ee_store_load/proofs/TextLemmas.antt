@@ -1,12 +1,13 @@
 -- What a text is compiled to, over whichever tables and indexes stand behind the six tables that each form begins with.
 use Rattle.std.proofs.Common.{◌≡◌, inl, inr, ℕ, List, [], ◌∷◌, false, true≢false, length, None, Ok, refl, sym, ap, subst, arith}
-use Rattle.std.specs.Prelude.{if◌then◌else◌}
+use Rattle.std.specs.Prelude.{if◌then◌else◌, drop}
 use Rattle.sqlite.specs.Order.{Row}
 use Rattle.sqlite.specs.Term.{Term}
 use Rattle.sqlite.specs.Table.{Table}
 use Rattle.sqlite.specs.Schema.{Schema}
 use Rattle.sqlite.specs.Query.{Query}
 use Rattle.sqlite_schema.specs.declared.schema.Index.{Index}
+use Rattle.sqlite_schema.specs.declared.schema.View.{View}
 use Rattle.sqlite_value.specs.declared.keys.Key.{Key}
 use Rattle.sqlite.specs.Command.TheVariants.{Select}
 use Rattle.sqlite.specs.Tree.{Trees}
@@ -15,22 +16,23 @@ use Rattle.sqlite_resolve.specs.declared.compiled.Compiled.{Compiled}
 use Rattle.sqlite_resolve.specs.Compile.{compiled}
 use Rattle.sqlite.specs.Effect.{IsShown}
 use Rattle.sqlite.specs.Listing.{understood, reads_listing, misses_table, if_select, listing_schema}
-use Rattle.ee_store_tables.specs.Tables.{counter_schema, desk, rates, bonds, tickets, paid, batches, extensions, answers}
+use Rattle.ee_store_tables.specs.Tables.{with_others, others_in, desk, rates, bonds, tickets, paid, batches, extensions, answers}
 use Rattle.ee_store_schema.specs.declared.forms.Form.{Form}
 use Rattle.ee_store_schema.specs.declared.forms.Form.TheVariants.{Current, First, Earliest}
-use Rattle.ee_store_schema.specs.Forms.{schema_of, first_tables, replies}
+use Rattle.ee_store_schema.specs.Forms.{first_tables, replies}
 use Rattle.ee_store_schema.specs.Inner.Asking.{IsOneStatement, NeverRefuses, IsNeverRefused}
+use Rattle.ee_store_schema.proofs.Lemmas.Forms.{tables_in}
 use Rattle.ee_store_load.specs.Inner.Reading.{whole_table, IsQuery, AsksForAll}
 
 -- the six tables, and then others
-abbrev pub begun_with : List Table → List Index → Schema
-begun_with more indexes = record { tables = desk ∷ rates ∷ bonds ∷ tickets ∷ paid ∷ batches ∷ more; indexes = indexes; views = [] }
+abbrev pub begun_with : List Table → List Index → List View → Schema
+begun_with more indexes views = record { tables = desk ∷ rates ∷ bonds ∷ tickets ∷ paid ∷ batches ∷ more; indexes = indexes; views = views }
 
--- what holds of each of these holds of each form
-pub of_each : (P : Schema → Type 0) → ((more : List Table) (indexes : List Index) → P (begun_with more indexes)) → (form : Form) → P (schema_of form)
-of_each P all Current = all (extensions ∷ answers ∷ []) counter_schema.indexes
-of_each P all First = all (replies ∷ extensions ∷ []) first_tables.indexes
-of_each P all Earliest = all (replies ∷ []) first_tables.indexes
+-- what holds of each of these holds of each form, whatever follows it
+pub of_each : (P : Schema → Type 0) → ((more : List Table) (indexes : List Index) (views : List View) → P (begun_with more indexes views)) → (form : Form) (schema : Schema) → P (tables_in form schema)
+of_each P all Current schema = all (extensions ∷ answers ∷ drop 8 schema.tables) (with_others (others_in schema)).indexes schema.views
+of_each P all First schema = all (replies ∷ extensions ∷ []) first_tables.indexes []
+of_each P all Earliest schema = all (replies ∷ []) first_tables.indexes []
 
 -- a query alone, with the names of its columns and of its parameters
 abbrev query_alone : List ℕ → Query → List (List ℕ) → List (List ℕ) → Compiled

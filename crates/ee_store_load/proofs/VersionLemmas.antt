@@ -11,6 +11,7 @@ use Rattle.sqlite_sql.proofs.ProgramLemmas.{computes_weaker}
 use Rattle.sqlite.specs.Term.{col}
 use Rattle.sqlite.specs.Query.{Query}
 use Rattle.sqlite.specs.Table.{Table}
+use Rattle.sqlite.specs.Schema.{Schema}
 use Rattle.sqlite_schema.specs.declared.schema.Index.{Index}
 use Rattle.sqlite_resolve.specs.Compile.{compiled}
 use Rattle.sqlite.specs.Command.TheVariants.{Select, Rows as Values}
@@ -24,8 +25,8 @@ use Rattle.ee_store_tables.specs.Rows.{Rows, DeskRow, desk_columns}
 use Rattle.ee_store_tables.proofs.Lemmas.Rows.{by_number, found_by_number}
 use Rattle.ee_store_schema.specs.declared.forms.Form.{Form}
 use Rattle.ee_store_schema.specs.declared.forms.Form.TheVariants.{Current, First, Earliest}
-use Rattle.ee_store_schema.specs.Forms.{schema_of, version_of, HoldsIn}
-use Rattle.ee_store_schema.proofs.Lemmas.Forms.{common}
+use Rattle.ee_store_schema.specs.Forms.{IsIn, version_of, HoldsIn}
+use Rattle.ee_store_schema.proofs.Lemmas.Forms.{tables_in, common, in_form}
 use Rattle.ee_store_load.proofs.AskLemmas.{only_version}
 use Rattle.ee_store_load.proofs.TextLemmas.{begun_with, of_each, IsCompiled, unlisted, understood_as}
 use Rattle.ee_store_load.specs.Opening.{IsOfForm, IsOther, IsOtherVersion, version_text, given_id, SeesDesk}
@@ -34,24 +35,25 @@ use Rattle.ee_store_load.specs.Inner.Opening.{version_shown, versions_of, versio
 abbrev pub version_query : Query
 version_query = by_number 0 (col 1 2 ∷ [])
 
-version_in_each : (more : List Table) (indexes : List Index) → IsCompiled version_text version_query (codes "version" ∷ []) (codes "?1" ∷ []) (begun_with more indexes)
+version_in_each : (more : List Table) (indexes : List Index) (views : List View) → IsCompiled version_text version_query (codes "version" ∷ []) (codes "?1" ∷ []) (begun_with more indexes views)
 unfolding compiled everything
-version_in_each more indexes = refl
+version_in_each more indexes views = refl
 
-pub version_is : (form : Form) → IsCompiled version_text version_query (codes "version" ∷ []) (codes "?1" ∷ []) (schema_of form)
+pub version_is : (form : Form) (schema : Schema) → IsCompiled version_text version_query (codes "version" ∷ []) (codes "?1" ∷ []) (tables_in form schema)
 version_is = of_each (IsCompiled version_text version_query (codes "version" ∷ []) (codes "?1" ∷ [])) version_in_each
 
-version_known : (form : Form) → command_of (understood (schema_of form) version_text) ≡ Select (record { lets = []; body = version_query }) (codes "version" ∷ [])
-version_known form = ap command_of (understood_as (schema_of form) version_text version_query _ _ (version_is form))
+version_known : (form : Form) (schema : Schema) → command_of (understood (tables_in form schema) version_text) ≡ Select (record { lets = []; body = version_query }) (codes "version" ∷ [])
+version_known form schema = ap command_of (understood_as (tables_in form schema) version_text version_query _ _ (version_is form schema))
 
-pub version_plain : (form : Form) → IsPlain (understood (schema_of form) version_text)
-version_plain form = subst IsPlain (sym (understood_as (schema_of form) version_text version_query _ _ (version_is form))) (refl, refl)
+pub version_plain : (form : Form) (schema : Schema) → IsPlain (understood (tables_in form schema) version_text)
+version_plain form schema = subst IsPlain (sym (understood_as (tables_in form schema) version_text version_query _ _ (version_is form schema))) (refl, refl)
 
-pub shows_version : (form : Form) (old new : State) (rows : Rows) (found : List Row) → old.now.schema ≡ schema_of form → HoldsIn form old.now.trees rows → Shown version_text given_id old new found
+pub shows_version : (form : Form) (old new : State) (rows : Rows) (found : List Row) → IsIn form old.now.schema → HoldsIn form old.now.trees rows → Shown version_text given_id old new found
     → found ≡ versions_in rows
 shows_version form old new rows found has stands shown =
+    let schema = old.now.schema in
     found_by_number desk_columns 0 version_query.project 1 [] (λ e. version_shown e.1) (λ r e one. rw (one 2) refl) old.now.trees rows.desk found refl (common form old.now.trees rows stands).desk
-    ((reads_as version_text given_id old new (schema_of form) has _ (version_known form) (version_plain form) (unlisted (schema_of form) version_text version_query _ _ (version_is form)) found shown).answer Null)
+    ((reads_as version_text given_id old new (tables_in form schema) (in_form form schema has) _ (version_known form schema) (version_plain form schema) (unlisted (tables_in form schema) version_text version_query _ _ (version_is form schema)) found shown).answer Null)
 
 -- ---- if the tables may be others
 

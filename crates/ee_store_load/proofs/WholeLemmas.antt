@@ -8,7 +8,7 @@ use Rattle.ee_store_tables.specs.Keyed.{pair_cmp, HoldsMap}
 use Rattle.ee_store_tables.specs.Rows.{Rows, ReplyRow, rate_columns}
 use Rattle.ee_store_schema.specs.declared.forms.Form.{Form}
 use Rattle.ee_store_schema.specs.declared.forms.Form.TheVariants.{Current, First, Earliest}
-use Rattle.ee_store_schema.specs.Forms.{HoldsIn, HasForm, HadIn}
+use Rattle.ee_store_schema.specs.Forms.{IsIn, HoldsIn, HasForm, HadIn}
 use Rattle.ee_store_schema.specs.Inner.Forms.{SeesForm, SeesIn}
 use Rattle.ee_store_load.specs.Inner.Reading.{IsSoundNow}
 use Rattle.ee_store_load.specs.declared.entries.StoredRate.{StoredRate}
@@ -24,7 +24,7 @@ sound_now old live is_open = (live is_open).0
 
 module _ (form : Form) (old : State) (settled : IsTrue old.is_open → old.now ≡ old.committed) where
   pub has_ours : HasForm form old → SeesForm form old
-  has_ours ours is_open = ap (λ (d : Database). d.schema) (settled is_open) ∙ ours is_open
+  has_ours ours is_open = subst (λ (d : Database). IsIn form d.schema) (sym (settled is_open)) (ours is_open)
 
   pub sees_what_it_has : (rows : Rows) → HadIn form old rows → SeesIn form old rows
   sees_what_it_has rows has is_open = (has_ours (had_form form old rows has) is_open, subst (λ (d : Database). HoldsIn form d.trees rows) (sym (settled is_open)) (has is_open).1)
@@ -35,7 +35,7 @@ module _ (form : Form) (old : State) (settled : IsTrue old.is_open → old.now �
 
   pub has_read : (new : State) → IsUnchanged old new → (rows : Rows) → HasForm form old → HoldsIn form old.now.trees rows → HadIn form new rows
   has_read new same rows ours holds is_open = (
-    ap (λ (d : Database). d.schema) same.0.committed_is ∙ ours same.0.was_open,
+    subst (λ (d : Database). IsIn form d.schema) (sym same.0.committed_is) (ours same.0.was_open),
     subst (λ (d : Database). HoldsIn form d.trees rows) (settled same.0.was_open ∙ sym same.0.committed_is) holds,
   )
 

@@ -7,7 +7,7 @@ use Rattle.sqlite.specs.Order.{Row, column}
 use Rattle.sqlite.specs.Table.{Table}
 use Rattle.sqlite.specs.State.{State, Begins}
 use Rattle.ee_store_tables.specs.Keyed.{HoldsMap}
-use Rattle.ee_store_tables.specs.Tables.{desk, bonds}
+use Rattle.ee_store_tables.specs.Tables.{desk}
 use Rattle.ee_store_tables.specs.Rows.{Rows, DeskRow, number, desk_columns}
 use Rattle.ee_store_schema.specs.declared.faults.OpenFault.{OpenFault}
 use Rattle.ee_store_schema.specs.declared.faults.OpenFault.TheVariants.{WrongVersion, Unusable}

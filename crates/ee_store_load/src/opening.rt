@@ -43,10 +43,11 @@ fn refusal<S: Alter>(conn: &mut Connection<S>) -> OpenFault
 
 /// Reads the rows of a store. Writes nothing.
 ///
-/// A store is read if its tables are those of version 2, or those of version 1 with or without the table of
-/// extensions, in the order in which they are created, with their indexes and nothing else. Rows of version 1
-/// are read as the rows of version 2 that they become: their replies belong to the first desk, and without the
-/// table there are no extensions; only the desk's row still has version 1 (`migrate` makes version 2 of them).
+/// A store is read if its tables are those of version 2, in the order in which they are created, with their
+/// indexes. Tables without foreign keys, indexes on them, and views may follow these, and aren't read. A store of
+/// version 1 is read if it has exactly its own tables, with or without that of extensions. Its rows are read as the
+/// rows of version 2 that they become: their replies belong to the first desk, and without the table there are no
+/// extensions; only the desk's row still has version 1 (`migrate` makes version 2 of them).
 /// Any other store is refused, including one with our tables in another order, with fewer of them, or with none
 /// (`is_blank`). The version is tested before anything else is read. The rows of each table come by key. Each
 /// kept reply is tested by `P`; those of version 2 are dropped right after, so at most two of them are in
@@ -57,8 +58,8 @@ fn refusal<S: Alter>(conn: &mut Connection<S>) -> OpenFault
 /// - `those`: the rows that the store had before were read.
 /// - `order`, `first`: the rows of each table come in order, and are those of the form that is returned.
 /// - `version`, `tested`, `unusable`: what each refusal says of the rows that the store had.
-/// - `others`: for a store with other tables the fault is `WrongVersion` only if `sqlite` shows another version
-///   for the desk's row. If the desk is the first table, it is `WrongVersion` exactly then.
+/// - `others`: for a store that has no such tables the fault is `WrongVersion` only if `sqlite` shows another
+///   version for the desk's row. If the desk is the first table, it is `WrongVersion` exactly then.
 /// - `inside`, `cause`: when the store fails: in a transaction, or for want of memory or by its device.
 /// - `kept`, `outside`, `ended`, `open`, `crash`: what the call leaves: the last commit as it was, no transaction,
 ///   a store that is still open, and after a crash nothing that could not be left before.

@@ -1,11 +1,12 @@
-//! The form in which the tables of a store are those of this program.
+//! The form in which a store has the tables of this program.
 
-ghost use Rattle.std.specs.Prelude.{◌≡◌, ◌↔◌, true, false, [], ◌∷◌, Some};
+ghost use Rattle.std.specs.Prelude.{◌≡◌, ◌↔◌, true, false, [], ◌∷◌, Some, All, IsTrue};
 ghost use Rattle.sqlite_value.specs.declared.value.Value.TheVariants.{Null};
 ghost use Rattle.sqlite_value.specs.declared.keys.Collation.TheVariants.{Binary};
 ghost use Rattle.sqlite_value.specs.Keys.{plain};
 ghost use Rattle.ee_store_tables.specs.Tables.{
   counter_schema,
+  HasCounterTables,
   number_column,
   optional_column,
   text_column,
@@ -22,14 +23,14 @@ ghost use Rattle.ee_store_tables.specs.Tables.{
   answers,
 };
 ghost use Rattle.ee_store_schema.specs.declared.forms.Form.{Form};
-ghost use Rattle.ee_store_schema.specs.Forms.{replies, first_tables, schema_of};
+ghost use Rattle.ee_store_schema.specs.Forms.{replies, first_tables, earliest_tables, IsIn};
 ghost use Rattle.ee_store_schema.specs.Making.{no_tables};
-ghost use Rattle.ee_store_load.specs.Inner.Opening.{common_tables};
+ghost use Rattle.ee_store_load.specs.Inner.Opening.{common_tables, IsOtherTable, IsOtherIndex, IsView};
 
 use ee_store_schema::Form;
 use sqlite_items::Items;
 use sqlite_schema::code::Terms;
-use sqlite_schema::schema::{Column, Index, Kind, Schema, Stamps, Table};
+use sqlite_schema::schema::{Column, Index, Kind, Schema, Stamps, Table, View};
 use sqlite_value::keys::Collation;
 use sqlite_value::value::{Bytes, Value};
 
@@ -369,38 +370,126 @@ pub(crate) fn has_no_tables(schema: &Schema) -> bool
     schema.tables.is_empty() && schema.indexes.is_empty() && schema.views.is_empty()
 }
 
-/// The form of these tables: the six that every form has, followed by those of one form.
-fn form_of_tables(tables: &[Table]) -> Option<Form>
-    ensures { (form : Form) → (result ≡ Some form) ↔ (tables.now ≡ (schema_of form).tables) }
+/// Whether these are the eight tables of version 2.
+fn are_current_tables(tables: &[Table]) -> bool
+    ensures { (result ≡ true) ↔ (tables.now ≡ counter_schema.tables) }
 {
-    let (common, more) = tables.split_at_checked(6)?;
-    if !are_common(common) {
-        return None;
-    }
-    match more {
-        [replies] if is_replies(replies) => Some(Form::Earliest),
-        [replies, extensions] if is_replies(replies) && is_extensions(extensions) => {
-            Some(Form::First)
-        }
-        [extensions, answers] if is_extensions(extensions) && is_answers(answers) => {
-            Some(Form::Current)
-        }
-        _ => None,
-    }
+    let Some((common, more)) = tables.split_at_checked(6) else {
+        return false;
+    };
+    let [extensions, answers] = more else {
+        return false;
+    };
+    are_common(common) && is_extensions(extensions) && is_answers(answers)
 }
 
-/// The form of the tables, if they are those of this program in order, and there is nothing else.
-pub(crate) fn form_of(schema: &Schema) -> Option<Form>
-    ensures { (form : Form) → (result ≡ Some form) ↔ (schema.now ≡ schema_of form) }
+/// Whether a table has a tree behind the program's, and no foreign key.
+fn is_other_table(table: &Table) -> bool
+    ensures { (result ≡ true) ↔ IsOtherTable table.now }
 {
-    if !schema.views.is_empty() {
-        return None;
-    }
-    let form = form_of_tables(schema.tables.as_slice())?;
-    let indexes = schema.indexes.as_slice();
-    let are_ours = match form {
-        Form::Current => are_current_indexes(indexes),
-        Form::First | Form::Earliest => are_common_indexes(indexes),
+    table.tree > 14 && table.references.is_empty()
+}
+
+/// Whether an index is on a table whose tree is behind the program's.
+fn is_other_index(index: &Index) -> bool
+    ensures { (result ≡ true) ↔ IsOtherIndex index.now }
+{
+    index.table > 14
+}
+
+fn are_other_tables(tables: &[Table]) -> bool
+    ensures { IsTrue result ↔ All IsOtherTable tables.now }
+{
+    tables.iter().all(|table| is_other_table(table))
+}
+
+fn are_other_indexes(indexes: &[Index]) -> bool
+    ensures { IsTrue result ↔ All IsOtherIndex indexes.now }
+{
+    indexes.iter().all(|index| is_other_index(index))
+}
+
+/// Whether this is a view, and no table or index that `sqlite` keeps as it is.
+fn is_view(view: &View) -> bool
+    ensures { (result ≡ true) ↔ IsView view.now }
+{
+    view.foreign.is_none()
+}
+
+fn are_views(views: &[View]) -> bool
+    ensures { IsTrue result ↔ All IsView views.now }
+{
+    views.iter().all(|view| is_view(view))
+}
+
+/// Whether the schema begins with the tables and the indexes of version 2, and others' follow them.
+fn is_current(schema: &Schema) -> bool
+    ensures { (result ≡ true) ↔ HasCounterTables schema.now }
+{
+    let Some((tables, other_tables)) = schema.tables.as_slice().split_at_checked(8) else {
+        return false;
     };
-    are_ours.then_some(form)
+    let Some((indexes, other_indexes)) = schema.indexes.as_slice().split_at_checked(6) else {
+        return false;
+    };
+    are_current_tables(tables)
+        & are_current_indexes(indexes)
+        & are_other_tables(other_tables)
+        & are_other_indexes(other_indexes)
+        & are_views(schema.views.as_slice())
+}
+
+/// Whether these are the tables of version 1.
+fn are_first_tables(tables: &[Table]) -> bool
+    ensures { (result ≡ true) ↔ (tables.now ≡ first_tables.tables) }
+{
+    let Some((common, more)) = tables.split_at_checked(6) else {
+        return false;
+    };
+    let [replies, extensions] = more else {
+        return false;
+    };
+    are_common(common) && is_replies(replies) && is_extensions(extensions)
+}
+
+/// Whether these are the tables of version 1 before extensions existed.
+fn are_earliest_tables(tables: &[Table]) -> bool
+    ensures { (result ≡ true) ↔ (tables.now ≡ earliest_tables.tables) }
+{
+    let Some((common, more)) = tables.split_at_checked(6) else {
+        return false;
+    };
+    let [replies] = more else {
+        return false;
+    };
+    are_common(common) && is_replies(replies)
+}
+
+fn is_first(schema: &Schema) -> bool
+    ensures { (result ≡ true) ↔ (schema.now ≡ first_tables) }
+{
+    are_first_tables(schema.tables.as_slice())
+        && are_common_indexes(schema.indexes.as_slice())
+        && schema.views.is_empty()
+}
+
+fn is_earliest(schema: &Schema) -> bool
+    ensures { (result ≡ true) ↔ (schema.now ≡ earliest_tables) }
+{
+    are_earliest_tables(schema.tables.as_slice())
+        && are_common_indexes(schema.indexes.as_slice())
+        && schema.views.is_empty()
+}
+
+/// The form of the tables, if the schema has those of this program.
+pub(crate) fn form_of(schema: &Schema) -> Option<Form>
+    ensures { (form : Form) → (result ≡ Some form) ↔ IsIn form schema.now }
+{
+    if is_current(schema) {
+        return Some(Form::Current);
+    }
+    if is_first(schema) {
+        return Some(Form::First);
+    }
+    is_earliest(schema).then_some(Form::Earliest)
 }

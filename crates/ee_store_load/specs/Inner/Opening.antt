@@ -1,16 +1,30 @@
 -- Definitions that private contracts alone cite; specs/Opening.antt has the others.
-use Rattle.std.specs.Prelude.{◌≡◌, ℕ, List, [], ◌∷◌, Some, option_map}
+use Rattle.std.specs.Prelude.{◌≡◌, ◌<◌, ℕ, List, [], ◌∷◌, Some, None, option_map}
 use Rattle.std.specs.Option.{option_to_list}
 use Rattle.std.specs.Ordering.{nat_cmp}
 use Rattle.std.specs.FinMap.{FinMap, get}
 use Rattle.sqlite.specs.Order.{Row}
 use Rattle.sqlite.specs.Table.{Table}
+use Rattle.sqlite_schema.specs.declared.schema.Index.{Index}
+use Rattle.sqlite_schema.specs.declared.schema.View.{View}
 use Rattle.ee_store_tables.specs.Tables.{desk, rates, bonds, tickets, paid, batches}
 use Rattle.ee_store_tables.specs.Rows.{Rows, DeskRow, number}
 
 -- the tables that every form begins with
 abbrev pub common_tables : List Table
 common_tables = desk ∷ rates ∷ bonds ∷ tickets ∷ paid ∷ batches ∷ []
+
+-- a table of others has a tree behind the program's, and no foreign key
+abbrev pub IsOtherTable : Table → Type 0
+IsOtherTable table = (14 < table.tree) × (table.references ≡ [])
+
+-- an index of others is on such a table
+abbrev pub IsOtherIndex : Index → Type 0
+IsOtherIndex index = 14 < index.table
+
+-- a view stands for no table that is kept as it is
+abbrev pub IsView : View → Type 0
+IsView view = view.foreign ≡ None
 
 -- the version, as a query of the desk's row shows it
 abbrev pub version_shown : DeskRow → Row

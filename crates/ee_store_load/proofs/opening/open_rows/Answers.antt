@@ -34,7 +34,7 @@ returns-in-Some-clause-first g c clean =
     let form = c.in-Some.form in
     let ours = form_found old (c.is_autocommit.ensures.settled c.if-not-is_autocommit.false) c.schema.result.now c.schema.ensures.value form ((c.form_of.ensures form).0 c.in-Some.is) in
     on_ok_weaker c.read_all.result (λ first other rows had is_open.
-    subst (λ f. IsOfForm f rows) (one_form form other (sym (ours is_open) ∙ (had is_open).0)) (first rows (had_as form old rows other ours had))) (c.read_all.ensures.first clean)
+    subst (λ f. IsOfForm f rows) (one_form form other old.committed.schema (ours is_open) (had is_open).0) (first rows (had_as form old rows other ours had))) (c.read_all.ensures.first clean)
 
 pub returns-in-Some-clause-version : goal.returns-in-Some-clause-version
 returns-in-Some-clause-version g c clean =
@@ -56,7 +56,7 @@ returns-in-Some-clause-unusable g c clean =
     let form = c.in-Some.form in
     let ours = form_found old (c.is_autocommit.ensures.settled c.if-not-is_autocommit.false) c.schema.result.now c.schema.ensures.value form ((c.form_of.ensures form).0 c.in-Some.is) in
     each_fault c.read_all.result (λ e usable told other rows had is_open readable.
-    usable told rows (had_as form old rows other ours had) is_open (subst (λ f. AreReadable f rows) (sym (one_form form other (sym (ours is_open) ∙ (had is_open).0))) readable)) (c.read_all.ensures.usable clean)
+    usable told rows (had_as form old rows other ours had) is_open (subst (λ f. AreReadable f rows) (sym (one_form form other old.committed.schema (ours is_open) (had is_open).0)) readable)) (c.read_all.ensures.usable clean)
 
 pub returns-in-Some-clause-others : goal.returns-in-Some-clause-others
 returns-in-Some-clause-others g c clean =

@@ -1,7 +1,7 @@
 use Rattle.std.proofs.Common.{◌≡◌, [], map, refl, sym, subst}
 use Rattle.std.specs.FinMap.{entries}
 use Rattle.sqlite.specs.Held.{state}
-use Rattle.ee_store_schema.specs.Forms.{schema_of}
+use Rattle.ee_store_schema.proofs.Lemmas.Forms.{tables_in, sees_tables}
 use Rattle.ee_store_schema.proofs.Lemmas.Faults.{each_fault}
 use Rattle.ee_store_load.specs.Shown.{rate_map, rate_entry}
 use Rattle.ee_store_load.proofs.AskLemmas.{only_extensions}
@@ -22,7 +22,7 @@ returns-in-Current-clause-found g c clean ours sound =
     let form = c.args.form in
     let later = is_later form c.in-Current.is in
     both_ok c.read_table.result (λ found shows up.
-    let it = shows (schema_of form) 12 rate_terms by_key (asks_extensions form later) ours in
+    let it = shows (tables_in form old.now.schema) 12 rate_terms by_key (asks_extensions form old.now.schema later) (sees_tables form old ours) in
     extended_held form old.now.trees found.items later (holds_extensions form later old.now (sound it.0) (ours it.0) found.items it.1 up)) (c.read_table.ensures.found clean) c.read_table.ensures.rises
 
 pub returns-in-Current-clause-listed : goal.returns-in-Current-clause-listed
@@ -37,10 +37,12 @@ returns-in-Current-clause-usable g c clean =
     let form = c.args.form in
     let later = is_later form c.in-Current.is in
     each_fault c.read_table.result (λ e usable unusable ours is_open rows holds.
-    usable unusable (schema_of form) 12 rate_terms by_key (asks_extensions form later) ours is_open (can_read_extensions old.now.trees rows.extensions (holds_extended form old.now.trees rows later holds)))
+    usable unusable (tables_in form old.now.schema) 12 rate_terms by_key (asks_extensions form old.now.schema later) (sees_tables form old ours) is_open (can_read_extensions old.now.trees rows.extensions (holds_extended form old.now.trees rows later holds)))
     (c.read_table.ensures.usable clean)
 
 pub returns-in-Current-clause-cause : goal.returns-in-Current-clause-cause
 returns-in-Current-clause-cause g c clean ours =
-    let later = is_later c.args.form c.in-Current.is in
-    c.read_table.ensures.cause (schema_of c.args.form) (never_extensions c.args.form later) clean ours
+    let old = state g.S.Store c.args.conn.now in
+    let form = c.args.form in
+    let later = is_later form c.in-Current.is in
+    c.read_table.ensures.cause (tables_in form old.now.schema) (never_extensions form old.now.schema later) clean (sees_tables form old ours)

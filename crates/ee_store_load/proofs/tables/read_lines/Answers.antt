@@ -7,7 +7,7 @@ use Rattle.ee_store_tables.specs.Rows.{paid_columns}
 use Rattle.ee_store_tables.proofs.Lemmas.Transactions.{clean_before}
 use Rattle.ee_store_load.specs.declared.entries.Rowid.{Rowid}
 use Rattle.ee_store_load.specs.Inner.Reading.{ShowsAll}
-use Rattle.ee_store_schema.specs.Forms.{schema_of}
+use Rattle.ee_store_schema.proofs.Lemmas.Forms.{tables_in, sees_tables}
 use Rattle.ee_store_load.proofs.AskLemmas.{only_lines, only_line_rowids}
 use Rattle.ee_store_load.proofs.QuestionLemmas.{by_key, by_pair, line_terms, rowid_terms, asks_lines, asks_line_rowids}
 use Rattle.ee_store_load.proofs.ReadLemmas.{still_form, loads_then, loads_made, loads_failed}
@@ -48,9 +48,9 @@ returns-clause-found g c clean ours sound =
     let before = clean_before middle new c.test_table.ensures.only_loads.crash clean in
     let same = c.in_ok-rows.ensures.only_loads.same before in
     let ours_then = still_form ours.0 old middle same ours.1 in
-    let shows = c.in_ok-rows.ensures.found before (schema_of ours.0) 7 line_terms by_pair (asks_lines ours.0) ours.1 in
+    let shows = c.in_ok-rows.ensures.found before (tables_in ours.0 old.now.schema) 7 line_terms by_pair (asks_lines ours.0 old.now.schema) (sees_tables ours.0 old ours.1) in
     let numbered = c.in_ok-test_table.ensures.found clean in
-    let numbers = numbered.1 (schema_of ours.0) 7 rowid_terms by_key (asks_line_rowids ours.0) ours_then in
+    let numbers = numbered.1 (tables_in ours.0 middle.now.schema) 7 rowid_terms by_key (asks_line_rowids ours.0 middle.now.schema) (sees_tables ours.0 middle ours_then) in
     let ids = numbered.0 in
     holds_lines ours.0 old.now (sound shows.0) (ours.1 shows.0) c.in_ok-rows.rows.items ids shows.1 c.in_ok-rows.ensures.rises
     (subst (λ (d : Database). ShowsAll d.trees 7 rowid_terms (map (λ (it : Rowid). Int it.rowid ∷ []) ids)) same.0.now_is numbers.1) numbered.2
@@ -62,7 +62,7 @@ pub returns-in_err-rows-clause-usable : goal.returns-in_err-rows-clause-usable
 returns-in_err-rows-clause-usable g c clean =
     let old = state g.S.Store c.args.conn.now in
     handed_on _ c.from_residual.result c.in_err-rows.field-0.0 c.from_residual.ensures.1 (λ unusable ours is_open m holds.
-    c.in_err-rows.ensures.usable clean unusable (schema_of ours.0) 7 line_terms by_pair (asks_lines ours.0) ours.1 is_open (can_read_lines old.now.trees m holds))
+    c.in_err-rows.ensures.usable clean unusable (tables_in ours.0 old.now.schema) 7 line_terms by_pair (asks_lines ours.0 old.now.schema) (sees_tables ours.0 old ours.1) is_open (can_read_lines old.now.trees m holds))
 
 pub returns-in_err-test_table-clause-usable : goal.returns-in_err-test_table-clause-usable
 returns-in_err-test_table-clause-usable g c clean =
@@ -73,13 +73,13 @@ returns-in_err-test_table-clause-usable g c clean =
     let before = clean_before middle new c.test_table.ensures.only_loads.crash clean in
     let same = c.in_ok-rows.ensures.only_loads.same before in
     let ours_then = still_form ours.0 old middle same ours.1 in
-    c.in_err-test_table.ensures.usable clean unusable (schema_of ours.0) 7 rowid_terms by_key (asks_line_rowids ours.0) ours_then same.0.is_open (can_read_line_rowids middle.now.trees m (subst (λ (d : Database). HoldsPairs paid_columns (d.trees 7) m) (sym same.0.now_is) holds)))
+    c.in_err-test_table.ensures.usable clean unusable (tables_in ours.0 middle.now.schema) 7 rowid_terms by_key (asks_line_rowids ours.0 middle.now.schema) (sees_tables ours.0 middle ours_then) same.0.is_open (can_read_line_rowids middle.now.trees m (subst (λ (d : Database). HoldsPairs paid_columns (d.trees 7) m) (sym same.0.now_is) holds)))
 
 pub returns-in_err-rows-clause-cause : goal.returns-in_err-rows-clause-cause
 returns-in_err-rows-clause-cause g c clean ours limit =
     let old = state g.S.Store c.args.conn.now in
     let new = state g.S.Store c.read_table.new.conn in
-    handed_on (IsExcused old new) c.from_residual.result c.in_err-rows.field-0.0 c.from_residual.ensures.1 (c.in_err-rows.ensures.cause (schema_of ours.0) (never_lines ours.0) clean ours.1 limit)
+    handed_on (IsExcused old new) c.from_residual.result c.in_err-rows.field-0.0 c.from_residual.ensures.1 (c.in_err-rows.ensures.cause (tables_in ours.0 old.now.schema) (never_lines ours.0 old.now.schema) clean (sees_tables ours.0 old ours.1) limit)
 
 pub returns-in_err-test_table-clause-cause : goal.returns-in_err-test_table-clause-cause
 returns-in_err-test_table-clause-cause g c clean ours limit =
@@ -89,4 +89,4 @@ returns-in_err-test_table-clause-cause g c clean ours limit =
     let first = c.read_table.ensures.only_loads.crash in
     let ours_then = still_form ours.0 old middle (c.in_ok-rows.ensures.only_loads.same (clean_before middle new c.test_table.ensures.only_loads.crash clean)) ours.1 in
     handed_on (IsExcused old new) c.from_residual-in_err-test_table.result c.in_err-test_table.field-0.0 c.from_residual-in_err-test_table.ensures.1
-    (excused_then old middle new first c.test_table.ensures.only_loads.crash clean _ (c.in_err-test_table.ensures.cause (schema_of ours.0) (never_line_rowids ours.0) clean ours_then (first.limit ∙ limit)))
+    (excused_then old middle new first c.test_table.ensures.only_loads.crash clean _ (c.in_err-test_table.ensures.cause (tables_in ours.0 middle.now.schema) (never_line_rowids ours.0 middle.now.schema) clean (sees_tables ours.0 middle ours_then) (first.limit ∙ limit)))

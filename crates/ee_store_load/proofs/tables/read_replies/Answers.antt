@@ -1,5 +1,5 @@
 use Rattle.sqlite.specs.Held.{state}
-use Rattle.ee_store_schema.specs.Forms.{schema_of}
+use Rattle.ee_store_schema.proofs.Lemmas.Forms.{tables_in, sees_tables}
 use Rattle.ee_store_load.proofs.AskLemmas.{only_replies}
 use Rattle.ee_store_load.proofs.QuestionLemmas.{by_key, reply_terms, asks_replies}
 use Rattle.ee_store_schema.proofs.Lemmas.Faults.{each_fault}
@@ -16,7 +16,7 @@ pub returns-clause-found : goal.returns-clause-found
 returns-clause-found g c clean ours sound =
     let old = state g.S.Store c.args.conn.now in
     both_ok c.read_table.result (λ found shows up.
-    let it = shows (schema_of ours.0) 11 reply_terms by_key (asks_replies ours.0 ours.1) ours.2 in
+    let it = shows (tables_in ours.0 old.now.schema) 11 reply_terms by_key (asks_replies ours.0 old.now.schema ours.1) (sees_tables ours.0 old ours.2) in
     holds_replies ours.0 ours.1 old.now (sound it.0) (ours.2 it.0) found.items it.1 up) (c.read_table.ensures.found clean) c.read_table.ensures.rises
 
 pub returns-clause-listed : goal.returns-clause-listed
@@ -25,7 +25,9 @@ returns-clause-listed g c = each_ok c.read_table.result (λ found up. listed_rep
 pub returns-clause-usable : goal.returns-clause-usable
 returns-clause-usable g c clean =
     let old = state g.S.Store c.args.conn.now in
-    each_fault c.read_table.result (λ e usable unusable ours is_open m written holds. usable unusable (schema_of ours.0) 11 reply_terms by_key (asks_replies ours.0 ours.1) ours.2 is_open (can_read_replies old.now.trees m written holds)) (c.read_table.ensures.usable clean)
+    each_fault c.read_table.result (λ e usable unusable ours is_open m written holds. usable unusable (tables_in ours.0 old.now.schema) 11 reply_terms by_key (asks_replies ours.0 old.now.schema ours.1) (sees_tables ours.0 old ours.2) is_open (can_read_replies old.now.trees m written holds)) (c.read_table.ensures.usable clean)
 
 pub returns-clause-cause : goal.returns-clause-cause
-returns-clause-cause g c clean ours = c.read_table.ensures.cause (schema_of ours.0) (never_replies ours.0 ours.1) clean ours.2
+returns-clause-cause g c clean ours =
+    let old = state g.S.Store c.args.conn.now in
+    c.read_table.ensures.cause (tables_in ours.0 old.now.schema) (never_replies ours.0 old.now.schema ours.1) clean (sees_tables ours.0 old ours.2)

@@ -6,6 +6,7 @@ use Rattle.sqlite.proofs.Callers.{IsPlain}
 use Rattle.sqlite.proofs.InsideLemmas.{unchanged_keeps}
 use Rattle.sqlite.specs.Held.{state}
 use Rattle.ee_store_schema.specs.Inner.Forms.{HasOurTables}
+use Rattle.ee_store_schema.proofs.Lemmas.Forms.{sees_tables}
 use Rattle.ee_store_schema.specs.Inner.Asking.{IsNeverRefused}
 use Rattle.ee_store_schema.specs.declared.faults.OpenFault.TheVariants.{Unusable}
 use Rattle.ee_store_tables.proofs.Lemmas.Transactions.{query_keeps, shown_open}
@@ -35,7 +36,7 @@ returns-in_err-rows-clause-usable g c clean =
     let old = state g.S.Store c.args.conn.now in
     let new = state g.S.Store c.query_all.new.self in
     told_as (λ e. HasOurTables old → IsTrue old.is_open → e ≢ Unusable) c.from_residual.result c.in_err-rows.field-0.0 c.from_residual.ensures.1 (λ ours is_open.
-    query_usable old new version_text given_id _ (subst (λ s. IsPlain (understood s version_text)) (sym (ours.1 is_open)) (version_plain ours.0)) (inl (c.in_err-rows.ensures.err clean)))
+    query_usable old new version_text given_id _ (subst (λ s. IsPlain (understood s version_text)) (sym (sees_tables ours.0 old ours.1 is_open)) (version_plain ours.0 old.now.schema)) (inl (c.in_err-rows.ensures.err clean)))
 
 pub returns-clause-found : goal.returns-clause-found
 returns-clause-found g c clean form rows sees =
@@ -62,7 +63,7 @@ returns-in_err-rows-clause-cause g c clean ours limit =
     let old = state g.S.Store c.args.conn.now in
     let new = state g.S.Store c.query_all.new.self in
     told_as (IsExcused old new) c.from_residual.result c.in_err-rows.field-0.0 c.from_residual.ensures.1 (excused_if_open old new _ (λ is_open.
-    query_excused old new version_text given_id (subst (λ s. IsNeverRefused s version_text given_id) (sym (ours.1 is_open)) (never_version ours.0)) limit _ (c.in_err-rows.ensures.err clean)))
+    query_excused old new version_text given_id (subst (λ s. IsNeverRefused s version_text given_id) (sym (sees_tables ours.0 old ours.1 is_open)) (never_version ours.0 old.now.schema)) limit _ (c.in_err-rows.ensures.err clean)))
 
 pub returns-clause-any : goal.returns-clause-any
 returns-clause-any g c clean desk sees =

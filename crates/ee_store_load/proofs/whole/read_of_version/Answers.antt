@@ -11,6 +11,10 @@ use Rattle.ee_store_schema.specs.Faults.{IsExcused}
 use Rattle.ee_store_schema.proofs.Lemmas.Causes.{excused_then}
 use Rattle.ee_store_load.proofs.whole.read_of_version.Goals as goal
 
+pub returns-in_err-version-clause-other : goal.returns-in_err-version-clause-other
+returns-in_err-version-clause-other g c clean =
+    handed_on _ c.from_residual.result c.in_err-version.field-0.0 c.from_residual.ensures.1 (λ other rows sees. c.in_err-version.ensures.other clean other c.args.form rows sees)
+
 pub returns-in_err-version-clause-usable : goal.returns-in_err-version-clause-usable
 returns-in_err-version-clause-usable g c clean =
     handed_on _ c.from_residual.result c.in_err-version.field-0.0 c.from_residual.ensures.1 (λ unusable ours is_open rows sees readable.
