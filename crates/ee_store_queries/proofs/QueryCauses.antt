@@ -1,5 +1,5 @@
 -- Why a query fails.
-use Rattle.std.proofs.Common.{◌≡◌, ◌==◌, ℕ, suc, zero, ◌<◌, Bool, true, false, cond, List, [], ◌∷◌, map, length, get_or, Some, Result, IsTrue, refl, sym, ap, ◌∙◌, subst, arith}
+use Rattle.std.proofs.Common.{◌≡◌, ◌==◌, ℕ, suc, zero, ◌<◌, Bool, true, false, cond, List, [], ◌∷◌, map, length, get_or, Some, Result, Ok, Err, IsTrue, refl, sym, ap, ◌∙◌, subst, arith}
 use Rattle.std.proofs.lemmas.Result.{IfErr-weaker}
 use Rattle.std.specs.Prelude.{IfSome, ⊤}
 use Rattle.std.specs.List as list
@@ -28,7 +28,8 @@ use Rattle.ee_store_books.specs.Standing.{rows_of, IsRight}
 use Rattle.ee_store_tables.specs.declared.failures.Failure.{Failure}
 use Rattle.ee_store_tables.specs.Statements.{LeavesNoMore, IsExcused, CommitsNothing}
 use Rattle.ee_store_books.specs.Causes.{FailsByCause, IsReady}
-use Rattle.ee_store_queries.specs.Asking.{AnswersOrFails, KeepsContent, KeepsRoom}
+use Rattle.ee_store_books.specs.Seen.{FindsIn}
+use Rattle.ee_store_queries.specs.Asking.{AnswersOrFails, ShowsContent, KeepsContent, KeepsRoom}
 use Rattle.ee_store_queries.specs.Inner.Asking.{row_of_placed, unpaid_row}
 use Rattle.ee_store_queries.proofs.FoundTickets.{ticket_found}
 use Rattle.ee_store_books.proofs.Lemmas.Lookups.{excused, inside_content, sees_content, still_content}
@@ -90,6 +91,10 @@ module _ (old start : State) (is : start ≡ begun old) (middle new : State) (cr
   read_fails settled r fails clean ready S has =
       IfErr-weaker r (IsExcused start middle) (IsExcused old new) (excused old start is middle new crash survives)
       (fails (clean_before middle new survives clean) (inside_content old start is settled S has) (ap (λ (s : State). s.step_limit) is ∙ ready.1) S (sees_content old start is settled S has) tt)
+
+  pub read_shows : {X : Type 0} (settled : IsTrue old.is_open → old.now ≡ old.committed) (Is : Content → X → Type 0) (r : Result X Failure) → FindsIn start middle r Is → ShowsContent old new r Is
+  read_shows settled Is (Ok x) finds clean = λ S has. finds (clean_before middle new survives clean) (inside_content old start is settled S has) S (sees_content old start is settled S has)
+  read_shows settled Is (Err e) finds clean = tt
 
   pub read_ready : new.in_transaction ≡ false → IsReady old → IsReady new
   read_ready ended ready = (ended, survives.limit ∙ crash.limit ∙ ap (λ (s : State). s.step_limit) is ∙ ready.1)

@@ -24,7 +24,13 @@ returns-clause-found g c clean inside S sees =
 pub returns-clause-only_reads : goal.returns-clause-only_reads
 returns-clause-only_reads g c = record {
   still_open = search rules;
-  inside = search rules;
+  inside = λ clean inside.
+      let old = state g.S.Store c.args.tx.now.conn.now in
+      let middle = state g.S.Store c.find_rate.new.tx.conn.now in
+      let new = state g.S.Store c.find_extension.new.tx.conn.now in
+      let before = clean_before middle new c.find_extension.ensures.only_queries.crash clean in
+      let still = unchanged_inside old middle (c.in_ok-fixed.ensures.only_queries.same before inside) inside in
+      unchanged_inside middle new (c.in_ok-extension.ensures.only_queries.same clean still) still;
   rows = λ clean inside rows sees.
       let old = state g.S.Store c.args.tx.now.conn.now in
       let middle = state g.S.Store c.find_rate.new.tx.conn.now in

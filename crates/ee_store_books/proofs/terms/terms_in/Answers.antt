@@ -1,14 +1,16 @@
-use Rattle.std.proofs.Common.{refl, sym, ap, ◌∙◌}
+use Rattle.std.proofs.Common.{rules, refl, sym, ap, ◌∙◌}
+use Rattle.std.proofs.lemmas.List.{take_all}
 use Rattle.std.specs.Cmp.{nat_cmp_total}
 use Rattle.std.specs.FinMap as finite
 use Rattle.std.specs.FinMap.{nat_cmp-IsAntisymmetric}
 use Rattle.sqlite.specs.Held.{state}
 use Rattle.ee_store_tables.proofs.Lemmas.Transactions.{clean_before}
+use Rattle.ee_desk_model.specs.Views.{picked}
 use Rattle.ee_store_books.specs.Standing.{rows_of}
 use Rattle.ee_store_books.specs.Seen.{SeesContent}
 use Rattle.ee_store_books.specs.Found.{with_found}
 use Rattle.ee_store_books.proofs.ByKeys.{found_next}
-use Rattle.ee_store_books.proofs.InTurn.{nothing_done, done_then}
+use Rattle.ee_store_books.proofs.InTurn.{nothing_done, done_then, crash_then, commit_then}
 use Rattle.ee_store_books.proofs.Causes.{excused_later, seen_then}
 use Rattle.ee_store_books.proofs.HandedOn.{handed_on}
 use Rattle.ee_store_books.proofs.terms.terms_in.Goals as goal
@@ -48,3 +50,21 @@ returns-in_err-terms-clause-cause g c clean inside endless S sees _ =
     handed_on _ c.from_residual.result c.in_err-terms.field-0.0 c.from_residual.ensures.1
     (excused_later old middle new clean was.stays.crash c.find_terms.ensures.only_reads.crash _
     (c.in_err-terms.ensures.cause clean (was.stays.inside before inside) (was.stays.crash.limit ∙ endless) S still tt))
+
+pub returns-in_err-note_terms-clause-only_reads : goal.returns-in_err-note_terms-clause-only_reads
+returns-in_err-note_terms-clause-only_reads g c =
+    let old = state g.S.Store c.args.tx.now.conn.now in
+    let middle = state g.S.Store c.loop-period.tx.conn.now in
+    let new = state g.S.Store c.find_terms.new.tx.conn.now in
+    let was = c.loop-period.invariant in
+    record {
+      still_open = search rules;
+      inside = search rules;
+      rows = search rules;
+      commit = commit_then old middle new was.stays c.find_terms.ensures.only_reads.crash c.find_terms.ensures.only_reads.commit;
+      crash = crash_then old middle new was.stays c.find_terms.ensures.only_reads.crash;
+    }
+
+pub returns-clause-found : goal.returns-clause-found
+returns-clause-found g c clean inside S sees =
+    c.loop-period.invariant.found clean inside S sees ∙ ap (picked (finite.get S.books.rates)) (take_all c.loop-period.period-index c.args.periods.now c.loop-period-test.false)

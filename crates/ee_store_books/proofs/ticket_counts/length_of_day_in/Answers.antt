@@ -2,6 +2,7 @@ use Rattle.std.proofs.Common.{rules, ◌-◌, ap, ◌∙◌}
 use Rattle.std.specs.Option.{option_map_or}
 use Rattle.sqlite.specs.Held.{state}
 use Rattle.ee_store_tables.specs.Rows.{first_number, tickets_on}
+use Rattle.ee_store_tables.proofs.Lemmas.Transactions.{unchanged_inside}
 use Rattle.ee_store_books.specs.Standing.{rows_of}
 use Rattle.ee_store_books.proofs.DaySums.{from_first_on}
 use Rattle.ee_store_books.proofs.HandedOn.{statement_failed}
@@ -16,7 +17,7 @@ returns-clause-found g c clean inside S sees opened count =
 pub returns-clause-only_reads : goal.returns-clause-only_reads
 returns-clause-only_reads g c = record {
   still_open = search rules;
-  inside = search rules;
+  inside = λ clean inside. unchanged_inside (state g.S.Store c.args.tx.now.conn.now) (state g.S.Store c.first_ticket.new.tx.conn.now) (c.in_ok-first.ensures.only_queries.same clean inside) inside;
   rows = λ clean inside rows sees.
       unchanged_rows (state g.S.Store c.args.tx.now.conn.now) (state g.S.Store c.first_ticket.new.tx.conn.now) (c.in_ok-first.ensures.only_queries.same clean inside) rows sees;
   commit = search rules;

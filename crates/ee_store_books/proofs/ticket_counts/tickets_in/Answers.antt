@@ -1,6 +1,7 @@
 use Rattle.std.proofs.Common.{rules, ap, ◌∙◌}
 use Rattle.std.specs.Option.{unwrap_or}
 use Rattle.sqlite.specs.Held.{state}
+use Rattle.ee_store_tables.proofs.Lemmas.Transactions.{unchanged_inside}
 use Rattle.ee_store_books.specs.Standing.{rows_of}
 use Rattle.ee_store_books.proofs.DaySums.{last_is_count}
 use Rattle.ee_store_books.proofs.HandedOn.{statement_failed}
@@ -14,7 +15,7 @@ returns-clause-found g c clean inside S sees =
 pub returns-clause-only_reads : goal.returns-clause-only_reads
 returns-clause-only_reads g c = record {
   still_open = search rules;
-  inside = search rules;
+  inside = λ clean inside. unchanged_inside (state g.S.Store c.args.tx.now.conn.now) (state g.S.Store c.last_ticket.new.tx.conn.now) (c.in_ok-last.ensures.only_queries.same clean inside) inside;
   rows = λ clean inside rows sees.
       unchanged_rows (state g.S.Store c.args.tx.now.conn.now) (state g.S.Store c.last_ticket.new.tx.conn.now) (c.in_ok-last.ensures.only_queries.same clean inside) rows sees;
   commit = search rules;

@@ -1,8 +1,11 @@
 use Rattle.std.proofs.Common.{sym, ap, subst, ◌∙◌, rules}
 use Rattle.sqlite.specs.Held.{state}
-use Rattle.ee_store_queries.specs.Asking.{KeepsContent, KeepsRoom, AnswersOrFails}
+use Rattle.ee_desk_model.specs.Repeats.{Content}
+use Rattle.ee_desk_model.specs.declared.queries.Shown.{Shown}
+use Rattle.ee_desk_model.specs.Queries.{ShowsQuery}
+use Rattle.ee_store_queries.specs.Asking.{ShowsContent, KeepsContent, KeepsRoom, AnswersOrFails}
 use Rattle.ee_store_books.specs.Causes.{IsReady}
-use Rattle.ee_store_queries.proofs.QueryCauses.{read_fails, read_ready, read_keeps, read_room}
+use Rattle.ee_store_queries.proofs.QueryCauses.{read_shows, read_fails, read_ready, read_keeps, read_room}
 use Rattle.ee_store_queries.proofs.queries.ask.Goals as goal
 
 pub returns-clause-kept : goal.returns-clause-kept
@@ -56,7 +59,17 @@ pub returns-clause-crash : goal.returns-clause-crash
 returns-clause-crash g c = search rules
 
 pub returns-clause-shown : goal.returns-clause-shown
-returns-clause-shown g c = search rules
+returns-clause-shown g c =
+    let old = state g.S.Store c.args.conn.now in
+    let start = state g.S.Store c.transaction-tx.result.conn.now in
+    let is = ap (state g.S.Store) c.transaction-tx.ensures.begun in
+    let settled = c.is_autocommit.ensures.settled c.if-not-is_autocommit.false in
+    let middle = state g.S.Store c.shown_in.new.tx.conn.now in
+    let new = state g.S.Store c.drop-tx.new.self.0 in
+    let same = c.conn-1.given.1 (sym (c.shown_in.ensures.same_reference ∙ c.transaction-tx.ensures.same_reference)) in
+    let Is : Content → Shown → Type 0 = λ content shown. ShowsQuery content.books c.args.query.now shown in
+    subst (λ h. ShowsContent old (state g.S.Store h) c.shown_in.result Is) (sym same)
+    (read_shows old start is middle new c.shown_in.ensures.crash c.drop-tx.ensures.survives settled Is c.shown_in.result c.shown_in.ensures.found)
 
 pub returns-then-not-is_autocommit-clause-cause : goal.returns-then-not-is_autocommit-clause-cause
 returns-then-not-is_autocommit-clause-cause g c = search rules

@@ -1,6 +1,7 @@
 use Rattle.std.proofs.Common.{rules, ◌≡◌, ap, ◌∙◌}
 use Rattle.std.specs.List.{filter_map}
 use Rattle.sqlite.specs.Held.{state}
+use Rattle.sqlite.proofs.InsideLemmas.{keeps_then}
 use Rattle.ee_desk_model.specs.Queries.{row_of, sheet_of}
 use Rattle.ee_desk_decide.proofs.Lemmas.{sheet_shows_rows}
 use Rattle.ee_store_tables.proofs.Lemmas.Transactions.{clean_before}
@@ -19,6 +20,14 @@ returns-clause-found g c clean inside S sees =
     let are = own ∙ c.in_ok-bonds.ensures.found before inside S sees in
     let rows = c.in_ok-rows.ensures.found clean (c.in_ok-bonds.ensures.inside before inside) S still ∙ ap (filter_map (row_of S.books.rates c.args.month)) are in
     sheet_shows_rows c.sheet.result c.in_ok-rows.rows.items c.sheet.ensures.rows c.sheet.ensures.price c.sheet.ensures.value c.sheet.ensures.interest ∙ ap sheet_of rows
+
+pub returns-in_err-rows-clause-commit : goal.returns-in_err-rows-clause-commit
+returns-in_err-rows-clause-commit g c clean inside =
+    let old = state g.S.Store c.args.tx.now.conn.now in
+    let middle = state g.S.Store c.bonds_in.new.tx.conn.now in
+    let new = state g.S.Store c.rows_in.new.tx.conn.now in
+    let before = clean_before middle new c.rows_in.ensures.crash clean in
+    keeps_then old middle new (c.in_ok-bonds.ensures.commit before inside) (c.in_err-rows.ensures.commit clean (c.in_ok-bonds.ensures.inside before inside))
 
 pub returns-in_err-rows-clause-cause : goal.returns-in_err-rows-clause-cause
 returns-in_err-rows-clause-cause g c clean inside endless S sees _ =
