@@ -32,7 +32,6 @@ use Rattle.ee_desk_laws.specs.Events.{stopped, Event, World, Told, begun, decide
 use Rattle.ee_desk_laws.specs.Events.Event.{Deliver, Lose, Unserved, Stop_between, Reopen}
 use Rattle.ee_desk_laws.specs.Stops.{SurvivesStops, SettlesByRetries}
 use Rattle.ee_desk_laws.proofs.Lemmas.{in_tail, happens_onward}
-use Rattle.ee_store_tables.specs.Tables.{counter_schema}
 use Rattle.ee_store_schema.specs.declared.faults.OpenFault.{OpenFault}
 use Rattle.ee_store_schema.specs.declared.forms.Form.{Form}
 use Rattle.ee_store_schema.specs.declared.forms.Form.TheVariants.{Current, First, Earliest}
@@ -253,7 +252,7 @@ module _ {D : Type 0} (g : Ghosts D) (takes : TakesHeld) (finds : FindsHeld) (no
   left_of_none : IsEmpty refused_was.committed.trees → (content : Content) → content ≡ nothing → (left : Image) → (state last).may_leave left → ∥ HoldsContent left content ∥₁
   left_of_none empty content is left may =
       let each : (db : Trees) → recovers last db → IsEmpty db ⊎ StandsFor db nothing = λ db m. empty_or_begun empty db (no_more db m) in
-      let sound : AreDatabases (recovers last) = λ db m. elim (each db m) [ inl bare ↦ (_, empty_is_sound db bare.1) | inr stands ↦ (counter_schema, stands.stores.sound) ] in
+      let sound : AreDatabases (recovers last) = λ db m. elim (each db m) [ inl bare ↦ (_, empty_is_sound db bare.1) | inr stands ↦ (stands.stores.schema, stands.stores.sound) ] in
       ∥∥₁_map (opens_again last numbered sound left may) (λ again.
       let r : HoldsContent left content = elim (each again.0 again.1) [
         | inl bare ↦ inr (is, inr ∣ (again.0, takes left again.0 again.2, bare) ∣₁)
@@ -278,7 +277,7 @@ goes_by_queries g old new keeps = goes_from (file_state old) (file_state new) []
 
 pub leaves_history : {D : Type 0} (g : Ghosts D) → TakesHeld → LeavesHistory g
 leaves_history g takes start events old last left come no_more numbered may = ∥∥₁_elim come squash₁ (λ (w, happened, up, follows).
-    let sound : AreDatabases (recovers last) = λ db m. let found = follows.1 db (no_more db m) in (counter_schema, found.2.stores.sound) in
+    let sound : AreDatabases (recovers last) = λ db m. let found = follows.1 db (no_more db m) in (found.2.stores.schema, found.2.stores.sound) in
     ∥∥₁_map (opens_again last numbered sound left may) (λ again.
     let (content, among, stands) = follows.1 again.0 (no_more again.0 again.1) in (
       rested w content,

@@ -51,8 +51,9 @@ module _ (old middle : State) (form : Form) (rows : Rows) (kept : KeepsCommit ol
   pub is_ours : IsOurs old
   is_ours = (form, λ o. (had o).0)
 
-  found_form : (other : Form) → HasForm other old → other ≡ form
-  found_form other has = one_form other form (sym (kept_form old middle other kept has is_open) ∙ (found is_open).0)
+  -- and no store has two forms
+  pub found_form : (other : Form) → HasForm other old → other ≡ form
+  found_form other has = one_form other form middle.committed.schema (kept_form old middle other kept has is_open) (found is_open).0
 
   -- of a store of version 1 they fit their new rows
   pub fits_rows : (given : List StoredAnswer) → (form ≢ Current → Lists given rows) → CanMigrate old → CanBecome form given middle

@@ -14,7 +14,6 @@ use Rattle.ee_store_files.specs.Files.{Finds}
 use Rattle.ee_desk_model.specs.Repeats.{Content}
 use Rattle.ee_desk_laws.specs.Events.{World, Happens}
 use Rattle.ee_desk_laws.specs.Events.Event.{Stop_between, Reopen}
-use Rattle.ee_store_tables.specs.Tables.{counter_schema}
 use Rattle.ee_store_books.specs.Standing.{rows_of}
 use Rattle.ee_store_schema.specs.declared.faults.OpenFault.{OpenFault}
 use Rattle.ee_store_schema.proofs.Lemmas.Forms.{kept_had}
@@ -63,7 +62,7 @@ next_on left now (inr (fault, refused)) w content among stands = refused_on left
 
 pub follows_in_next_run : {D E : Type 0} (g : Ghosts D) (h : Ghosts E) → FollowsInNextRun g h
 follows_in_next_run g h old w left now numbered follows may next =
-    let sound : AreDatabases (recovers old.store) = λ db may. let found = follows.1 db may in (counter_schema, found.2.stores.sound) in
+    let sound : AreDatabases (recovers old.store) = λ db may. let found = follows.1 db may in (found.2.stores.schema, found.2.stores.sound) in
     ∥∥₁_map (found_again old left (was_found left now next) numbered sound may (found_in left now next)) (λ may.
     let (content, among, stands) = follows.1 (was_found left now next).committed.trees may in
     let (v, happens, is, goes_on) = next_on left now next w content among stands in
@@ -72,7 +71,7 @@ follows_in_next_run g h old w left now numbered follows may next =
 pub waits_in_next_run : {D E : Type 0} (g : Ghosts D) (h : Ghosts E) → WaitsInNextRun g h
 waits_in_next_run g h old w left fault now numbered follows may refused =
     let was = file_state refused.was in
-    let sound : AreDatabases (recovers old.store) = λ db may. let found = follows.1 db may in (counter_schema, found.2.stores.sound) in
+    let sound : AreDatabases (recovers old.store) = λ db may. let found = follows.1 db may in (found.2.stores.schema, found.2.stores.sound) in
     ∥∥₁_map (found_again old left was numbered sound may refused.found) (λ may.
     let (content, among, stands) = follows.1 was.committed.trees may in
     let (v, happens, is, waits) = refused.waits refused.opened.0.is_open Current w content among (stood_now was.committed.trees content stands) in
@@ -80,5 +79,5 @@ waits_in_next_run g h old w left fault now numbered follows may refused =
 
 pub leaves_standing : {D : Type 0} {g : Ghosts D} (old : Held (FileStore D g)) → IsNumbered old → LeavesStanding old
 leaves_standing old numbered w left follows may =
-    let sound : AreDatabases (recovers old.store) = λ db may. let found = follows.1 db may in (counter_schema, found.2.stores.sound) in
+    let sound : AreDatabases (recovers old.store) = λ db may. let found = follows.1 db may in (found.2.stores.schema, found.2.stores.sound) in
     ∥∥₁_map (opens_again old.store numbered sound left may) (λ found. (found.0, found.2, follows.1 found.0 found.1))

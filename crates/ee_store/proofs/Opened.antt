@@ -1,5 +1,5 @@
 -- Opening a store: what the rows that were found represent.
-use Rattle.std.proofs.Common.{◌≡◌, inl, inr, ℕ, List, [], map, IsTrue, sym, ap, ◌∙◌, subst}
+use Rattle.std.proofs.Common.{◌≡◌, inl, inr, ℕ, List, [], map, IsTrue, sym, ap, subst}
 use Rattle.std.specs.Prelude.{IfSome, filter_map}
 use Rattle.std.specs.Ordering.{nat_cmp}
 use Rattle.std.specs.FinMap.{from_entries, get-empty}
@@ -22,7 +22,7 @@ use Rattle.ee_store_tables.specs.Keyed.{pair_cmp}
 use Rattle.ee_store_tables.specs.Rows.{Rows, Has, Stores}
 use Rattle.ee_store_schema.specs.declared.forms.Form.{Form}
 use Rattle.ee_store_schema.specs.declared.forms.Form.TheVariants.{Current}
-use Rattle.ee_store_schema.specs.Forms.{version_of, HoldsIn, HasForm, HadIn}
+use Rattle.ee_store_schema.specs.Forms.{IsIn, version_of, HoldsIn, HasForm, HadIn}
 use Rattle.ee_store_schema.specs.Making.{IsBlank, first_rows}
 use Rattle.ee_store_load.specs.Opening.{HasTables, IsOtherVersion}
 use Rattle.ee_store_load.proofs.Lemmas.{ours_tables, one_version}
@@ -64,14 +64,14 @@ has_tables old form rows had = ours_tables old (form, λ is_open. (had is_open).
 
 -- while nothing is committed a store has the form that it had
 pub kept_form : (old new : State) (form : Form) → KeepsCommit old new → HasForm form old → HasForm form new
-kept_form old new form keeps has is_open = ap (λ (d : Database). d.schema) (keeps.committed is_open) ∙ has (keeps.was_open is_open)
+kept_form old new form keeps has is_open = subst (λ (d : Database). IsIn form d.schema) (sym (keeps.committed is_open)) (has (keeps.was_open is_open))
 
 -- and an open one had what it has
 pub had_before : (old new : State) (form : Form) (rows : Rows) → KeepsCommit old new → IsTrue new.is_open → HadIn form new rows → HadIn form old rows
 had_before old new form rows keeps is_open had _ =
     let it = had is_open in
     let same = sym (keeps.committed is_open) in
-    (ap (λ (d : Database). d.schema) same ∙ it.0, subst (λ (d : Database). HoldsIn form d.trees rows) (sym same) it.1)
+    (subst (λ (d : Database). IsIn form d.schema) (sym same) it.0, subst (λ (d : Database). HoldsIn form d.trees rows) (sym same) it.1)
 
 -- a store with the first rows has the empty content
 pub of_nothing : (s : State) → Has s first_rows → HasContent s nothing

@@ -69,6 +69,6 @@ module _ (old middle new : State) (rows : Rows) (given : List StoredAnswer) (kee
   room_before form had lists same made n (other, others, was, room) =
       let before = had_before old middle form rows keeps is_open had (keeps.was_open is_open) in
       let then = was (keeps.was_open is_open) in
-      let one = one_form other form (sym then.0 ∙ before.0) in
+      let one = one_form other form old.committed.schema then.0 before.0 in
       let held = subst (λ f. HoldsIn f old.committed.trees others) one then.1 in
       of_form form lists same made n (subst (HasRoomFor form n old.committed.trees) (one_rows form old.committed.trees others rows held before.1) (subst (λ f. HasRoomFor f n old.committed.trees others) one room))

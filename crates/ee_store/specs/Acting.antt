@@ -11,7 +11,7 @@ use Rattle.ee_desk_model.specs.declared.refusals.Unserved.{Unserved}
 use Rattle.ee_desk_model.specs.declared.refusals.Unserved.TheVariants.{StoreFailed}
 use Rattle.ee_desk_laws.specs.Events.{World, Told, decided as with_decided, unserved as with_unserved}
 use Rattle.ee_desk_laws.specs.Events.Event.{Deliver, Lose, Unserved as NotServed}
-use Rattle.ee_store_tables.specs.Statements.{HasCause}
+use Rattle.ee_store_tables.specs.Statements.{HasCause, LeavesOthers}
 use Rattle.ee_store_books.specs.Causes.{IsReady}
 use Rattle.ee_store_books.specs.Seen.{StandsFor, HasContent}
 use Rattle.ee_store_delivery.specs.Causes.{TakesRequestRoom, CanDeliver}
@@ -38,6 +38,8 @@ pub record ActsOnce (old new : State) (known known_now : Known) (request : Reque
       → (db : Trees) → new.may_leave db → StandsFor db (content_after content (request ∷ []))
   -- after the reply to a kept number, what it could leave before
   pub again : HasCleanDisk new → (content : Content) → IsGivenFor true old request failed content → (db : Trees) → new.may_leave db → old.may_leave db
+  -- others' tables and their rows are kept
+  pub others : HasCleanDisk new → (content : Content) → HasContent old content → LeavesOthers old new
   -- it takes requests as before, with room for at most 501 rows less
   pub ready : IsReady old → IsReady new
   pub room : TakesRequestRoom old new

@@ -78,6 +78,10 @@ BeginsWorld old new = IsTrue new.is_open × (IsBlank old → FollowsWorld new (b
 abbrev pub KeepsContent : State → State → Type 0
 KeepsContent old new = (form : Form) (content : Content) → HadContent form old content → HasContent new content
 
+-- to a store of version 2 nothing is committed, so tables of others stay as they are
+abbrev pub KeepsPresent : State → State → Type 0
+KeepsPresent old new = HasForm Current old → KeepsCommit old new
+
 -- the store had a content, in some form, and still has it; or it had no tables, and has the empty content
 abbrev pub HasSome : State → State → Type 0
 HasSome old new = ((form : Form) × (content : Content) × HadContent form old content × HasContent new content) ⊎ (IsBlank old × HasContent new nothing)
@@ -131,7 +135,7 @@ LeavesAsBefore old new = IsTrue old.is_open → HasTables old → (db : Trees) �
 abbrev pub CanMigrate : State → Type 0
 CanMigrate old = (¬ HasForm Current old) → (form : Form) (rows : Rows) → HadIn form old rows → AnswersFit rows
 
--- For a connection in no transaction, without a limit on steps, over a store without tables or with exactly those of either version,
+-- For a connection in no transaction, without a limit on steps, over a store without tables or with those of either version,
 -- the fault has a cause.
 abbrev pub FailsToAdopt : State → State → OpenFault → Type 0
 FailsToAdopt old new fault = old.in_transaction ≡ false → old.step_limit ≡ None → IsBlank old ⊎ IsOurs old → CanMigrate old → fault ≡ StoreFailed → HasCause old new
@@ -164,6 +168,7 @@ pub record IsOpenedFrom {D : Type 0} {g : Ghosts D} (start : Image) (now : Held 
   pub begins : BeginsEmpty (file_state was) (file_state now)
   pub begun : BeginsWorld (file_state was) (file_state now)
   pub keeps : KeepsContent (file_state was) (file_state now)
+  pub present : KeepsPresent (file_state was) (file_state now)
   pub some : HasSome (file_state was) (file_state now)
   pub follows : CarriesWorld (file_state was) (file_state now)
   pub goes_on : GoesOn (file_state was) (file_state now)

@@ -23,6 +23,7 @@ ghost use Rattle.ee_store.specs.Adopted.{
   HadOtherVersion,
   HadNoOtherVersion,
   LeavesAsBefore,
+  KeepsPresent,
   FailsToAdopt,
   OpensWithRoom,
 };
@@ -84,6 +85,7 @@ fn ready<S: Alter>(conn: &mut Connection<S>, alloc: Global) -> Result<UnitTables
     ensures begins { HasCleanDisk (state S.Store conn.new) → OnOk result (BeginsEmpty (state S.Store conn.old) (state S.Store conn.new)) }
     ensures begun { HasCleanDisk (state S.Store conn.new) → OnOk result (BeginsWorld (state S.Store conn.old) (state S.Store conn.new)) }
     ensures found { HasCleanDisk (state S.Store conn.new) → OnOk result (KeepsContent (state S.Store conn.old) (state S.Store conn.new)) }
+    ensures present { HasCleanDisk (state S.Store conn.new) → OnOk result (KeepsPresent (state S.Store conn.old) (state S.Store conn.new)) }
     ensures stands { HasCleanDisk (state S.Store conn.new) → OnOk result (HasSome (state S.Store conn.old) (state S.Store conn.new)) }
     ensures follows { HasCleanDisk (state S.Store conn.new) → OnOk result (CarriesWorld (state S.Store conn.old) (state S.Store conn.new)) }
     ensures goes_on { HasCleanDisk (state S.Store conn.new) → OnOk result (GoesOn (state S.Store conn.old) (state S.Store conn.new)) }
@@ -118,9 +120,10 @@ fn ready<S: Alter>(conn: &mut Connection<S>, alloc: Global) -> Result<UnitTables
 
 impl<S: Alter> SqlKeeper<S> {
     /// Adopts a connection that is in no transaction. In a store without tables it creates them, in one
-    /// transaction, and starts with the empty content. In a store that has exactly the tables of this program, in
-    /// the order in which it creates them, it reads all rows and tests them. A store of version 1, with or without
-    /// the table of extensions, is read and tested in the same way, and then migrated: in one transaction it
+    /// transaction, and starts with the empty content. In a store that has the tables of this program, in the order
+    /// in which it creates them, it reads all rows and tests them. Tables, indexes and views of others may follow
+    /// these: they aren't read, and stay as they are. A store that has exactly the tables of version 1, with or
+    /// without that of extensions, is read and tested in the same way, and then migrated: in one transaction it
     /// becomes one of version 2 with the same content, its replies under the first desk. Any other store is
     /// refused.
     ///
@@ -129,6 +132,7 @@ impl<S: Alter> SqlKeeper<S> {
     ///   So the events of the law of stops and retries begin there.
     /// - `found`: a store keeps the content that it has, in whichever form its tables are. One of version 1 has it
     ///   in version 2, with each number under the first desk, and every kept reply as before.
+    /// - `present`: to a store of version 2 nothing is committed, so tables of others stay as they are.
     /// - `stands`: so the keeper serves a content that the store had, and never rows that represent none, nor other
     ///   tables.
     /// - `informed`: the cache is correct; a new keeper's is empty.
@@ -137,14 +141,14 @@ impl<S: Alter> SqlKeeper<S> {
     ///   content, and the events of the law go on from there.
     /// - `version`, `unusable`: a store that has a content, or no tables, is refused for neither.
     /// - `other`, `tested`: the fault is `WrongVersion` only if the rows have another version, and then never
-    ///   `Unusable`. Over other tables it is `WrongVersion` only if `sqlite` shows another version for the desk's
-    ///   row; if the desk is the first table, exactly then.
+    ///   `Unusable`. Over tables in no such form it is `WrongVersion` only if `sqlite` shows another version for the
+    ///   desk's row; if the desk is the first table, exactly then.
     /// - `ready`: a connection in no transaction, without a limit on steps, makes a keeper that takes requests. If
     ///   it is refused, it is handed back in the same state.
     /// - `room`: it has room for as many rows with hidden rowids as its trees have, and as they had before, less those
     ///   of the kept replies that are migrated; a store that was new, for 2^63 - 1. A store without room is taken over
     ///   too: it answers what it keeps, and `StoreFailed` to requests that need a row.
-    /// - `cause`: for such a connection, over a store without tables or with exactly those of either version, the
+    /// - `cause`: for such a connection, over a store without tables or with those of either version, the
     ///   fault is `StoreFailed` only if the device failed once more, or the store was shut before. For a store of
     ///   version 1 this needs kept replies that fit the rows of version 2, as all do that are shorter than 900
     ///   million bytes.
@@ -162,11 +166,13 @@ impl<S: Alter> SqlKeeper<S> {
     /// - `NoMemory` if memory is refused.
     /// - `StoreFailed` if the store fails, or the connection is in a transaction.
     /// - `WrongVersion` if the tables have neither version.
-    /// - `Unusable` if the tables are others, or in another order, or the rows represent no books and kept replies.
+    /// - `Unusable` if the tables aren't these, or are in another order, or an index more is on them, or the rows
+    ///   represent no books and kept replies.
     pub fn adopt(conn: Connection<S>, alloc: Global) -> Result<SqlKeeper<S>, NotAdopted<S>>
         ensures begins { IfOk result (λ keeper. HasCleanDisk (state S.Store keeper.conn) → BeginsEmpty (state S.Store conn) (state S.Store keeper.conn)) }
         ensures begun { IfOk result (λ keeper. HasCleanDisk (state S.Store keeper.conn) → BeginsWorld (state S.Store conn) (state S.Store keeper.conn)) }
         ensures found { IfOk result (λ keeper. HasCleanDisk (state S.Store keeper.conn) → KeepsContent (state S.Store conn) (state S.Store keeper.conn)) }
+        ensures present { IfOk result (λ keeper. HasCleanDisk (state S.Store keeper.conn) → KeepsPresent (state S.Store conn) (state S.Store keeper.conn)) }
         ensures stands { IfOk result (λ keeper. HasCleanDisk (state S.Store keeper.conn) → HasSome (state S.Store conn) (state S.Store keeper.conn)) }
         ensures informed { IfOk result (λ keeper. IsInformed (state S.Store keeper.conn) keeper.known) }
         ensures follows { IfOk result (λ keeper. HasCleanDisk (state S.Store keeper.conn) → CarriesWorld (state S.Store conn) (state S.Store keeper.conn)) }

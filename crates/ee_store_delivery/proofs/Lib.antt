@@ -1,3 +1,4 @@
+mod InOrder
 mod Changes
 mod Written
 mod Delivered

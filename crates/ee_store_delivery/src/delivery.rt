@@ -14,7 +14,7 @@ ghost use Rattle.sqlite.specs.Effect.{IsDatabase};
 ghost use Rattle.sqlite.specs.State.{HasCleanDisk, Survives};
 ghost use Rattle.ee_store_tables.specs.Rows.{IsInside, HasRoom};
 ghost use Rattle.sqlite.specs.Held.{state};
-ghost use Rattle.ee_store_tables.specs.Statements.{WritesInside, WritesIfAny, LeavesSound};
+ghost use Rattle.ee_store_tables.specs.Statements.{WritesInside, WritesIfAny, LeavesSound, LeavesOthers};
 ghost use Rattle.ee_store_books.specs.Causes.{FailsByCause, IsReady};
 ghost use Rattle.ee_store_delivery.specs.Causes.{TextsFit, TakesRequestRoom, DeliversOrFails};
 ghost use Rattle.ee_store_delivery.specs.Inner.Causes.{LeavesRoomAfter};
@@ -152,6 +152,8 @@ pub fn deliver_on<S: Alter>(
         ((content : Content) → HasContent (state S.Store conn.old) content → HasContent (state S.Store conn.new) (content_after content (request.now ∷ []))) }
     ensures failed { HasCleanDisk (state S.Store conn.new)
         → OnErr result ((content : Content) → HasContent (state S.Store conn.old) content → HasContent (state S.Store conn.new) content) }
+    ensures others { HasCleanDisk (state S.Store conn.new) → (content : Content) → HasContent (state S.Store conn.old) content
+        → LeavesOthers (state S.Store conn.old) (state S.Store conn.new) }
     ensures informed { IsInformed (state S.Store conn.old) known.old → IsInformed (state S.Store conn.new) known.new }
     ensures crash { Survives (state S.Store conn.old) (state S.Store conn.new) (λ db. IsInformed (state S.Store conn.old) known.old
         → (content : Content) → HasContent (state S.Store conn.old) content → StandsFor db (content_after content (request.now ∷ []))) }

@@ -6,6 +6,8 @@ use Rattle.ee_store_tables.specs.Rows.{Rows, Stores}
 use Rattle.ee_store_tables.proofs.Lemmas.Transactions.{on_err_from, clean_before}
 use Rattle.ee_store_schema.specs.declared.faults.OpenFault.TheVariants.{WrongVersion, Unusable, StoreFailed}
 use Rattle.ee_store_schema.specs.declared.forms.Form.{Form}
+use Rattle.ee_store_schema.specs.declared.forms.Form.TheVariants.{Current}
+use Rattle.sqlite.specs.State.{KeepsCommit}
 use Rattle.ee_store_schema.specs.Forms.{version_of, IsOurs, HadIn}
 use Rattle.ee_store_schema.specs.Making.{first_rows}
 use Rattle.ee_store_load.specs.Whole as whole
@@ -20,7 +22,7 @@ use Rattle.ee_store_schema.proofs.Lemmas.Forms.{had_form, not_blank}
 use Rattle.ee_store_load.proofs.Lemmas.{one_version}
 use Rattle.ee_store.specs.Adopted.{HadNone, HadOtherVersion, HadNoOtherVersion, FailsToAdopt}
 use Rattle.ee_store.proofs.Opened.{of_nothing, begun_survives, of_version, blank_had_none}
-use Rattle.ee_store.proofs.Migrated.{lists_all, made_of, fits_rows, keeps_content, has_some, stood_for_none, is_ours, not_begun, leaves_as_before, leaves_present, read_then}
+use Rattle.ee_store.proofs.Migrated.{found_form, lists_all, made_of, fits_rows, keeps_content, has_some, stood_for_none, is_ours, not_begun, leaves_as_before, leaves_present, read_then}
 use Rattle.ee_store.proofs.Meeting.{goes_on, carries_world, begins_world, stays_stopped}
 use Rattle.ee_store_contents.proofs.Lemmas.{readable}
 use Rattle.ee_store.proofs.OpenedRoom.{opened_room, room_before}
@@ -90,6 +92,10 @@ pub returns-then-is_blank-clause-found : goal.returns-then-is_blank-clause-found
 returns-then-is_blank-clause-found g c clean form content had =
     let blank = (c.is_blank.ensures.blank c.if-is_blank.true).1 in
     absurd (blank_had_none (state g.S.Store c.args.conn.now) blank (c.in_ok-make_tables.ensures.open clean).0 form content had)
+
+pub returns-then-is_blank-clause-present : goal.returns-then-is_blank-clause-present
+returns-then-is_blank-clause-present g c clean has =
+    absurd (not_blank Current (state g.S.Store c.args.conn.now) has (c.is_blank.ensures.blank c.if-is_blank.true).1 (c.in_ok-make_tables.ensures.open clean).0)
 
 pub returns-then-is_blank-clause-stands : goal.returns-then-is_blank-clause-stands
 returns-then-is_blank-clause-stands g c clean =
@@ -376,6 +382,18 @@ returns-clause-found g c clean =
     let all = c.in_ok-all.all in
     keeps_content old middle all.form found.0 (it.kept before) (it.open before).0 (it.open before).1 found.1 new
     (made_of middle new all.form found.0 c.deref.result.now found.1 (lists_all c.in_ok-all.all found.0 found.2 c.in_ok-tested.tested.answers c.in_ok-tested.ensures.left c.deref.result.now c.deref.ensures.value) (λ current. ap (state g.S.Store) (c.migrate.ensures.same current)) (c.in_ok-migrate.ensures.made clean found.0 found.1))
+
+pub returns-clause-present : goal.returns-clause-present
+returns-clause-present g c clean has =
+    let old = state g.S.Store c.args.conn.now in
+    let middle = state g.S.Store c.open_rows.new.conn in
+    let new = state g.S.Store c.migrate.new.conn in
+    let before = clean_before middle new c.migrate.ensures.crash clean in
+    let it = c.in_ok-all.ensures in
+    let found = it.found before in
+    let all = c.in_ok-all.all in
+    let current = found_form old middle all.form found.0 (it.kept before) (it.open before).0 (it.open before).1 found.1 Current has in
+    subst (KeepsCommit old) (sym (ap (state g.S.Store) (c.migrate.ensures.same (sym current)))) (it.kept before)
 
 pub returns-clause-stands : goal.returns-clause-stands
 returns-clause-stands g c clean =

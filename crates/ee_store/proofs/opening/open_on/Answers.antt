@@ -26,6 +26,7 @@ returns-in-Ok-adopt-clause-opened g c clean =
       begins = it.begins clean;
       begun = it.begun clean;
       keeps = it.found clean;
+      present = it.present clean;
       some = it.stands clean;
       follows = it.follows clean;
       goes_on = it.goes_on clean;

@@ -8,6 +8,7 @@ use Rattle.ee_store_tables.proofs.Lemmas.Transactions.{clean_before}
 use Rattle.ee_store_books.specs.Standing.{rows_of, reply_row}
 use Rattle.ee_store_delivery.specs.Inner.Written.{applied_rows, CanWriteAll, all_added_rows}
 use Rattle.ee_store_delivery.proofs.Served.{is_decided}
+use Rattle.ee_store_delivery.proofs.InOrder.{reads_if_any, one_if_any, given_if_any, writes_then}
 use Rattle.ee_store_books.proofs.Lemmas.Lookups.{handed_on, excused_later, leaves_then}
 use Rattle.ee_store_delivery.proofs.Writable.{can_write, answers_stay}
 use Rattle.ee_store_tables.proofs.Lemmas.Causes.{room_less}
@@ -112,3 +113,21 @@ returns-clause-learns g c clean inside S sees known =
     let clean_a = clean_before a b c.write_changes.ensures.writes_if_any.crash clean_b in
     let found = c.in_ok-effects.ensures.found clean_a inside S sees known in
     c.follow.ensures S.books (c.in_ok-effects.ensures.learns clean_a inside S sees known) (ap (λ (e : Effects). e.reply) found.0)
+
+pub returns-clause-writes_if_any : goal.returns-clause-writes_if_any
+returns-clause-writes_if_any g c =
+    let old = state g.S.Store c.args.tx.now.conn.now in
+    let a = state g.S.Store c.effects_in.new.tx.conn.now in
+    let b = state g.S.Store c.write_changes.new.tx.conn.now in
+    let new = state g.S.Store c.add_answer.new.tx.conn.now in
+    let first = writes_then old a b _ _ (reads_if_any old a _ c.in_ok-effects.ensures.only_reads) c.in_ok-write_changes.ensures.writes_if_any in
+    given_if_any old new _ _ (writes_then old b new _ _ first (one_if_any b new _ c.in_ok-add_answer.ensures.writes_inside))
+
+pub returns-clause-sound : goal.returns-clause-sound
+returns-clause-sound g c clean inside =
+    let a = state g.S.Store c.effects_in.new.tx.conn.now in
+    let b = state g.S.Store c.write_changes.new.tx.conn.now in
+    let new = state g.S.Store c.add_answer.new.tx.conn.now in
+    let clean_b = clean_before b new c.add_answer.ensures.writes_inside.crash clean in
+    let clean_a = clean_before a b c.write_changes.ensures.writes_if_any.crash clean_b in
+    c.in_ok-add_answer.ensures.sound clean (c.in_ok-write_changes.ensures.writes_if_any.inside clean_b (c.in_ok-effects.ensures.only_reads.inside clean_a inside))

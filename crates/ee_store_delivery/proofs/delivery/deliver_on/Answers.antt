@@ -1,18 +1,19 @@
-use Rattle.std.proofs.Common.{subst, ap, sym, ◌∙◌, OnErr, [], ◌∷◌, ◌+◌}
+use Rattle.std.proofs.Common.{subst, not, ap, sym, ◌∙◌, OnErr, [], ◌∷◌, ◌+◌}
 use Rattle.sqlite.specs.Held.{state}
 use Rattle.sqlite.specs.State.{HasCleanDisk, Survives, State}
 use Rattle.ee_desk_model.specs.Repeats.{Content}
 use Rattle.ee_desk_model.specs.Contents.{content_after}
 use Rattle.ee_desk_model.specs.Answers.{answer}
 use Rattle.ee_desk_texts.specs.Given.{IsGiven}
-use Rattle.ee_store_tables.proofs.Lemmas.Transactions.{clean_before, on_err_from, rolled_keeps, failed_keeps, commit_survives}
+use Rattle.ee_store_tables.proofs.Lemmas.Transactions.{clean_before, on_err_from, rolled_keeps, failed_keeps, commit_survives, still_others, committed_others}
+use Rattle.ee_store_tables.proofs.Lemmas.Others.{same_others}
 use Rattle.ee_store_books.specs.Seen.{StandsFor, HasContent}
 use Rattle.ee_store_delivery.specs.Known.{AreKnown, IsInformed}
 use Rattle.ee_store_delivery.proofs.NewNumbers.{known_stays}
 use Rattle.ee_store_delivery.proofs.Informed.{excused_by_known, began_clean, known_in}
 use Rattle.ee_store_books.proofs.Lemmas.Lookups.{inside_content, sees_content, still_content, committed_content, stands_when_open, excused_later, commit_excused, handed_on, excused}
 use Rattle.ee_store_tables.specs.Failures.{failure_of}
-use Rattle.ee_store_tables.specs.Statements.{IsExcused}
+use Rattle.ee_store_tables.specs.Statements.{IsExcused, LeavesOthers}
 use Rattle.ee_store_books.specs.Causes.{IsReady}
 use Rattle.ee_store_delivery.specs.Causes.{TakesRequestRoom, DeliversOrFails}
 use Rattle.ee_store_delivery.proofs.RoomAfter.{begun_with, rolled_room, failed_room, ready_then, committed_with}
@@ -348,3 +349,102 @@ returns-clause-informed g c =
       returns-clause-kept g c clean informed it.0 it.1,
       c.in_ok-is_new.ensures.learns before (inside_content old start is settled it.0 it.1) it.0 (sees_content old start is settled it.0 it.1) own,
     )
+
+-- ---- tables of others
+
+pub returns-then-not-is_autocommit-clause-others : goal.returns-then-not-is_autocommit-clause-others
+returns-then-not-is_autocommit-clause-others g c clean S has = same_others (state g.S.Store c.args.conn.now)
+
+pub returns-in_err-is_new-clause-others : goal.returns-in_err-is_new-clause-others
+returns-in_err-is_new-clause-others g c =
+    let old = state g.S.Store c.args.conn.now in
+    let start = state g.S.Store c.transaction-tx.result.conn.now in
+    let is = ap (state g.S.Store) c.transaction-tx.ensures.begun in
+    let middle = state g.S.Store c.serve_in.new.tx.conn.now in
+    let settled = c.is_autocommit.ensures.settled c.if-not-is_autocommit.false in
+    let new = state g.S.Store c.drop-tx.new.self.0 in
+    let same = c.conn-1.given.1 (sym (c.in_err-is_new.ensures.same_reference ∙ c.transaction-tx.ensures.same_reference)) in
+    subst (λ h. HasCleanDisk (state g.S.Store h) → (S : Content) → HasContent old S → LeavesOthers old (state g.S.Store h)) (sym same) (λ clean S has.
+    let before = clean_before middle new c.drop-tx.ensures.survives clean in
+    still_others old start is middle new (c.in_err-is_new.ensures.writes_inside.commit before (inside_content old start is settled S has)) (rolled_keeps old start is middle new (c.drop-tx.ensures.undone clean)))
+
+pub returns-then-not-is_new-clause-others : goal.returns-then-not-is_new-clause-others
+returns-then-not-is_new-clause-others g c =
+    let old = state g.S.Store c.args.conn.now in
+    let start = state g.S.Store c.transaction-tx.result.conn.now in
+    let is = ap (state g.S.Store) c.transaction-tx.ensures.begun in
+    let middle = state g.S.Store c.serve_in.new.tx.conn.now in
+    let settled = c.is_autocommit.ensures.settled c.if-not-is_autocommit.false in
+    let new = state g.S.Store c.drop-tx-then-not-is_new.new.self.0 in
+    let same = c.conn-then-not-is_new-1.given.1 (sym (c.in_ok-is_new.ensures.same_reference ∙ c.transaction-tx.ensures.same_reference)) in
+    subst (λ h. HasCleanDisk (state g.S.Store h) → (S : Content) → HasContent old S → LeavesOthers old (state g.S.Store h)) (sym same) (λ clean S has.
+    let before = clean_before middle new c.drop-tx-then-not-is_new.ensures.survives clean in
+    still_others old start is middle new (c.in_ok-is_new.ensures.writes_inside.commit before (inside_content old start is settled S has)) (rolled_keeps old start is middle new (c.drop-tx-then-not-is_new.ensures.undone clean)))
+
+pub returns-in_err-commit-clause-others : goal.returns-in_err-commit-clause-others
+returns-in_err-commit-clause-others g c =
+    let old = state g.S.Store c.args.conn.now in
+    let start = state g.S.Store c.transaction-tx.result.conn.now in
+    let is = ap (state g.S.Store) c.transaction-tx.ensures.begun in
+    let middle = state g.S.Store c.serve_in.new.tx.conn.now in
+    let settled = c.is_autocommit.ensures.settled c.if-not-is_autocommit.false in
+    let new = state g.S.Store c.commit.new.self.0 in
+    let same = c.conn-2-1.given.1 (sym (c.in_ok-is_new.ensures.same_reference ∙ c.transaction-tx.ensures.same_reference)) in
+    subst (λ h. HasCleanDisk (state g.S.Store h) → (S : Content) → HasContent old S → LeavesOthers old (state g.S.Store h)) (sym same) (λ clean S has.
+    let before = clean_before middle new c.in_err-commit.ensures.survives clean in
+    still_others old start is middle new (c.in_ok-is_new.ensures.writes_inside.commit before (inside_content old start is settled S has)) (failed_keeps old start is middle new _ (c.in_err-commit.ensures.err clean)))
+
+pub returns-clause-others : goal.returns-clause-others
+returns-clause-others g c =
+    let old = state g.S.Store c.args.conn.now in
+    let start = state g.S.Store c.transaction-tx.result.conn.now in
+    let is = ap (state g.S.Store) c.transaction-tx.ensures.begun in
+    let middle = state g.S.Store c.serve_in.new.tx.conn.now in
+    let settled = c.is_autocommit.ensures.settled c.if-not-is_autocommit.false in
+    let new = state g.S.Store c.commit.new.self.0 in
+    let same = c.conn-2-1.given.1 (sym (c.in_ok-is_new.ensures.same_reference ∙ c.transaction-tx.ensures.same_reference)) in
+    subst (λ h. HasCleanDisk (state g.S.Store h) → (S : Content) → HasContent old S → LeavesOthers old (state g.S.Store h)) (sym same) (λ clean S has.
+    let before = clean_before middle new c.in_ok-commit.ensures.survives clean in
+    let inside = inside_content old start is settled S has in
+    committed_others old start is middle new (c.in_ok-is_new.ensures.writes_inside.commit before inside) (c.in_ok-is_new.ensures.writes_inside.inside before inside) (c.in_ok-commit.ensures.ok clean).1)
+
+-- ---- a number is new or kept, and not both
+
+pub returns-then-not-is_new-clause-opened : goal.returns-then-not-is_new-clause-opened
+returns-then-not-is_new-clause-opened g c clean S has none =
+    let old = state g.S.Store c.args.conn.now in
+    let start = state g.S.Store c.transaction-tx.result.conn.now in
+    let is = ap (state g.S.Store) c.transaction-tx.ensures.begun in
+    let middle = state g.S.Store c.serve_in.new.tx.conn.now in
+    let settled = c.is_autocommit.ensures.settled c.if-not-is_autocommit.false in
+    let new = state g.S.Store c.drop-tx-then-not-is_new.new.self.0 in
+    let same = c.conn-then-not-is_new-1.given.1 (sym (c.in_ok-is_new.ensures.same_reference ∙ c.transaction-tx.ensures.same_reference)) in
+    let before = clean_before middle new c.drop-tx-then-not-is_new.ensures.survives (subst (λ h. HasCleanDisk (state g.S.Store h)) same clean) in
+    let first = (c.in_ok-is_new.ensures.serves before (inside_content old start is settled S has) S (sees_content old start is settled S has)).first in
+    absurd (let e = sym c.if-not-is_new.true ∙ first ∙ ap not none in cc)
+
+pub returns-then-not-is_new-clause-durable : goal.returns-then-not-is_new-clause-durable
+returns-then-not-is_new-clause-durable g c clean S has none db may =
+    let old = state g.S.Store c.args.conn.now in
+    let start = state g.S.Store c.transaction-tx.result.conn.now in
+    let is = ap (state g.S.Store) c.transaction-tx.ensures.begun in
+    let middle = state g.S.Store c.serve_in.new.tx.conn.now in
+    let settled = c.is_autocommit.ensures.settled c.if-not-is_autocommit.false in
+    let new = state g.S.Store c.drop-tx-then-not-is_new.new.self.0 in
+    let same = c.conn-then-not-is_new-1.given.1 (sym (c.in_ok-is_new.ensures.same_reference ∙ c.transaction-tx.ensures.same_reference)) in
+    let before = clean_before middle new c.drop-tx-then-not-is_new.ensures.survives (subst (λ h. HasCleanDisk (state g.S.Store h)) same clean) in
+    let first = (c.in_ok-is_new.ensures.serves before (inside_content old start is settled S has) S (sees_content old start is settled S has)).first in
+    absurd (let e = sym c.if-not-is_new.true ∙ first ∙ ap not none in cc)
+
+pub returns-clause-again : goal.returns-clause-again
+returns-clause-again g c clean S has known db may =
+    let old = state g.S.Store c.args.conn.now in
+    let start = state g.S.Store c.transaction-tx.result.conn.now in
+    let is = ap (state g.S.Store) c.transaction-tx.ensures.begun in
+    let middle = state g.S.Store c.serve_in.new.tx.conn.now in
+    let settled = c.is_autocommit.ensures.settled c.if-not-is_autocommit.false in
+    let new = state g.S.Store c.commit.new.self.0 in
+    let same = c.conn-2-1.given.1 (sym (c.in_ok-is_new.ensures.same_reference ∙ c.transaction-tx.ensures.same_reference)) in
+    let before = clean_before middle new c.in_ok-commit.ensures.survives (subst (λ h. HasCleanDisk (state g.S.Store h)) same clean) in
+    let first = (c.in_ok-is_new.ensures.serves before (inside_content old start is settled S has) S (sees_content old start is settled S has)).first in
+    absurd (let e = sym c.if-not-is_new.false ∙ first ∙ ap not known in cc)

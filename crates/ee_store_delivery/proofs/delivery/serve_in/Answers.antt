@@ -12,7 +12,8 @@ use Rattle.ee_store_books.specs.Seen.{SeesContent}
 use Rattle.ee_store_delivery.proofs.Served.{is_again, known_again, is_new, is_first, known_first, kept_by}
 use Rattle.ee_store_books.proofs.Lemmas.Contents.{get_reply_row, kept_texts}
 use Rattle.ee_store_tables.proofs.Lemmas.Causes.{room_less, unchanged_room}
-use Rattle.ee_store_books.proofs.Lemmas.Lookups.{statement_failed, memory_handed_on, handed_on, excused_later}
+use Rattle.ee_store_books.proofs.Lemmas.Lookups.{statement_failed, memory_handed_on, handed_on, excused_later, leaves_then}
+use Rattle.ee_store_delivery.proofs.InOrder.{unchanged_keeps, commits_then}
 use Rattle.ee_store_delivery.proofs.delivery.serve_in.Goals as goal
 
 pub returns-in-Some-clause-serves : goal.returns-in-Some-clause-serves
@@ -106,3 +107,37 @@ returns-clause-learns g c clean inside S sees known =
     let nothing : c.in_ok-entry.field-0 ≡ None = search rules in
     let none = is_new S (number_of q) (sym (ap (option_map row_of_reply) nothing) ∙ found ∙ ap (finite.get (rows_of S).answers) (λ i. (c.number-desk.ensures.value i, c.value.ensures.value i))) in
     known_first c.decide_in.new.known q S none (c.in_ok-reply-2.ensures.learns clean (unchanged_inside old middle same inside) S still known)
+
+pub returns-in-Some-clause-writes_inside : goal.returns-in-Some-clause-writes_inside
+returns-in-Some-clause-writes_inside g c =
+    let old = state g.S.Store c.args.tx.now.conn.now in
+    let new = state g.S.Store c.find_answer.new.tx.conn.now in
+    let it = c.in_ok-entry.ensures.only_queries in
+    record {
+      still_open = it.still_open;
+      inside = λ clean inside. unchanged_inside old new (it.same clean inside) inside;
+      commit = λ clean inside. unchanged_keeps old new (it.same clean inside);
+      crash = it.crash;
+    }
+
+pub returns-clause-writes_inside : goal.returns-clause-writes_inside
+returns-clause-writes_inside g c =
+    let old = state g.S.Store c.args.tx.now.conn.now in
+    let middle = state g.S.Store c.find_answer.new.tx.conn.now in
+    let new = state g.S.Store c.decide_in.new.tx.conn.now in
+    let it = c.in_ok-entry.ensures.only_queries in
+    let then = c.in_ok-reply-2.ensures.writes_if_any in
+    record {
+      still_open = λ clean. then.still_open clean (it.still_open (clean_before middle new then.crash clean));
+      inside = λ clean inside. then.inside clean (unchanged_inside old middle (it.same (clean_before middle new then.crash clean) inside) inside);
+      commit = commits_then old middle new (λ before inside. unchanged_inside old middle (it.same before inside) inside) then.crash (λ before inside. unchanged_keeps old middle (it.same before inside)) then.commit;
+      crash = leaves_then old middle new it.crash then.crash;
+    }
+
+pub returns-clause-sound : goal.returns-clause-sound
+returns-clause-sound g c clean inside is_new =
+    let old = state g.S.Store c.args.tx.now.conn.now in
+    let middle = state g.S.Store c.find_answer.new.tx.conn.now in
+    let new = state g.S.Store c.decide_in.new.tx.conn.now in
+    let before = clean_before middle new c.in_ok-reply-2.ensures.writes_if_any.crash clean in
+    c.in_ok-reply-2.ensures.sound clean (unchanged_inside old middle (c.in_ok-entry.ensures.only_queries.same before inside) inside)

@@ -3,7 +3,8 @@ use Rattle.sqlite.specs.Held.{state}
 use Rattle.ee_store_tables.proofs.Lemmas.Transactions.{clean_before}
 use Rattle.ee_store_books.specs.Standing.{rows_of}
 use Rattle.ee_store_books.specs.Seen.{SeesContent}
-use Rattle.ee_store_books.proofs.Lemmas.Lookups.{seen_then, excused_later, handed_on}
+use Rattle.ee_store_books.proofs.Lemmas.Lookups.{seen_then, leaves_then, excused_later, handed_on}
+use Rattle.ee_store_delivery.proofs.InOrder.{commits_then}
 use Rattle.ee_store_delivery.proofs.view.day_state_in.Goals as goal
 
 pub returns-clause-found : goal.returns-clause-found
@@ -19,13 +20,16 @@ returns-clause-found g c clean inside S sees =
 pub returns-clause-only_reads : goal.returns-clause-only_reads
 returns-clause-only_reads g c = record {
   still_open = search rules;
-  inside = search rules;
+  inside = λ clean inside.
+      let before = clean_before (state g.S.Store c.days_in.new.tx.conn.now) (state g.S.Store c.counts_in.new.tx.conn.now) c.counts_in.ensures.only_reads.crash clean in
+      c.in_ok-counts.ensures.only_reads.inside clean (c.in_ok-days.ensures.only_reads.inside before inside);
   rows = λ clean inside rows sees.
       let middle = state g.S.Store c.days_in.new.tx.conn.now in
       let new = state g.S.Store c.counts_in.new.tx.conn.now in
       let before = clean_before middle new c.counts_in.ensures.only_reads.crash clean in
       seen_then (state g.S.Store c.args.tx.now.conn.now) middle new rows (c.in_ok-days.ensures.only_reads.rows before inside rows sees) (c.in_ok-counts.ensures.only_reads.rows clean (c.in_ok-days.ensures.only_reads.inside before inside) rows);
-  commit = search rules;
+  commit = commits_then (state g.S.Store c.args.tx.now.conn.now) (state g.S.Store c.days_in.new.tx.conn.now) (state g.S.Store c.counts_in.new.tx.conn.now)
+      c.in_ok-days.ensures.only_reads.inside c.counts_in.ensures.only_reads.crash c.days_in.ensures.only_reads.commit c.counts_in.ensures.only_reads.commit;
   crash = search rules;
 }
 
@@ -39,3 +43,16 @@ returns-in_err-counts-clause-cause g c clean inside unlimited S sees any =
     handed_on _ c.from_residual-in_err-counts.result c.in_err-counts.field-0.0 c.from_residual-in_err-counts.ensures.1
     (excused_later old middle new clean c.days_in.ensures.only_reads.crash c.counts_in.ensures.only_reads.crash _
     (c.in_err-counts.ensures.cause clean (c.in_ok-days.ensures.only_reads.inside before inside) (c.days_in.ensures.only_reads.crash.limit ∙ unlimited) S still tt))
+
+pub returns-in_err-counts-clause-only_reads : goal.returns-in_err-counts-clause-only_reads
+returns-in_err-counts-clause-only_reads g c =
+    let old = state g.S.Store c.args.tx.now.conn.now in
+    let middle = state g.S.Store c.days_in.new.tx.conn.now in
+    let new = state g.S.Store c.counts_in.new.tx.conn.now in
+    record {
+      still_open = search rules;
+      inside = search rules;
+      rows = search rules;
+      commit = commits_then old middle new c.in_ok-days.ensures.only_reads.inside c.counts_in.ensures.only_reads.crash c.days_in.ensures.only_reads.commit c.counts_in.ensures.only_reads.commit;
+      crash = leaves_then old middle new c.days_in.ensures.only_reads.crash c.counts_in.ensures.only_reads.crash;
+    }

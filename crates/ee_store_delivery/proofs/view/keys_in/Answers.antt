@@ -7,6 +7,7 @@ use Rattle.ee_store_tables.proofs.Lemmas.Transactions.{clean_before}
 use Rattle.ee_store_books.specs.Standing.{rows_of}
 use Rattle.ee_store_books.specs.Seen.{SeesContent}
 use Rattle.ee_store_books.proofs.Lemmas.Lookups.{handed_on, excused_later, seen_then}
+use Rattle.ee_store_delivery.proofs.InOrder.{commits_then}
 use Rattle.ee_store_delivery.proofs.view.keys_in.Goals as goal
 
 pub returns-clause-found : goal.returns-clause-found
@@ -24,13 +25,16 @@ returns-clause-found g c clean inside S sees are =
 pub returns-clause-only_reads : goal.returns-clause-only_reads
 returns-clause-only_reads g c = record {
   still_open = search rules;
-  inside = search rules;
+  inside = λ clean inside.
+      let before = clean_before (state g.S.Store c.held_in.new.tx.conn.now) (state g.S.Store c.terms_for.new.tx.conn.now) c.terms_for.ensures.only_reads.crash clean in
+      c.in_ok-terms.ensures.only_reads.inside clean (c.in_ok-bonds.ensures.only_reads.inside before inside);
   rows = λ clean inside rows sees.
       let middle = state g.S.Store c.held_in.new.tx.conn.now in
       let new = state g.S.Store c.terms_for.new.tx.conn.now in
       let before = clean_before middle new c.terms_for.ensures.only_reads.crash clean in
       seen_then (state g.S.Store c.args.tx.now.conn.now) middle new rows (c.in_ok-bonds.ensures.only_reads.rows before inside rows sees) (c.in_ok-terms.ensures.only_reads.rows clean (c.in_ok-bonds.ensures.only_reads.inside before inside) rows);
-  commit = search rules;
+  commit = commits_then (state g.S.Store c.args.tx.now.conn.now) (state g.S.Store c.held_in.new.tx.conn.now) (state g.S.Store c.terms_for.new.tx.conn.now)
+      c.in_ok-bonds.ensures.only_reads.inside c.terms_for.ensures.only_reads.crash c.held_in.ensures.only_reads.commit c.terms_for.ensures.only_reads.commit;
   crash = search rules;
 }
 

@@ -4,7 +4,8 @@ use Rattle.std.proofs.lemmas.Result.{IfOk-weaker}
 use Rattle.ee_store_tables.proofs.Lemmas.Transactions.{clean_before}
 use Rattle.ee_store_books.specs.Standing.{rows_of}
 use Rattle.ee_store_books.specs.Seen.{SeesContent}
-use Rattle.ee_store_books.proofs.Lemmas.Lookups.{always, seen_then, excused_later, served, handed_on}
+use Rattle.ee_store_books.proofs.Lemmas.Lookups.{always, seen_then, leaves_then, excused_later, served, handed_on}
+use Rattle.ee_store_delivery.proofs.InOrder.{commits_then}
 use Rattle.ee_desk_model.specs.Views.{needed_unless}
 use Rattle.ee_store_delivery.proofs.view.view_within.Goals as goal
 
@@ -47,6 +48,19 @@ returns-clause-only_reads g c = record {
   commit = search rules;
   crash = search rules;
 }
+
+pub returns-in_err-keys-clause-only_reads : goal.returns-in_err-keys-clause-only_reads
+returns-in_err-keys-clause-only_reads g c =
+    let old = state g.S.Store c.args.tx.now.conn.now in
+    let a = state g.S.Store c.find_day_state.new.tx.conn.now in
+    let new = state g.S.Store c.keys_in.new.tx.conn.now in
+    record {
+      still_open = search rules;
+      inside = search rules;
+      rows = search rules;
+      commit = commits_then old a new c.in_ok-day_state.ensures.only_reads.inside c.keys_in.ensures.only_reads.crash c.find_day_state.ensures.only_reads.commit c.keys_in.ensures.only_reads.commit;
+      crash = leaves_then old a new c.find_day_state.ensures.only_reads.crash c.keys_in.ensures.only_reads.crash;
+    }
 
 pub returns-in_err-keys-clause-cause : goal.returns-in_err-keys-clause-cause
 returns-in_err-keys-clause-cause g c clean inside unlimited S sees any =

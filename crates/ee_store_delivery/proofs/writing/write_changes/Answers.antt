@@ -7,6 +7,7 @@ use Rattle.ee_store_tables.specs.Rows.{Sees, with_bonds}
 use Rattle.ee_store_tables.proofs.Lemmas.Transactions.{clean_before}
 use Rattle.ee_store_tables.proofs.Lemmas.Causes.{room_less}
 use Rattle.ee_store_books.proofs.Lemmas.Lookups.{statement_failed, excused_later}
+use Rattle.ee_store_delivery.proofs.InOrder.{writes_then}
 use Rattle.ee_store_delivery.specs.Inner.Written.{applied_rows, CanWriteAll, all_added_rows}
 use Rattle.ee_store_delivery.proofs.Together.{AreEntries, bonds_first, rows_first, can_together}
 use Rattle.ee_store_delivery.proofs.writing.write_changes.Goals as goal
@@ -84,3 +85,8 @@ returns-clause-cause g c clean inside endless rows sees can =
       c.in_ok-add_new_bonds.ensures.room before inside rows sees (all_added_rows c.split_at.result.1.now)
           (room_less old _ (all_added_rows changes) (omega (arith, all)) can.1),
     ))
+
+pub returns-clause-writes_if_any : goal.returns-clause-writes_if_any
+returns-clause-writes_if_any g c =
+    writes_then (state g.S.Store c.args.tx.now.conn.now) (state g.S.Store c.add_new_bonds.new.tx.conn.now) (state g.S.Store c.write_each.new.tx.conn.now) _ c.write_each.result
+    c.in_ok-add_new_bonds.ensures.writes_if_any c.write_each.ensures.writes_if_any

@@ -1,4 +1,4 @@
-use Rattle.std.proofs.Common.{◌≡◌, ℕ, ◌+◌, ◌<◌, add-one, List, ◌∷◌, length, drop, drop-cons, get_or, refl, sym, ap, ◌∙◌, subst, arith}
+use Rattle.std.proofs.Common.{rules, ◌≡◌, ℕ, ◌+◌, ◌<◌, add-one, List, ◌∷◌, length, drop, drop-cons, get_or, refl, sym, ap, ◌∙◌, subst, arith}
 use Rattle.std.proofs.lemmas.List.{drop_all}
 use Rattle.sqlite.specs.Held.{state}
 use Rattle.sqlite.specs.State.{State}
@@ -8,7 +8,8 @@ use Rattle.ee_store_tables.proofs.Lemmas.Transactions.{clean_before}
 use Rattle.ee_store_tables.proofs.Lemmas.Causes.{room_less}
 use Rattle.ee_store_tables.specs.Statements.{IsExcused}
 use Rattle.ee_store_delivery.specs.Inner.Written.{applied_rows, changed_rows, CanWriteAll, added_rows, all_added_rows}
-use Rattle.ee_store_books.proofs.Lemmas.Lookups.{excused_later, nothing_done, done_then, handed_on}
+use Rattle.ee_store_books.proofs.Lemmas.Lookups.{excused_later, nothing_done, done_then, leaves_then, handed_on}
+use Rattle.ee_store_delivery.proofs.InOrder.{commits_then}
 use Rattle.ee_store_delivery.proofs.writing.write_each.Goals as goal
 
 -- the changes that are left are the next one and the later ones
@@ -80,3 +81,16 @@ returns-in_err-write_change-clause-cause g c clean inside endless rows sees can 
     (excused_later old middle new clean was.stays.crash c.write_change.ensures.writes_if_any.crash e
     (c.in_err-write_change.ensures.cause clean (was.stays.inside before inside) (was.stays.crash.limit ∙ endless) here.0 here.1
     ((subst (CanWriteAll c.args.last_day here.0) left (here.3 can.0)).0, room_less middle (added_rows change) _ (omega arith) room)))
+
+pub returns-in_err-write_change-clause-writes_if_any : goal.returns-in_err-write_change-clause-writes_if_any
+returns-in_err-write_change-clause-writes_if_any g c =
+    let old = state g.S.Store c.args.tx.now.conn.now in
+    let middle = state g.S.Store c.loop-change.tx.conn.now in
+    let new = state g.S.Store c.write_change.new.tx.conn.now in
+    let was = c.loop-change.invariant in
+    record {
+      still_open = search rules;
+      inside = search rules;
+      commit = commits_then old middle new was.stays.inside c.write_change.ensures.writes_if_any.crash was.stays.commit c.write_change.ensures.writes_if_any.commit;
+      crash = leaves_then old middle new was.stays.crash c.write_change.ensures.writes_if_any.crash;
+    }

@@ -8,6 +8,7 @@ use Rattle.ee_store_tables.proofs.Lemmas.Transactions.{clean_before}
 use Rattle.ee_store_tables.proofs.Lemmas.Causes.{room_less}
 use Rattle.ee_store_rows.specs.Rows.{paid_row}
 use Rattle.ee_store_books.proofs.Lemmas.Lookups.{statement_failed, memory_handed_on}
+use Rattle.ee_store_delivery.proofs.InOrder.{one_if_any, writes_then}
 use Rattle.ee_store_delivery.proofs.WriteCauses.{same_length, later_failed}
 use Rattle.ee_store_delivery.proofs.writing.write_ticket.Goals as goal
 
@@ -67,3 +68,10 @@ returns-in_err-pay_lines-clause-cause g c clean inside endless rows sees can =
       subst (λ (d : ℕ × (TicketRow × List PaidRow)). CanPayAll (with_ticket rows d.0 d.1.0) d.0 1 d.1.1)
           (λ i. (sym c.in_ok-number.ensures.value.0 i, (sym c.in_ok-row.ensures.row.0 i, sym lines i))) can.0.unpaid,
     ))
+
+pub returns-clause-writes_if_any : goal.returns-clause-writes_if_any
+returns-clause-writes_if_any g c =
+    let old = state g.S.Store c.args.tx.now.conn.now in
+    let middle = state g.S.Store c.add_ticket.new.tx.conn.now in
+    let new = state g.S.Store c.pay_lines.new.tx.conn.now in
+    writes_then old middle new _ _ (one_if_any old middle _ c.in_ok-add_ticket.ensures.writes_inside) c.in_ok-pay_lines.ensures.writes_if_any

@@ -21,6 +21,9 @@ returns-in-Err-clause-tested g c clean = c.in-Err.ensures.tested clean
 pub returns-in-Err-clause-cause : goal.returns-in-Err-clause-cause
 returns-in-Err-clause-cause g c clean = c.in-Err.ensures.cause clean
 
+pub returns-in-Ok-clause-present : goal.returns-in-Ok-clause-present
+returns-in-Ok-clause-present g c clean = c.in-Ok.ensures.present clean
+
 pub returns-in-Ok-clause-found : goal.returns-in-Ok-clause-found
 returns-in-Ok-clause-found g c clean = c.in-Ok.ensures.found clean
 

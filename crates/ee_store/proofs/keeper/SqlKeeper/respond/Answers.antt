@@ -46,6 +46,7 @@ returns-in-Ok-clause-acts g c =
       crash = it.crash;
       durable = λ clean informed content given. durable clean informed content given.1 given.2;
       again = λ clean content given. it.again clean content given.1 given.2;
+      others = it.others;
       ready = it.ready;
       room = it.room;
       cause = λ clean informed content can. tt;
@@ -76,6 +77,7 @@ returns-in-Err-clause-acts g c =
       crash = it.crash;
       durable = λ clean informed content given. absurd (let e = given.0 in cc);
       again = λ clean content given. absurd (let e = given.0 in cc);
+      others = it.others;
       ready = it.ready;
       room = it.room;
       cause = λ clean informed content can told.
