@@ -309,7 +309,7 @@ UNUSABLE = {
     "a database of another program": lambda it: scripted(it, "CREATE TABLE notes (text)"),
     "a dump that was read back": read_back,
     "no version": changed("DELETE FROM desk"),
-    "a table more": changed("CREATE TABLE notes (text)"),
+    "an index more": changed("CREATE INDEX more ON paid (cents)"),
     "a table less": changed("DROP TABLE extensions"),
     "an index less": changed("DROP INDEX bonds_owner"),
     "a bond without its ticket": changed("UPDATE bonds SET ticket = 1"),

@@ -1,8 +1,8 @@
 //! Stores that are changed by other statements than this program's.
 
 use crate::answering::{assert_answers, in_memory, refused};
-use crate::comparing::{assert_holds, parts, prepared};
-use crate::five_requests::{FIVE, rows_text};
+use crate::comparing::{assert_holds, assert_same, parts, prepared};
+use crate::five_requests::{FIVE, add_rows, rows_text};
 use crate::version_1::{ANSWERS, EXTENSIONS};
 use sqlite::{Alter, Connection, MemStore};
 use std::alloc::Global;
@@ -37,8 +37,10 @@ UPDATE bonds SET rowid = 9223372036854775807 WHERE letter = 12 => 200 {"opened":
 UPDATE answers SET rowid = 9223372036854775807 WHERE number = 3 => StoreFailed 503 {"code":2,"unserved":"StoreFailed"}
 "#;
 
-/// The sixth request.
+/// The sixth request, and its reply.
 const SIXTH: &str = r#"> POST /day/open {"number":6,"day":"2012-02-07"}"#;
+
+const OPENED: &str = r#"200 {"opened":"2012-02-07"}"#;
 
 /// Changes of the tables after that day, each on top of those before, and the answer to the changed store: a
 /// table less, the same tables in another order, a table more, another version beside that, and no version.
@@ -50,16 +52,24 @@ DROP TABLE desk => Unusable
 "#;
 
 /// Changes of the tables after that day, each by itself, and the answer: the table of version 1 in the place of the
-/// answers or beside them, no extensions, no answers, one number twice at a desk, and other keys.
+/// answers, no extensions, no answers, one number twice at a desk, other keys, an index on the program's table, and
+/// a table that refers to one of the program's.
 const OTHER_FORMS: &str =
     r#"DROP TABLE answers; CREATE TABLE replies (number INTEGER NOT NULL PRIMARY KEY, act TEXT NOT NULL, reply TEXT NOT NULL) STRICT => Unusable
-CREATE TABLE replies (number INTEGER NOT NULL PRIMARY KEY, act TEXT NOT NULL, reply TEXT NOT NULL) STRICT => Unusable
 DROP TABLE extensions => Unusable
 DROP TABLE answers => Unusable
 DROP TABLE answers; CREATE TABLE answers (desk INTEGER NOT NULL, number INTEGER NOT NULL, act TEXT NOT NULL, reply TEXT NOT NULL) STRICT; INSERT INTO answers VALUES (0, 3, '{"act":"open","day":"2012-02-06"}', '{"opened":"2012-02-06"}'), (0, 3, '{"act":"open","day":"2012-02-06"}', '{"opened":"2012-02-06"}') => Unusable
 DROP TABLE answers; CREATE TABLE answers (desk INTEGER NOT NULL, number INTEGER NOT NULL PRIMARY KEY, act TEXT NOT NULL, reply TEXT NOT NULL) STRICT => Unusable
 CREATE INDEX answers_number ON answers (number) => Unusable
-CREATE VIEW notes AS SELECT number FROM answers => Unusable
+CREATE TABLE notes (ticket INTEGER REFERENCES tickets (ticket)) => Unusable
+"#;
+
+/// What others make in a store after that day, a query of it, and its row, which stays.
+const OF_OTHERS: &str =
+    r#"CREATE TABLE notes (note TEXT); INSERT INTO notes VALUES ('kept') => SELECT note FROM notes => notes kept
+CREATE TABLE notes (note TEXT UNIQUE); CREATE INDEX by_note ON notes (note); INSERT INTO notes VALUES ('kept') => SELECT note FROM notes WHERE note = 'kept' => notes kept
+CREATE TABLE replies (number INTEGER NOT NULL PRIMARY KEY, act TEXT NOT NULL, reply TEXT NOT NULL) STRICT; INSERT INTO replies VALUES (1, '', '') => SELECT number FROM replies => notes 1
+CREATE VIEW notes AS SELECT desk, number FROM answers => SELECT desk, number FROM notes WHERE number = 6 => notes 0 6
 "#;
 
 /// Tables that a store has alone, which is none of this program then.
@@ -143,8 +153,8 @@ fn tables_alone_are_refused(rt: &(impl Abort + Eprint), alloc: Global) {
     }
 }
 
-/// A store that doesn't have exactly the tables of this program, in order, is refused and doesn't change; its
-/// version is tested first.
+/// A store that begins with other tables than those of this program, in order, or has more indexes on them, is
+/// refused and doesn't change; its version is tested first.
 #[test]
 fn other_tables_are_refused(rt: HostRuntime) {
     let mut conn = with_five(&rt, rt.alloc());
@@ -154,4 +164,28 @@ fn other_tables_are_refused(rt: HostRuntime) {
     }
     other_forms_are_refused(&rt, rt.alloc());
     tables_alone_are_refused(&rt, rt.alloc());
+}
+
+/// A store whose tables are followed by others' is served, and these stay as they are.
+#[test]
+fn tables_of_others_are_kept(rt: HostRuntime) {
+    for case in OF_OTHERS.lines() {
+        let (statements, case) = parts(&rt, case);
+        let (query, row) = parts(&rt, case);
+        let mut conn = with_five(&rt, rt.alloc());
+        conn.execute_batch(statements).expect(&rt, statements);
+        let conn = assert_answers(&rt, rt.alloc(), conn, FIVE, FIVE, statements);
+        let talk = prepared(&rt, sixth_text(rt.alloc(), OPENED));
+        let talk = talk.as_str();
+        let mut conn = assert_answers(&rt, rt.alloc(), conn, talk, talk, statements);
+        let rows = prepared(&rt, of_query(rt.alloc(), &mut conn, query));
+        assert_same(&rt, rows.trim_end(), row, statements);
+    }
+}
+
+/// The rows of a query on what others made.
+fn of_query(alloc: Global, conn: &mut Connection<MemStore>, query: &str) -> Result<String, Fail> {
+    let mut text = String::new(alloc);
+    add_rows(&mut text, conn, "notes", query)?;
+    Ok(text)
 }

@@ -50,7 +50,7 @@ fn add_row(text: &mut String, table: &str, row: &Row) -> Result<(), Fail> {
 }
 
 /// Adds the rows of a query, or that their table is missing.
-fn add_rows<S: Alter>(
+pub fn add_rows<S: Alter>(
     text: &mut String,
     conn: &mut Connection<S>,
     table: &str,
