@@ -4,7 +4,7 @@
 //!
 //! It promises that an act changes the books as the model says, or not at all, and that queries show what the
 //! books have. Begin with `books.rt`; `list.rt` is the keeper. What the maps in memory stand for is in
-//! `specs/Kept.antt`.
+//! `specs/Inner/Kept.antt`.
 //!
 //! It doesn't promise that anything outlives the program.
 #![tactic(auto)]
